@@ -5914,7 +5914,7 @@ aes.cmac.tags.is_tag_start: // @aes.cmac.tags.is_tag_start
 	mov	x1, sp
 	bl	aes.aes_cipher.blocks.difference
 	ldp	x20, x19, [sp, #48]             // 16-byte Folded Reload
-	tst	w0, #0xff
+	cmp	w0, #0
 	ldp	x29, x30, [sp, #32]             // 16-byte Folded Reload
 	cset	w0, eq
 	add	sp, sp, #64
@@ -5934,9 +5934,10 @@ aes.aes_cipher.blocks.difference:       // @aes.aes_cipher.blocks.difference
 	orr	v0.8b, v0.8b, v1.8b
 	fmov	x8, d0
 	orr	x8, x8, x8, lsr #32
-	orr	x8, x8, x8, lsr #16
-	lsr	x9, x8, #8
-	orr	w0, w8, w9
+	lsr	x9, x8, #16
+	orr	w8, w8, w9
+	orr	w8, w8, w8, lsr #8
+	and	w0, w8, #0xff
 	ret
 .Laes_func_end20:
 	.size	aes.aes_cipher.blocks.difference, .Laes_func_end20-aes.aes_cipher.blocks.difference
@@ -10596,8 +10597,7 @@ aes.key_wrap.wrapping.unwrap: // @aes.key_wrap.wrapping.unwrap
 	mov	x0, sp
 	stp	x8, x9, [sp]
 	bl	aes.aes_cipher.blocks.difference
-	tst	w0, #0xff
-	b.eq	.Laes_BB34_12
+	cbz	w0, .Laes_BB34_12
 // %bb.11:                              // %loop.5.preheader.i
 	lsl	x20, x20, #3
 	mov	x0, x19
@@ -13943,8 +13943,7 @@ aes.ccm.mode.decrypt: // @aes.ccm.mode.decrypt
 	sub	x0, x29, #16
 	sub	x1, x29, #32
 	bl	aes.aes_cipher.blocks.difference
-	tst	w0, #0xff
-	b.eq	.Laes_BB47_11
+	cbz	w0, .Laes_BB47_11
 // %bb.10:                              // %join.7
 	sub	x0, x29, #32
 	mov	x1, x24
@@ -18533,5 +18532,5 @@ aes.fotsgure_aes_ccm_seal:                  // @aes.fotsgure_aes_ccm_seal
 	.long	9, 116, 1
 	.asciz	"Fotsgure"
 	.p2align	2, 0x0
-	.asciz	"fotsgure_aes 0.4.0, aarch64/aes.s, sources SHA-256 a1d18ca88fce7e969289b63bc086433ee674bbef93f71d18e16e5b0c75f6f312"
+	.asciz	"fotsgure_aes 0.4.0, aarch64/aes.s, sources SHA-256 c732908e78d2b372624172585b9f92240ec267c9ba5336c6cdc7451f61a8db18"
 	.p2align	2, 0x0

@@ -3797,7 +3797,7 @@ gcm.gcm.mode.is_expected:               // @gcm.gcm.mode.is_expected
 	stp	x29, x30, [sp, #-16]!           // 16-byte Folded Spill
 	mov	x29, sp
 	bl	gcm.aes_cipher.blocks.difference
-	tst	w0, #0xff
+	cmp	w0, #0
 	cset	w0, eq
 	ldp	x29, x30, [sp], #16             // 16-byte Folded Reload
 	ret
@@ -3816,9 +3816,10 @@ gcm.aes_cipher.blocks.difference:       // @gcm.aes_cipher.blocks.difference
 	orr	v0.8b, v0.8b, v1.8b
 	fmov	x8, d0
 	orr	x8, x8, x8, lsr #32
-	orr	x8, x8, x8, lsr #16
-	lsr	x9, x8, #8
-	orr	w0, w8, w9
+	lsr	x9, x8, #16
+	orr	w8, w8, w9
+	orr	w8, w8, w8, lsr #8
+	and	w0, w8, #0xff
 	ret
 .Lgcm_func_end19:
 	.size	gcm.aes_cipher.blocks.difference, .Lgcm_func_end19-gcm.aes_cipher.blocks.difference
@@ -8578,10 +8579,9 @@ gcm.gcm_siv.message.open.1: // @gcm.gcm_siv.message.open.1
 	mov	x0, x20
 	bl	gcm.aes_cipher.blocks.difference
 	mov	w23, w0
-	and	w24, w0, #0xff
 	mov	x0, sp
 	bl	gcm.aes_cipher.zeroize.elements.zeroize_elements.4
-	cbz	w24, .Lgcm_BB39_2
+	cbz	w23, .Lgcm_BB39_2
 // %bb.1:                               // %join.3
 	mov	x0, x22
 	mov	x1, x20
@@ -8589,7 +8589,7 @@ gcm.gcm_siv.message.open.1: // @gcm.gcm_siv.message.open.1
 	mov	x3, x19
 	bl	gcm.gcm_siv.message.apply
 .Lgcm_BB39_2:                               // %common.ret
-	tst	w23, #0xff
+	cmp	w23, #0
 	ldp	x20, x19, [sp, #80]             // 16-byte Folded Reload
 	ldp	x22, x21, [sp, #64]             // 16-byte Folded Reload
 	cset	w0, eq
@@ -10737,10 +10737,9 @@ gcm.gcm_siv.message.open.2: // @gcm.gcm_siv.message.open.2
 	mov	x0, x20
 	bl	gcm.aes_cipher.blocks.difference
 	mov	w23, w0
-	and	w24, w0, #0xff
 	mov	x0, sp
 	bl	gcm.aes_cipher.zeroize.elements.zeroize_elements.4
-	cbz	w24, .Lgcm_BB50_2
+	cbz	w23, .Lgcm_BB50_2
 // %bb.1:                               // %join.3
 	mov	x0, x22
 	mov	x1, x20
@@ -10748,7 +10747,7 @@ gcm.gcm_siv.message.open.2: // @gcm.gcm_siv.message.open.2
 	mov	x3, x19
 	bl	gcm.gcm_siv.message.apply
 .Lgcm_BB50_2:                               // %common.ret
-	tst	w23, #0xff
+	cmp	w23, #0
 	ldp	x20, x19, [sp, #80]             // 16-byte Folded Reload
 	ldp	x22, x21, [sp, #64]             // 16-byte Folded Reload
 	cset	w0, eq
@@ -16416,5 +16415,5 @@ gcm.fotsgure_gcm_accept_short:              // @gcm.fotsgure_gcm_accept_short
 	.long	9, 116, 1
 	.asciz	"Fotsgure"
 	.p2align	2, 0x0
-	.asciz	"fotsgure_gcm 0.4.0, aarch64/gcm.s, sources SHA-256 a77ed3e6946f7ef16d2a95d73be53424eb6b6f5df7d15faf7d41fe99e39bedb1"
+	.asciz	"fotsgure_gcm 0.4.0, aarch64/gcm.s, sources SHA-256 edea631c47480fc4ec4c1312ce74960f4bebd8cd57e98640b3f44ffc30ec5b92"
 	.p2align	2, 0x0

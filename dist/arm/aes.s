@@ -7007,7 +7007,6 @@ aes.cmac.tags.is_tag_start: @ @aes.cmac.tags.is_tag_start
 	mov	r0, r5
 	mov	r1, r4
 	bl	aes.aes_cipher.blocks.difference
-	uxtb	r0, r0
 	clz	r0, r0
 	lsr	r0, r0, #5
 	add	sp, sp, #40
@@ -11275,7 +11274,7 @@ aes.key_wrap.wrapping.unwrap: @ @aes.key_wrap.wrapping.unwrap
 .Laes_PC24_0:
 	add	r1, pc, r1
 	bl	aes.aes_cipher.blocks.difference
-	tst	r0, #255
+	cmp	r0, #0
 	beq	.Laes_BB24_9
 @ %bb.7:                                @ %loop.5.preheader.i
 	subs	r4, r8, #1
@@ -14528,7 +14527,7 @@ aes.ccm.mode.decrypt: @ @aes.ccm.mode.decrypt
 	add	r1, sp, #56
 	mov	r0, r6
 	bl	aes.aes_cipher.blocks.difference
-	tst	r0, #255
+	cmp	r0, #0
 	beq	.Laes_BB36_8
 @ %bb.7:                                @ %join.7
 	add	r0, sp, #56

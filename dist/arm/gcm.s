@@ -6424,7 +6424,6 @@ gcm.gcm.mode.is_expected:               @ @gcm.gcm.mode.is_expected
 	.save	{r11, lr}
 	push	{r11, lr}
 	bl	gcm.aes_cipher.blocks.difference
-	uxtb	r0, r0
 	clz	r0, r0
 	lsr	r0, r0, #5
 	pop	{r11, pc}
@@ -8152,7 +8151,7 @@ gcm.gcm_siv.message.open: @ @gcm.gcm_siv.message.open
 	mov	r5, r0
 	mov	r0, r7
 	bl	gcm.aes_cipher.zeroize.elements.zeroize_elements.4
-	tst	r5, #255
+	cmp	r5, #0
 	beq	.Lgcm_BB31_2
 @ %bb.1:                                @ %join.3
 	ldr	r1, [sp, #96]
@@ -8164,8 +8163,7 @@ gcm.gcm_siv.message.open: @ @gcm.gcm_siv.message.open
 	mov	r0, r4
 	bl	gcm.gcm_siv.message.apply
 .Lgcm_BB31_2:                               @ %common.ret
-	uxtb	r0, r5
-	clz	r0, r0
+	clz	r0, r5
 	lsr	r0, r0, #5
 	add	sp, sp, #44
 	pop	{r4, r5, r6, r7, r8, r9, r10, r11, pc}

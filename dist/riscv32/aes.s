@@ -7733,7 +7733,6 @@ aes.cmac.tags.is_tag_start: # @aes.cmac.tags.is_tag_start
 	addi	a0, sp, 20
 	addi	a1, sp, 4
 	call	aes.aes_cipher.blocks.difference
-	zext.b	a0, a0
 	seqz	a0, a0
 	lw	ra, 44(sp)                      # 4-byte Folded Reload
 	lw	s0, 40(sp)                      # 4-byte Folded Reload
@@ -13045,7 +13044,6 @@ aes.key_wrap.wrapping.unwrap: # @aes.key_wrap.wrapping.unwrap
 	addi	a1, a1, %pcrel_lo(.Laes_pcrel_hi3)
 	mv	a0, sp
 	call	aes.aes_cipher.blocks.difference
-	zext.b	a0, a0
 	beqz	a0, .Laes_BB23_16
 # %bb.11:                               # %loop.5.preheader.i
 	seqz	a0, s3
@@ -17711,7 +17709,6 @@ aes.ccm.mode.decrypt: # @aes.ccm.mode.decrypt
 	addi	a0, sp, 44
 	addi	a1, sp, 28
 	call	aes.aes_cipher.blocks.difference
-	zext.b	a0, a0
 	beqz	a0, .Laes_BB35_13
 # %bb.12:                               # %join.7
 	sw	zero, 28(sp)

@@ -6227,7 +6227,6 @@ aes_small.cmac.tags.is_tag_start: # @aes_small.cmac.tags.is_tag_start
 	addi	a0, sp, 20
 	addi	a1, sp, 4
 	call	aes_small.aes_cipher.blocks.difference
-	zext.b	a0, a0
 	seqz	a0, a0
 	lw	ra, 44(sp)                      # 4-byte Folded Reload
 	lw	s0, 40(sp)                      # 4-byte Folded Reload
@@ -9783,7 +9782,6 @@ aes_small.key_wrap.wrapping.unwrap: # @aes_small.key_wrap.wrapping.unwrap
 	addi	a1, a1, %pcrel_lo(.Laes_small_pcrel_hi3)
 	addi	a0, sp, 24
 	call	aes_small.aes_cipher.blocks.difference
-	zext.b	a0, a0
 	beqz	a0, .Laes_small_BB56_22
 # %bb.17:                               # %loop.5.preheader.i
 	seqz	a0, s6
@@ -12014,7 +12012,6 @@ aes_small.ccm.mode.decrypt: # @aes_small.ccm.mode.decrypt
 	addi	a0, sp, 56
 	addi	a1, sp, 40
 	call	aes_small.aes_cipher.blocks.difference
-	zext.b	a0, a0
 	beqz	a0, .Laes_small_BB68_18
 # %bb.16:                               # %join.7
 	sb	zero, 38(sp)

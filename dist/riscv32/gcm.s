@@ -7337,7 +7337,6 @@ gcm.gcm.mode.is_expected:               # @gcm.gcm.mode.is_expected
 	addi	sp, sp, -16
 	sw	ra, 12(sp)                      # 4-byte Folded Spill
 	call	gcm.aes_cipher.blocks.difference
-	zext.b	a0, a0
 	seqz	a0, a0
 	lw	ra, 12(sp)                      # 4-byte Folded Reload
 	addi	sp, sp, 16
@@ -9492,7 +9491,7 @@ gcm.gcm_siv.message.open: # @gcm.gcm_siv.message.open
 	mv	s3, t3
 	mv	s2, a7
 	mv	s4, a6
-	mv	s10, a5
+	mv	s5, a5
 	mv	s11, a4
 	sw	a3, 20(sp)                      # 4-byte Folded Spill
 	sw	a2, 16(sp)                      # 4-byte Folded Spill
@@ -9508,7 +9507,7 @@ gcm.gcm_siv.message.open: # @gcm.gcm_siv.message.open
 	lbu	a1, 11(t4)
 	sltiu	a4, s2, 17
 	seqz	a2, s3
-	and	s5, a2, a4
+	and	s10, a2, a4
 	slli	a3, a3, 8
 	or	t1, a3, t1
 	lbu	a3, 4(t4)
@@ -9546,11 +9545,11 @@ gcm.gcm_siv.message.open: # @gcm.gcm_siv.message.open
 	sh	t1, 36(sp)
 	sw	zero, 40(sp)
 	sw	zero, 44(sp)
-	beqz	s5, .Lgcm_BB31_4
+	beqz	s10, .Lgcm_BB31_4
 # %bb.1:                                # %then.1.i.i.i
 	sw	s11, 4(sp)                      # 4-byte Folded Spill
-	sw	s10, 8(sp)                      # 4-byte Folded Spill
-	sw	s5, 12(sp)                      # 4-byte Folded Spill
+	sw	s5, 8(sp)                       # 4-byte Folded Spill
+	sw	s10, 12(sp)                     # 4-byte Folded Spill
 	lbu	a0, 0(s9)
 	lbu	a1, 1(s9)
 	lbu	a2, 2(s9)
@@ -9735,8 +9734,8 @@ gcm.gcm_siv.message.open: # @gcm.gcm_siv.message.open
 	sltu	a2, a0, s2
 	bnez	a2, .Lgcm_BB31_7
 .Lgcm_BB31_9:                               # %"aes_ctr::add_in_batches::add_to_one::<#3853cb094ce32add>.exit.i.i.i"
-	lw	s5, 12(sp)                      # 4-byte Folded Reload
-	lw	s10, 8(sp)                      # 4-byte Folded Reload
+	lw	s10, 12(sp)                     # 4-byte Folded Reload
+	lw	s5, 8(sp)                       # 4-byte Folded Reload
 	lw	s11, 4(sp)                      # 4-byte Folded Reload
 .Lgcm_BB31_10:                              # %"gcm_siv::message::apply::<#099a9bc28799ce6c>.exit"
 	addi	t4, sp, 40
@@ -9745,7 +9744,7 @@ gcm.gcm_siv.message.open: # @gcm.gcm_siv.message.open
 	lw	a2, 16(sp)                      # 4-byte Folded Reload
 	lw	a3, 20(sp)                      # 4-byte Folded Reload
 	mv	a4, s11
-	mv	a5, s10
+	mv	a5, s5
 	mv	a6, s4
 	mv	a7, s2
 	mv	t3, s3
@@ -9753,10 +9752,10 @@ gcm.gcm_siv.message.open: # @gcm.gcm_siv.message.open
 	addi	a1, sp, 40
 	mv	a0, s6
 	call	gcm.aes_cipher.blocks.difference
-	zext.b	s7, a0
+	mv	s5, a0
 	addi	a0, sp, 40
 	call	gcm.aes_cipher.zeroize.elements.zeroize_elements.4
-	beqz	s7, .Lgcm_BB31_16
+	beqz	s5, .Lgcm_BB31_16
 # %bb.11:                               # %join.3
 	lbu	a0, 12(s6)
 	lbu	a1, 13(s6)
@@ -9803,7 +9802,7 @@ gcm.gcm_siv.message.open: # @gcm.gcm_siv.message.open
 	sh	t0, 36(sp)
 	sw	zero, 40(sp)
 	sw	zero, 44(sp)
-	beqz	s5, .Lgcm_BB31_15
+	beqz	s10, .Lgcm_BB31_15
 # %bb.12:                               # %then.1.i.i.i26
 	lbu	a0, 1(s9)
 	lbu	a1, 0(s9)
@@ -9832,8 +9831,8 @@ gcm.gcm_siv.message.open: # @gcm.gcm_siv.message.open
 	slli	s1, s1, 16
 	slli	s0, s0, 24
 	or	s1, s1, s0
-	or	s9, a2, a0
-	or	s5, a5, a1
+	or	s7, a2, a0
+	or	s9, a5, a1
 	lw	s0, 24(sp)
 	or	s1, s1, a3
 	addi	a0, sp, 80
@@ -9844,8 +9843,8 @@ gcm.gcm_siv.message.open: # @gcm.gcm_siv.message.open
 	sb	s8, 91(sp)
 	addi	a3, sp, 76
 	li	a4, 1
-	mv	a0, s9
-	mv	a1, s5
+	mv	a0, s7
+	mv	a1, s9
 	mv	a2, s1
 	li	a5, 0
 	call	gcm.aes_narrow.blocks.process_in_batches
@@ -9867,7 +9866,7 @@ gcm.gcm_siv.message.open: # @gcm.gcm_siv.message.open
 	lbu	t6, 4(s4)
 	lbu	s2, 5(s4)
 	lbu	s3, 6(s4)
-	lbu	s5, 7(s4)
+	lbu	s6, 7(s4)
 	lbu	a4, 0(s4)
 	lbu	a5, 1(s4)
 	lbu	s0, 2(s4)
@@ -9876,7 +9875,7 @@ gcm.gcm_siv.message.open: # @gcm.gcm_siv.message.open
 	lbu	a1, 77(sp)
 	lbu	a2, 78(sp)
 	lbu	a3, 79(sp)
-	xor	s6, a0, a4
+	xor	s7, a0, a4
 	xor	s8, a1, a5
 	xor	s9, a2, s0
 	xor	s10, a3, s1
@@ -9887,7 +9886,7 @@ gcm.gcm_siv.message.open: # @gcm.gcm_siv.message.open
 	xor	t6, a4, t6
 	xor	s2, a5, s2
 	xor	s3, s0, s3
-	xor	s5, s1, s5
+	xor	s6, s1, s6
 	lbu	a0, 84(sp)
 	lbu	a1, 85(sp)
 	lbu	a2, 86(sp)
@@ -9915,8 +9914,8 @@ gcm.gcm_siv.message.open: # @gcm.gcm_siv.message.open
 	sb	t6, 4(s4)
 	sb	s2, 5(s4)
 	sb	s3, 6(s4)
-	sb	s5, 7(s4)
-	sb	s6, 0(s4)
+	sb	s6, 7(s4)
+	sb	s7, 0(s4)
 	sb	s8, 1(s4)
 	sb	s9, 2(s4)
 	sb	s10, 3(s4)
@@ -9964,7 +9963,7 @@ gcm.gcm_siv.message.open: # @gcm.gcm_siv.message.open
 	call	gcm.aes_narrow.borrowed_words.call_to_encrypt.2
 	call	gcm.aes_cipher.zeroize.stack.wipe_stack.2032
 .Lgcm_BB31_16:                              # %common.ret
-	seqz	a0, s7
+	seqz	a0, s5
 	lw	ra, 140(sp)                     # 4-byte Folded Reload
 	lw	s0, 136(sp)                     # 4-byte Folded Reload
 	lw	s1, 132(sp)                     # 4-byte Folded Reload

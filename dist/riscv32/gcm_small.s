@@ -6383,7 +6383,6 @@ gcm_small.gcm.mode.is_expected:               # @gcm_small.gcm.mode.is_expected
 	addi	sp, sp, -16
 	sw	ra, 12(sp)                      # 4-byte Folded Spill
 	call	gcm_small.aes_cipher.blocks.difference
-	zext.b	a0, a0
 	seqz	a0, a0
 	lw	ra, 12(sp)                      # 4-byte Folded Reload
 	addi	sp, sp, 16
@@ -8493,7 +8492,7 @@ gcm_small.gcm_siv.message.open: # @gcm_small.gcm_siv.message.open
 	addi	a1, sp, 24
 	mv	a0, s1
 	call	gcm_small.aes_cipher.blocks.difference
-	zext.b	s5, a0
+	mv	s5, a0
 	addi	a0, sp, 24
 	call	gcm_small.aes_cipher.zeroize.elements.zeroize_elements.4
 	beqz	s5, .Lgcm_small_BB62_7

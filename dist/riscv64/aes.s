@@ -8751,7 +8751,8 @@ aes.cmac.tags.is_tag_start: # @aes.cmac.tags.is_tag_start
 	addi	a0, sp, 16
 	mv	a1, sp
 	call	aes.aes_cipher.blocks.difference
-	zext.b	a0, a0
+	slli	a0, a0, 32
+	srli	a0, a0, 32
 	seqz	a0, a0
 	ld	ra, 56(sp)                      # 8-byte Folded Reload
 	ld	s0, 48(sp)                      # 8-byte Folded Reload
@@ -8773,6 +8774,7 @@ aes.aes_cipher.blocks.difference:       # @aes.aes_cipher.blocks.difference
 	vxor.vv	v8, v9, v8
 	vredor.vs	v8, v8, v8
 	vmv.x.s	a0, v8
+	zext.b	a0, a0
 	ret
 .Laes_func_end20:
 	.size	aes.aes_cipher.blocks.difference, .Laes_func_end20-aes.aes_cipher.blocks.difference
@@ -15241,16 +15243,15 @@ aes.aes_hybrid.batches.process_rest.2: # @aes.aes_hybrid.batches.process_rest.2
 	.type	aes.key_wrap.wrapping.unwrap,@function
 aes.key_wrap.wrapping.unwrap: # @aes.key_wrap.wrapping.unwrap
 # %bb.0:                                # %start
-	addi	sp, sp, -80
-	sd	ra, 72(sp)                      # 8-byte Folded Spill
-	sd	s0, 64(sp)                      # 8-byte Folded Spill
-	sd	s1, 56(sp)                      # 8-byte Folded Spill
-	sd	s2, 48(sp)                      # 8-byte Folded Spill
-	sd	s3, 40(sp)                      # 8-byte Folded Spill
-	sd	s4, 32(sp)                      # 8-byte Folded Spill
-	sd	s5, 24(sp)                      # 8-byte Folded Spill
-	mv	s5, a4
-	mv	s4, a3
+	addi	sp, sp, -64
+	sd	ra, 56(sp)                      # 8-byte Folded Spill
+	sd	s0, 48(sp)                      # 8-byte Folded Spill
+	sd	s1, 40(sp)                      # 8-byte Folded Spill
+	sd	s2, 32(sp)                      # 8-byte Folded Spill
+	sd	s3, 24(sp)                      # 8-byte Folded Spill
+	sd	s4, 16(sp)                      # 8-byte Folded Spill
+	mv	s4, a4
+	mv	s3, a3
 	addi	a5, a4, -2
 	li	a3, 1
 	slli	a4, a3, 54
@@ -15258,16 +15259,16 @@ aes.key_wrap.wrapping.unwrap: # @aes.key_wrap.wrapping.unwrap
 	li	s0, 0
 	bltu	a4, a5, .Laes_BB34_9
 # %bb.1:                                # %start
-	addi	a4, s5, 1
+	addi	a4, s4, 1
 	bne	a2, a4, .Laes_BB34_9
 # %bb.2:                                # %after.1
 	addi	a3, a1, 8
 	addi	a4, a2, -1
 	slli	a2, a4, 3
-	sub	a5, s4, a3
+	sub	a5, s3, a3
 	bgeu	a5, a2, .Laes_BB34_5
 # %bb.3:                                # %loop.4.preheader.i.i.i.i.i.i.i.i
-	mv	a2, s4
+	mv	a2, s3
 	beqz	a4, .Laes_BB34_6
 .Laes_BB34_4:                               # %join.7.i.i.i.i.i.i.i.i
                                         # =>This Inner Loop Header: Depth=1
@@ -15294,12 +15295,12 @@ aes.key_wrap.wrapping.unwrap: # @aes.key_wrap.wrapping.unwrap
 	j	.Laes_BB34_6
 .Laes_BB34_5:                               # %apart.2.i.i.i.i.i.i.i.i
 	mv	s2, a0
-	mv	a0, s4
-	mv	s3, a1
+	mv	a0, s3
+	mv	s0, a1
 	mv	a1, a3
 	la	t1, memmove
 	jalr	t1
-	mv	a1, s3
+	mv	a1, s0
 	mv	a0, s2
 .Laes_BB34_6:                               # %"key_wrap::wrapping::unwrap_all::<#93e963d39861ca0b>.exit"
 	lbu	a2, 1(a1)
@@ -15324,41 +15325,42 @@ aes.key_wrap.wrapping.unwrap: # @aes.key_wrap.wrapping.unwrap
 	or	a1, a1, a4
 	slli	a1, a1, 32
 	or	a1, a1, a2
-	sd	a1, 8(sp)
-	addi	a1, sp, 8
-	mv	a2, s4
-	mv	a3, s5
+	sd	a1, 0(sp)
+	mv	a1, sp
+	mv	a2, s3
+	mv	a3, s4
 	call	aes.key_wrap.steps.unwrap_in_place
-	ld	a0, 8(sp)
+	ld	a0, 0(sp)
 .Laes_pcrel_hi162:
 	auipc	a1, %pcrel_hi(.Laes_CPI34_0)
 	ld	a1, %pcrel_lo(.Laes_pcrel_hi162)(a1)
-	sd	a0, 8(sp)
-	sd	a1, 16(sp)
+	sd	a0, 0(sp)
+	sd	a1, 8(sp)
 .Laes_pcrel_hi163:
 	auipc	a1, %pcrel_hi(.Laes_static.7)
 	addi	a1, a1, %pcrel_lo(.Laes_pcrel_hi163)
-	addi	a0, sp, 8
+	mv	a0, sp
 	call	aes.aes_cipher.blocks.difference
-	zext.b	a0, a0
+	slli	a0, a0, 32
+	srli	a0, a0, 32
 	beqz	a0, .Laes_BB34_8
 # %bb.7:                                # %loop.5.preheader.i
-	slli	s5, s5, 3
-	addi	a2, s5, -8
-	mv	a0, s4
+	slli	s4, s4, 3
+	addi	a2, s4, -8
+	mv	a0, s3
 	li	a1, 0
 	la	t1, memset
 	jalr	t1
-	add	s4, s4, s5
+	add	s3, s3, s4
 	li	s0, 1
-	sb	zero, -4(s4)
-	sb	zero, -3(s4)
-	sb	zero, -2(s4)
-	sb	zero, -1(s4)
-	sb	zero, -8(s4)
-	sb	zero, -7(s4)
-	sb	zero, -6(s4)
-	sb	zero, -5(s4)
+	sb	zero, -4(s3)
+	sb	zero, -3(s3)
+	sb	zero, -2(s3)
+	sb	zero, -1(s3)
+	sb	zero, -8(s3)
+	sb	zero, -7(s3)
+	sb	zero, -6(s3)
+	sb	zero, -5(s3)
 	li	a3, 1
 	j	.Laes_BB34_9
 .Laes_BB34_8:
@@ -15367,14 +15369,13 @@ aes.key_wrap.wrapping.unwrap: # @aes.key_wrap.wrapping.unwrap
 .Laes_BB34_9:                               # %return.10
 	mv	a0, a3
 	mv	a1, s0
-	ld	ra, 72(sp)                      # 8-byte Folded Reload
-	ld	s0, 64(sp)                      # 8-byte Folded Reload
-	ld	s1, 56(sp)                      # 8-byte Folded Reload
-	ld	s2, 48(sp)                      # 8-byte Folded Reload
-	ld	s3, 40(sp)                      # 8-byte Folded Reload
-	ld	s4, 32(sp)                      # 8-byte Folded Reload
-	ld	s5, 24(sp)                      # 8-byte Folded Reload
-	addi	sp, sp, 80
+	ld	ra, 56(sp)                      # 8-byte Folded Reload
+	ld	s0, 48(sp)                      # 8-byte Folded Reload
+	ld	s1, 40(sp)                      # 8-byte Folded Reload
+	ld	s2, 32(sp)                      # 8-byte Folded Reload
+	ld	s3, 24(sp)                      # 8-byte Folded Reload
+	ld	s4, 16(sp)                      # 8-byte Folded Reload
+	addi	sp, sp, 64
 	ret
 .Laes_func_end34:
 	.size	aes.key_wrap.wrapping.unwrap, .Laes_func_end34-aes.key_wrap.wrapping.unwrap
@@ -20018,7 +20019,8 @@ aes.ccm.mode.decrypt: # @aes.ccm.mode.decrypt
 	addi	a0, sp, 32
 	addi	a1, sp, 16
 	call	aes.aes_cipher.blocks.difference
-	zext.b	a0, a0
+	slli	a0, a0, 32
+	srli	a0, a0, 32
 	beqz	a0, .Laes_BB47_11
 # %bb.10:                               # %join.7
 	sd	zero, 16(sp)
@@ -23796,5 +23798,5 @@ aes.fotsgure_aes_ccm_seal:                  # @aes.fotsgure_aes_ccm_seal
 	.long	9, 116, 1
 	.asciz	"Fotsgure"
 	.p2align	2, 0x0
-	.asciz	"fotsgure_aes 0.4.0, riscv64/aes.s, sources SHA-256 a1d18ca88fce7e969289b63bc086433ee674bbef93f71d18e16e5b0c75f6f312"
+	.asciz	"fotsgure_aes 0.4.0, riscv64/aes.s, sources SHA-256 c732908e78d2b372624172585b9f92240ec267c9ba5336c6cdc7451f61a8db18"
 	.p2align	2, 0x0

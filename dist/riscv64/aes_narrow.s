@@ -8389,7 +8389,8 @@ aes_narrow.cmac.tags.is_tag_start: # @aes_narrow.cmac.tags.is_tag_start
 	addi	a0, sp, 24
 	addi	a1, sp, 8
 	call	aes_narrow.aes_cipher.blocks.difference
-	zext.b	a0, a0
+	slli	a0, a0, 32
+	srli	a0, a0, 32
 	seqz	a0, a0
 	ld	ra, 56(sp)                      # 8-byte Folded Reload
 	ld	s0, 48(sp)                      # 8-byte Folded Reload
@@ -13960,16 +13961,15 @@ aes_narrow.aes_narrow.blocks.process_in_batches.2: # @aes_narrow.aes_narrow.bloc
 	.type	aes_narrow.key_wrap.wrapping.unwrap,@function
 aes_narrow.key_wrap.wrapping.unwrap: # @aes_narrow.key_wrap.wrapping.unwrap
 # %bb.0:                                # %start
-	addi	sp, sp, -80
-	sd	ra, 72(sp)                      # 8-byte Folded Spill
-	sd	s0, 64(sp)                      # 8-byte Folded Spill
-	sd	s1, 56(sp)                      # 8-byte Folded Spill
-	sd	s2, 48(sp)                      # 8-byte Folded Spill
-	sd	s3, 40(sp)                      # 8-byte Folded Spill
-	sd	s4, 32(sp)                      # 8-byte Folded Spill
-	sd	s5, 24(sp)                      # 8-byte Folded Spill
-	mv	s5, a4
-	mv	s4, a3
+	addi	sp, sp, -64
+	sd	ra, 56(sp)                      # 8-byte Folded Spill
+	sd	s0, 48(sp)                      # 8-byte Folded Spill
+	sd	s1, 40(sp)                      # 8-byte Folded Spill
+	sd	s2, 32(sp)                      # 8-byte Folded Spill
+	sd	s3, 24(sp)                      # 8-byte Folded Spill
+	sd	s4, 16(sp)                      # 8-byte Folded Spill
+	mv	s4, a4
+	mv	s3, a3
 	addi	a5, a4, -2
 	li	a3, 1
 	slli	a4, a3, 54
@@ -13977,16 +13977,16 @@ aes_narrow.key_wrap.wrapping.unwrap: # @aes_narrow.key_wrap.wrapping.unwrap
 	li	s0, 0
 	bltu	a4, a5, .Laes_narrow_BB22_9
 # %bb.1:                                # %start
-	addi	a4, s5, 1
+	addi	a4, s4, 1
 	bne	a2, a4, .Laes_narrow_BB22_9
 # %bb.2:                                # %after.1
 	addi	a3, a1, 8
 	addi	a4, a2, -1
 	slli	a2, a4, 3
-	sub	a5, s4, a3
+	sub	a5, s3, a3
 	bgeu	a5, a2, .Laes_narrow_BB22_5
 # %bb.3:                                # %loop.4.preheader.i.i.i.i.i.i.i.i
-	mv	a2, s4
+	mv	a2, s3
 	beqz	a4, .Laes_narrow_BB22_6
 .Laes_narrow_BB22_4:                               # %join.7.i.i.i.i.i.i.i.i
                                         # =>This Inner Loop Header: Depth=1
@@ -14013,12 +14013,12 @@ aes_narrow.key_wrap.wrapping.unwrap: # @aes_narrow.key_wrap.wrapping.unwrap
 	j	.Laes_narrow_BB22_6
 .Laes_narrow_BB22_5:                               # %apart.2.i.i.i.i.i.i.i.i
 	mv	s2, a0
-	mv	a0, s4
-	mv	s3, a1
+	mv	a0, s3
+	mv	s0, a1
 	mv	a1, a3
 	la	t1, memmove
 	jalr	t1
-	mv	a1, s3
+	mv	a1, s0
 	mv	a0, s2
 .Laes_narrow_BB22_6:                               # %"key_wrap::wrapping::unwrap_all::<#10cbf20c84ff2163>.exit"
 	lbu	a2, 1(a1)
@@ -14043,41 +14043,42 @@ aes_narrow.key_wrap.wrapping.unwrap: # @aes_narrow.key_wrap.wrapping.unwrap
 	or	a1, a1, a4
 	slli	a1, a1, 32
 	or	a1, a1, a2
-	sd	a1, 8(sp)
-	addi	a1, sp, 8
-	mv	a2, s4
-	mv	a3, s5
+	sd	a1, 0(sp)
+	mv	a1, sp
+	mv	a2, s3
+	mv	a3, s4
 	call	aes_narrow.key_wrap.steps.unwrap_in_place
-	ld	a0, 8(sp)
+	ld	a0, 0(sp)
 .Laes_narrow_pcrel_hi15:
 	auipc	a1, %pcrel_hi(.Laes_narrow_CPI22_0)
 	ld	a1, %pcrel_lo(.Laes_narrow_pcrel_hi15)(a1)
-	sd	a0, 8(sp)
-	sd	a1, 16(sp)
+	sd	a0, 0(sp)
+	sd	a1, 8(sp)
 .Laes_narrow_pcrel_hi16:
 	auipc	a1, %pcrel_hi(.Laes_narrow_static.2)
 	addi	a1, a1, %pcrel_lo(.Laes_narrow_pcrel_hi16)
-	addi	a0, sp, 8
+	mv	a0, sp
 	call	aes_narrow.aes_cipher.blocks.difference
-	zext.b	a0, a0
+	slli	a0, a0, 32
+	srli	a0, a0, 32
 	beqz	a0, .Laes_narrow_BB22_8
 # %bb.7:                                # %loop.5.preheader.i
-	slli	s5, s5, 3
-	addi	a2, s5, -8
-	mv	a0, s4
+	slli	s4, s4, 3
+	addi	a2, s4, -8
+	mv	a0, s3
 	li	a1, 0
 	la	t1, memset
 	jalr	t1
-	add	s4, s4, s5
+	add	s3, s3, s4
 	li	s0, 1
-	sb	zero, -4(s4)
-	sb	zero, -3(s4)
-	sb	zero, -2(s4)
-	sb	zero, -1(s4)
-	sb	zero, -8(s4)
-	sb	zero, -7(s4)
-	sb	zero, -6(s4)
-	sb	zero, -5(s4)
+	sb	zero, -4(s3)
+	sb	zero, -3(s3)
+	sb	zero, -2(s3)
+	sb	zero, -1(s3)
+	sb	zero, -8(s3)
+	sb	zero, -7(s3)
+	sb	zero, -6(s3)
+	sb	zero, -5(s3)
 	li	a3, 1
 	j	.Laes_narrow_BB22_9
 .Laes_narrow_BB22_8:
@@ -14086,14 +14087,13 @@ aes_narrow.key_wrap.wrapping.unwrap: # @aes_narrow.key_wrap.wrapping.unwrap
 .Laes_narrow_BB22_9:                               # %return.10
 	mv	a0, a3
 	mv	a1, s0
-	ld	ra, 72(sp)                      # 8-byte Folded Reload
-	ld	s0, 64(sp)                      # 8-byte Folded Reload
-	ld	s1, 56(sp)                      # 8-byte Folded Reload
-	ld	s2, 48(sp)                      # 8-byte Folded Reload
-	ld	s3, 40(sp)                      # 8-byte Folded Reload
-	ld	s4, 32(sp)                      # 8-byte Folded Reload
-	ld	s5, 24(sp)                      # 8-byte Folded Reload
-	addi	sp, sp, 80
+	ld	ra, 56(sp)                      # 8-byte Folded Reload
+	ld	s0, 48(sp)                      # 8-byte Folded Reload
+	ld	s1, 40(sp)                      # 8-byte Folded Reload
+	ld	s2, 32(sp)                      # 8-byte Folded Reload
+	ld	s3, 24(sp)                      # 8-byte Folded Reload
+	ld	s4, 16(sp)                      # 8-byte Folded Reload
+	addi	sp, sp, 64
 	ret
 .Laes_narrow_func_end22:
 	.size	aes_narrow.key_wrap.wrapping.unwrap, .Laes_narrow_func_end22-aes_narrow.key_wrap.wrapping.unwrap
@@ -19554,7 +19554,8 @@ aes_narrow.ccm.mode.decrypt: # @aes_narrow.ccm.mode.decrypt
 	addi	a0, sp, 24
 	addi	a1, sp, 8
 	call	aes_narrow.aes_cipher.blocks.difference
-	zext.b	a0, a0
+	slli	a0, a0, 32
+	srli	a0, a0, 32
 	beqz	a0, .Laes_narrow_BB34_11
 # %bb.10:                               # %join.7
 	sd	zero, 8(sp)
@@ -22557,5 +22558,5 @@ aes_narrow.fotsgure_aes_ccm_seal:                  # @aes_narrow.fotsgure_aes_cc
 	.long	9, 123, 1
 	.asciz	"Fotsgure"
 	.p2align	2, 0x0
-	.asciz	"fotsgure_aes 0.4.0, riscv64/aes_narrow.s, sources SHA-256 a1d18ca88fce7e969289b63bc086433ee674bbef93f71d18e16e5b0c75f6f312"
+	.asciz	"fotsgure_aes 0.4.0, riscv64/aes_narrow.s, sources SHA-256 c732908e78d2b372624172585b9f92240ec267c9ba5336c6cdc7451f61a8db18"
 	.p2align	2, 0x0

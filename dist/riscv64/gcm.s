@@ -4613,7 +4613,8 @@ gcm.gcm.mode.is_expected:               # @gcm.gcm.mode.is_expected
 	addi	sp, sp, -16
 	sd	ra, 8(sp)                       # 8-byte Folded Spill
 	call	gcm.aes_cipher.blocks.difference
-	zext.b	a0, a0
+	slli	a0, a0, 32
+	srli	a0, a0, 32
 	seqz	a0, a0
 	ld	ra, 8(sp)                       # 8-byte Folded Reload
 	addi	sp, sp, 16
@@ -4632,6 +4633,7 @@ gcm.aes_cipher.blocks.difference:       # @gcm.aes_cipher.blocks.difference
 	vxor.vv	v8, v9, v8
 	vredor.vs	v8, v8, v8
 	vmv.x.s	a0, v8
+	zext.b	a0, a0
 	ret
 .Lgcm_func_end19:
 	.size	gcm.aes_cipher.blocks.difference, .Lgcm_func_end19-gcm.aes_cipher.blocks.difference
@@ -11675,7 +11677,8 @@ gcm.gcm_siv.message.open.1: # @gcm.gcm_siv.message.open.1
 	mv	a1, sp
 	mv	a0, s3
 	call	gcm.aes_cipher.blocks.difference
-	zext.b	s0, a0
+	slli	a0, a0, 32
+	srli	s0, a0, 32
 	mv	a0, sp
 	call	gcm.aes_cipher.zeroize.elements.zeroize_elements.4
 	beqz	s0, .Lgcm_BB39_2
@@ -15039,7 +15042,8 @@ gcm.gcm_siv.message.open.2: # @gcm.gcm_siv.message.open.2
 	mv	a1, sp
 	mv	a0, s3
 	call	gcm.aes_cipher.blocks.difference
-	zext.b	s0, a0
+	slli	a0, a0, 32
+	srli	s0, a0, 32
 	mv	a0, sp
 	call	gcm.aes_cipher.zeroize.elements.zeroize_elements.4
 	beqz	s0, .Lgcm_BB50_2
@@ -20013,5 +20017,5 @@ gcm.fotsgure_gcm_accept_short:              # @gcm.fotsgure_gcm_accept_short
 	.long	9, 116, 1
 	.asciz	"Fotsgure"
 	.p2align	2, 0x0
-	.asciz	"fotsgure_gcm 0.4.0, riscv64/gcm.s, sources SHA-256 a77ed3e6946f7ef16d2a95d73be53424eb6b6f5df7d15faf7d41fe99e39bedb1"
+	.asciz	"fotsgure_gcm 0.4.0, riscv64/gcm.s, sources SHA-256 edea631c47480fc4ec4c1312ce74960f4bebd8cd57e98640b3f44ffc30ec5b92"
 	.p2align	2, 0x0

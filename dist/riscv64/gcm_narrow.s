@@ -7926,7 +7926,8 @@ gcm_narrow.gcm.mode.is_expected:               # @gcm_narrow.gcm.mode.is_expecte
 	addi	sp, sp, -16
 	sd	ra, 8(sp)                       # 8-byte Folded Spill
 	call	gcm_narrow.aes_cipher.blocks.difference
-	zext.b	a0, a0
+	slli	a0, a0, 32
+	srli	a0, a0, 32
 	seqz	a0, a0
 	ld	ra, 8(sp)                       # 8-byte Folded Reload
 	addi	sp, sp, 16
@@ -10411,7 +10412,8 @@ gcm_narrow.gcm_siv.message.open: # @gcm_narrow.gcm_siv.message.open
 	addi	a1, sp, 24
 	mv	a0, s1
 	call	gcm_narrow.aes_cipher.blocks.difference
-	zext.b	s5, a0
+	slli	a0, a0, 32
+	srli	s5, a0, 32
 	addi	a0, sp, 24
 	call	gcm_narrow.aes_cipher.zeroize.elements.zeroize_elements.4
 	beqz	s5, .Lgcm_narrow_BB29_15
@@ -16042,5 +16044,5 @@ gcm_narrow.fotsgure_gcm_accept_short:              # @gcm_narrow.fotsgure_gcm_ac
 	.long	9, 123, 1
 	.asciz	"Fotsgure"
 	.p2align	2, 0x0
-	.asciz	"fotsgure_gcm 0.4.0, riscv64/gcm_narrow.s, sources SHA-256 a77ed3e6946f7ef16d2a95d73be53424eb6b6f5df7d15faf7d41fe99e39bedb1"
+	.asciz	"fotsgure_gcm 0.4.0, riscv64/gcm_narrow.s, sources SHA-256 edea631c47480fc4ec4c1312ce74960f4bebd8cd57e98640b3f44ffc30ec5b92"
 	.p2align	2, 0x0

@@ -5796,8 +5796,7 @@ aes_v6m_small.cmac.tags.is_tag_start: @ @aes_v6m_small.cmac.tags.is_tag_start
 	mov	r0, r5
 	mov	r1, r4
 	bl	aes_v6m_small.aes_cipher.blocks.difference
-	uxtb	r1, r0
-	rsbs	r0, r1, #0
+	rsbs	r1, r0, #0
 	adcs	r0, r1
 	add	sp, #40
 	pop	{r4, r5, r7, pc}
@@ -10363,7 +10362,7 @@ aes_v6m_small.key_wrap.wrapping.unwrap: @ @aes_v6m_small.key_wrap.wrapping.unwra
 	add	r0, sp, #104
 	ldr	r1, .Laes_v6m_small_CPI57_1
 	bl	aes_v6m_small.aes_cipher.blocks.difference
-	lsls	r0, r0, #24
+	cmp	r0, #0
 	mov	r0, r5
 	ldr	r1, [sp, #96]                   @ 4-byte Reload
 	beq	.Laes_v6m_small_BB57_29
@@ -13235,7 +13234,7 @@ aes_v6m_small.ccm.mode.decrypt: @ @aes_v6m_small.ccm.mode.decrypt
 	mov	r0, r6
 	mov	r1, r5
 	bl	aes_v6m_small.aes_cipher.blocks.difference
-	lsls	r0, r0, #24
+	cmp	r0, #0
 	beq	.Laes_v6m_small_BB69_15
 @ %bb.13:                               @ %join.7
 	add	r5, sp, #136
@@ -14108,8 +14107,8 @@ aes_v6m_small.fotsgure_aes_version:                   @ @aes_v6m_small.fotsgure_
 @ %bb.0:
 	movs	r0, #25
 	lsls	r0, r0, #4
-	b	.Laes_v6m_small_return_14099
-.Laes_v6m_small_return_14099:
+	b	.Laes_v6m_small_return_14098
+.Laes_v6m_small_return_14098:
 	movs	r1, #0
 	movs	r2, #0
 	movs	r3, #0
@@ -14177,8 +14176,8 @@ aes_v6m_small.fotsgure_aes_set_key:                   @ @aes_v6m_small.fotsgure_
 .Laes_v6m_small_BB73_6:                               @ %wide_fotsgure_aes_set_key.exit
 	mov	r0, r5
 	add	sp, #4
-	b	.Laes_v6m_small_return_14168
-.Laes_v6m_small_return_14168:
+	b	.Laes_v6m_small_return_14167
+.Laes_v6m_small_return_14167:
 	movs	r1, #0
 	movs	r2, #0
 	movs	r3, #0
@@ -14210,15 +14209,15 @@ aes_v6m_small.fotsgure_aes_key_length:                @ @aes_v6m_small.fotsgure_
 	cmp	r0, #32
 	bne	.Laes_v6m_small_BB74_4
 .Laes_v6m_small_BB74_2:
-	b	.Laes_v6m_small_return_14201
+	b	.Laes_v6m_small_return_14200
 .Laes_v6m_small_BB74_3:
 	movs	r1, #0
 	cmp	r0, #32
 	beq	.Laes_v6m_small_BB74_2
 .Laes_v6m_small_BB74_4:
 	mov	r0, r1
-	b	.Laes_v6m_small_return_14201
-.Laes_v6m_small_return_14201:
+	b	.Laes_v6m_small_return_14200
+.Laes_v6m_small_return_14200:
 	movs	r1, #0
 	movs	r2, #0
 	movs	r3, #0
@@ -14248,8 +14247,8 @@ aes_v6m_small.fotsgure_aes_wipe:                      @ @aes_v6m_small.fotsgure_
 	bl	memset
 	adds	r0, r4, #4
 	bl	aes_v6m_small.aes_cipher.zeroize.elements.zeroize_elements.1
-	b	.Laes_v6m_small_return_14239
-.Laes_v6m_small_return_14239:
+	b	.Laes_v6m_small_return_14238
+.Laes_v6m_small_return_14238:
 	movs	r1, #0
 	movs	r2, #0
 	movs	r3, #0
@@ -14308,8 +14307,8 @@ aes_v6m_small.fotsgure_aes_encrypt_blocks:            @ @aes_v6m_small.fotsgure_
 .Laes_v6m_small_BB76_6:                               @ %wide_fotsgure_aes_encrypt_blocks.exit
 	mov	r0, r4
 	add	sp, #16
-	b	.Laes_v6m_small_return_14299
-.Laes_v6m_small_return_14299:
+	b	.Laes_v6m_small_return_14298
+.Laes_v6m_small_return_14298:
 	movs	r1, #0
 	movs	r2, #0
 	movs	r3, #0
@@ -14368,8 +14367,8 @@ aes_v6m_small.fotsgure_aes_decrypt_blocks:            @ @aes_v6m_small.fotsgure_
 .Laes_v6m_small_BB77_6:                               @ %wide_fotsgure_aes_decrypt_blocks.exit
 	mov	r0, r4
 	add	sp, #16
-	b	.Laes_v6m_small_return_14359
-.Laes_v6m_small_return_14359:
+	b	.Laes_v6m_small_return_14358
+.Laes_v6m_small_return_14358:
 	movs	r1, #0
 	movs	r2, #0
 	movs	r3, #0
@@ -14558,7 +14557,7 @@ aes_v6m_small.fotsgure_aes_encrypt_blocks_to:         @ @aes_v6m_small.fotsgure_
 .Laes_v6m_small_BB78_21:                              @ %wide_fotsgure_aes_encrypt_blocks_to.exit
 	mov	r0, r5
 	add	sp, #52
-	b	.Laes_v6m_small_return_14549
+	b	.Laes_v6m_small_return_14548
 .Laes_v6m_small_BB78_22:                              @ %join.7.i.i.i.i.i.i.i.i.epil.2
 	adds	r4, #32
 	adds	r0, r6, r4
@@ -14569,7 +14568,7 @@ aes_v6m_small.fotsgure_aes_encrypt_blocks_to:         @ @aes_v6m_small.fotsgure_
 @ %bb.23:
 .Laes_v6m_small_CPI78_0:
 	.long	65793                           @ 0x10101
-.Laes_v6m_small_return_14549:
+.Laes_v6m_small_return_14548:
 	movs	r1, #0
 	movs	r2, #0
 	movs	r3, #0
@@ -14758,7 +14757,7 @@ aes_v6m_small.fotsgure_aes_decrypt_blocks_to:         @ @aes_v6m_small.fotsgure_
 .Laes_v6m_small_BB79_21:                              @ %wide_fotsgure_aes_decrypt_blocks_to.exit
 	mov	r0, r5
 	add	sp, #52
-	b	.Laes_v6m_small_return_14749
+	b	.Laes_v6m_small_return_14748
 .Laes_v6m_small_BB79_22:                              @ %join.7.i.i.i.i.i.i.i.i.epil.2
 	adds	r4, #32
 	adds	r0, r6, r4
@@ -14769,7 +14768,7 @@ aes_v6m_small.fotsgure_aes_decrypt_blocks_to:         @ @aes_v6m_small.fotsgure_
 @ %bb.23:
 .Laes_v6m_small_CPI79_0:
 	.long	65793                           @ 0x10101
-.Laes_v6m_small_return_14749:
+.Laes_v6m_small_return_14748:
 	movs	r1, #0
 	movs	r2, #0
 	movs	r3, #0
@@ -14806,8 +14805,8 @@ aes_v6m_small.fotsgure_aes_add_keystream:             @ @aes_v6m_small.fotsgure_
 .Laes_v6m_small_BB80_2:
 	bl	aes_v6m_small.aes_c.stream.fotsgure_aes_add_keystream
 	add	sp, #8
-	b	.Laes_v6m_small_return_14797
-.Laes_v6m_small_return_14797:
+	b	.Laes_v6m_small_return_14796
+.Laes_v6m_small_return_14796:
 	movs	r1, #0
 	movs	r2, #0
 	movs	r3, #0
@@ -14973,12 +14972,12 @@ aes_v6m_small.fotsgure_aes_add_keystream_to:          @ @aes_v6m_small.fotsgure_
 .Laes_v6m_small_BB81_21:                              @ %wide_fotsgure_aes_add_keystream_to.exit
 	mov	r0, r5
 	add	sp, #36
-	b	.Laes_v6m_small_return_14964
+	b	.Laes_v6m_small_return_14963
 	.p2align	2
 @ %bb.22:
 .Laes_v6m_small_CPI81_0:
 	.long	65793                           @ 0x10101
-.Laes_v6m_small_return_14964:
+.Laes_v6m_small_return_14963:
 	movs	r1, #0
 	movs	r2, #0
 	movs	r3, #0
@@ -15024,7 +15023,7 @@ aes_v6m_small.fotsgure_aes_cbc_encrypt:               @ @aes_v6m_small.fotsgure_
 @ %bb.4:
 	movs	r0, #2
 	add	sp, #124
-	b	.Laes_v6m_small_return_15015
+	b	.Laes_v6m_small_return_15014
 .Laes_v6m_small_BB82_5:                               @ %join.3.i.i
 	ldrb	r2, [r1, #12]
 	ldrb	r3, [r1, #13]
@@ -15263,8 +15262,8 @@ aes_v6m_small.fotsgure_aes_cbc_encrypt:               @ @aes_v6m_small.fotsgure_
 	bl	memcpy
 	movs	r0, #0
 	add	sp, #124
-	b	.Laes_v6m_small_return_15015
-.Laes_v6m_small_return_15015:
+	b	.Laes_v6m_small_return_15014
+.Laes_v6m_small_return_15014:
 	movs	r1, #0
 	movs	r2, #0
 	movs	r3, #0
@@ -15375,8 +15374,8 @@ aes_v6m_small.fotsgure_aes_cbc_decrypt:               @ @aes_v6m_small.fotsgure_
 .Laes_v6m_small_BB83_6:                               @ %wide_fotsgure_aes_cbc_decrypt.exit
 	mov	r0, r4
 	add	sp, #40
-	b	.Laes_v6m_small_return_15366
-.Laes_v6m_small_return_15366:
+	b	.Laes_v6m_small_return_15365
+.Laes_v6m_small_return_15365:
 	movs	r1, #0
 	movs	r2, #0
 	movs	r3, #0
@@ -15453,8 +15452,8 @@ aes_v6m_small.fotsgure_aes_wrap:                      @ @aes_v6m_small.fotsgure_
 .Laes_v6m_small_BB84_10:                              @ %wide_fotsgure_aes_wrap.exit
 	mov	r0, r4
 	add	sp, #32
-	b	.Laes_v6m_small_return_15444
-.Laes_v6m_small_return_15444:
+	b	.Laes_v6m_small_return_15443
+.Laes_v6m_small_return_15443:
 	movs	r1, #0
 	movs	r2, #0
 	movs	r3, #0
@@ -15539,8 +15538,8 @@ aes_v6m_small.fotsgure_aes_unwrap:                    @ @aes_v6m_small.fotsgure_
 .Laes_v6m_small_BB85_13:                              @ %wide_fotsgure_aes_unwrap.exit
 	mov	r0, r4
 	add	sp, #32
-	b	.Laes_v6m_small_return_15530
-.Laes_v6m_small_return_15530:
+	b	.Laes_v6m_small_return_15529
+.Laes_v6m_small_return_15529:
 	movs	r1, #0
 	movs	r2, #0
 	movs	r3, #0
@@ -15617,8 +15616,8 @@ aes_v6m_small.fotsgure_aes_wrap_padded:               @ @aes_v6m_small.fotsgure_
 .Laes_v6m_small_BB86_10:                              @ %wide_fotsgure_aes_wrap_padded.exit
 	mov	r0, r4
 	add	sp, #32
-	b	.Laes_v6m_small_return_15608
-.Laes_v6m_small_return_15608:
+	b	.Laes_v6m_small_return_15607
+.Laes_v6m_small_return_15607:
 	movs	r1, #0
 	movs	r2, #0
 	movs	r3, #0
@@ -15716,8 +15715,8 @@ aes_v6m_small.fotsgure_aes_unwrap_padded:             @ @aes_v6m_small.fotsgure_
 	ldr	r1, [sp, #28]                   @ 4-byte Reload
 	str	r6, [r1]
 	add	sp, #60
-	b	.Laes_v6m_small_return_15707
-.Laes_v6m_small_return_15707:
+	b	.Laes_v6m_small_return_15706
+.Laes_v6m_small_return_15706:
 	movs	r1, #0
 	movs	r2, #0
 	movs	r3, #0
@@ -15789,8 +15788,8 @@ aes_v6m_small.fotsgure_aes_cmac:                      @ @aes_v6m_small.fotsgure_
 .Laes_v6m_small_BB88_6:                               @ %wide_fotsgure_aes_cmac.exit
 	mov	r0, r5
 	add	sp, #40
-	b	.Laes_v6m_small_return_15780
-.Laes_v6m_small_return_15780:
+	b	.Laes_v6m_small_return_15779
+.Laes_v6m_small_return_15779:
 	movs	r1, #0
 	movs	r2, #0
 	movs	r3, #0
@@ -15839,7 +15838,7 @@ aes_v6m_small.fotsgure_aes_cmac_verify:               @ @aes_v6m_small.fotsgure_
 @ %bb.6:
 	movs	r0, #2
 	add	sp, #36
-	b	.Laes_v6m_small_return_15830
+	b	.Laes_v6m_small_return_15829
 .Laes_v6m_small_BB89_7:                               @ %join.3.i.i
 	ldr	r6, [sp, #56]
 	movs	r4, #12
@@ -15851,7 +15850,7 @@ aes_v6m_small.fotsgure_aes_cmac_verify:               @ @aes_v6m_small.fotsgure_
 @ %bb.8:
 	movs	r0, #7
 	add	sp, #36
-	b	.Laes_v6m_small_return_15830
+	b	.Laes_v6m_small_return_15829
 .Laes_v6m_small_BB89_9:                               @ %after.4.i.i
 	movs	r4, #0
 	str	r4, [sp, #20]
@@ -15878,8 +15877,8 @@ aes_v6m_small.fotsgure_aes_cmac_verify:               @ @aes_v6m_small.fotsgure_
 	bl	aes_v6m_small.aes_cipher.zeroize.stack.wipe_stack.768
 	mov	r0, r5
 	add	sp, #36
-	b	.Laes_v6m_small_return_15830
-.Laes_v6m_small_return_15830:
+	b	.Laes_v6m_small_return_15829
+.Laes_v6m_small_return_15829:
 	movs	r1, #0
 	movs	r2, #0
 	movs	r3, #0
@@ -15980,8 +15979,8 @@ aes_v6m_small.fotsgure_aes_ccm_seal:                  @ @aes_v6m_small.fotsgure_
 .Laes_v6m_small_BB90_13:                              @ %wide_fotsgure_aes_ccm_seal.exit
 	mov	r0, r4
 	add	sp, #76
-	b	.Laes_v6m_small_return_15971
-.Laes_v6m_small_return_15971:
+	b	.Laes_v6m_small_return_15970
+.Laes_v6m_small_return_15970:
 	movs	r1, #0
 	movs	r2, #0
 	movs	r3, #0
@@ -16096,8 +16095,8 @@ aes_v6m_small.fotsgure_aes_ccm_open:                  @ @aes_v6m_small.fotsgure_
 .Laes_v6m_small_BB91_15:                              @ %wide_fotsgure_aes_ccm_open.exit
 	mov	r0, r4
 	add	sp, #84
-	b	.Laes_v6m_small_return_16087
-.Laes_v6m_small_return_16087:
+	b	.Laes_v6m_small_return_16086
+.Laes_v6m_small_return_16086:
 	movs	r1, #0
 	movs	r2, #0
 	movs	r3, #0
@@ -16122,8 +16121,8 @@ aes_v6m_small.fotsgure_aes_cipher_round:              @ @aes_v6m_small.fotsgure_
 	push	{r7, lr}
 	bl	aes_v6m_small.aes_c.single_rounds.round
 	bl	aes_v6m_small.aes_cipher.zeroize.stack.wipe_stack.512
-	b	.Laes_v6m_small_return_16113
-.Laes_v6m_small_return_16113:
+	b	.Laes_v6m_small_return_16112
+.Laes_v6m_small_return_16112:
 	movs	r1, #0
 	movs	r2, #0
 	movs	r3, #0
@@ -16148,8 +16147,8 @@ aes_v6m_small.fotsgure_aes_equiv_inv_cipher_round:    @ @aes_v6m_small.fotsgure_
 	push	{r7, lr}
 	bl	aes_v6m_small.aes_c.single_rounds.inverse_round
 	bl	aes_v6m_small.aes_cipher.zeroize.stack.wipe_stack.512
-	b	.Laes_v6m_small_return_16139
-.Laes_v6m_small_return_16139:
+	b	.Laes_v6m_small_return_16138
+.Laes_v6m_small_return_16138:
 	movs	r1, #0
 	movs	r2, #0
 	movs	r3, #0
@@ -16174,8 +16173,8 @@ aes_v6m_small.fotsgure_aes_cipher_round_par:          @ @aes_v6m_small.fotsgure_
 	push	{r7, lr}
 	bl	aes_v6m_small.aes_c.single_rounds.rounds
 	bl	aes_v6m_small.aes_cipher.zeroize.stack.wipe_stack.512
-	b	.Laes_v6m_small_return_16165
-.Laes_v6m_small_return_16165:
+	b	.Laes_v6m_small_return_16164
+.Laes_v6m_small_return_16164:
 	movs	r1, #0
 	movs	r2, #0
 	movs	r3, #0
@@ -16200,8 +16199,8 @@ aes_v6m_small.fotsgure_aes_equiv_inv_cipher_round_par: @ @aes_v6m_small.fotsgure
 	push	{r7, lr}
 	bl	aes_v6m_small.aes_c.single_rounds.inverse_rounds
 	bl	aes_v6m_small.aes_cipher.zeroize.stack.wipe_stack.512
-	b	.Laes_v6m_small_return_16191
-.Laes_v6m_small_return_16191:
+	b	.Laes_v6m_small_return_16190
+.Laes_v6m_small_return_16190:
 	movs	r1, #0
 	movs	r2, #0
 	movs	r3, #0
@@ -16226,8 +16225,8 @@ aes_v6m_small.fotsgure_aes_mix_columns:               @ @aes_v6m_small.fotsgure_
 	push	{r7, lr}
 	bl	aes_v6m_small.aes_c.single_rounds.mixed
 	bl	aes_v6m_small.aes_cipher.zeroize.stack.wipe_stack.512
-	b	.Laes_v6m_small_return_16217
-.Laes_v6m_small_return_16217:
+	b	.Laes_v6m_small_return_16216
+.Laes_v6m_small_return_16216:
 	movs	r1, #0
 	movs	r2, #0
 	movs	r3, #0
@@ -16252,8 +16251,8 @@ aes_v6m_small.fotsgure_aes_inv_mix_columns:           @ @aes_v6m_small.fotsgure_
 	push	{r7, lr}
 	bl	aes_v6m_small.aes_c.single_rounds.inverse_mixed
 	bl	aes_v6m_small.aes_cipher.zeroize.stack.wipe_stack.512
-	b	.Laes_v6m_small_return_16243
-.Laes_v6m_small_return_16243:
+	b	.Laes_v6m_small_return_16242
+.Laes_v6m_small_return_16242:
 	movs	r1, #0
 	movs	r2, #0
 	movs	r3, #0
@@ -16344,8 +16343,8 @@ aes_v6m_small.fotsgure_aes_encrypt_blocks_with:       @ @aes_v6m_small.fotsgure_
 	mov	r0, r4
 	add	sp, #508
 	add	sp, #8
-	b	.Laes_v6m_small_return_16335
-.Laes_v6m_small_return_16335:
+	b	.Laes_v6m_small_return_16334
+.Laes_v6m_small_return_16334:
 	movs	r1, #0
 	movs	r2, #0
 	movs	r3, #0
@@ -16450,8 +16449,8 @@ aes_v6m_small.fotsgure_aes_decrypt_blocks_with:       @ @aes_v6m_small.fotsgure_
 	mov	r0, r6
 	add	sp, #508
 	add	sp, #8
-	b	.Laes_v6m_small_return_16441
-.Laes_v6m_small_return_16441:
+	b	.Laes_v6m_small_return_16440
+.Laes_v6m_small_return_16440:
 	movs	r1, #0
 	movs	r2, #0
 	movs	r3, #0
@@ -16647,8 +16646,8 @@ aes_v6m_small.fotsgure_aes_add_keystream_with:        @ @aes_v6m_small.fotsgure_
 	mov	r0, r4
 	add	sp, #508
 	add	sp, #88
-	b	.Laes_v6m_small_return_16638
-.Laes_v6m_small_return_16638:
+	b	.Laes_v6m_small_return_16637
+.Laes_v6m_small_return_16637:
 	movs	r1, #0
 	movs	r2, #0
 	movs	r3, #0

@@ -6607,7 +6607,6 @@ aes_v7m.cmac.tags.is_tag_start: @ @aes_v7m.cmac.tags.is_tag_start
 	mov	r0, r7
 	mov	r1, r6
 	bl	aes_v7m.aes_cipher.blocks.difference
-	uxtb	r0, r0
 	clz	r0, r0
 	lsrs	r0, r0, #5
 	add	sp, #44
@@ -7229,8 +7228,8 @@ aes_v7m.aes_cipher.zeroize.stack.wipe_stack.512: @ @aes_v7m.aes_cipher.zeroize.s
 	@APP
 	@NO_APP
 	add.w	sp, sp, #520
-	b	.Laes_v7m_return_7220
-.Laes_v7m_return_7220:
+	b	.Laes_v7m_return_7219
+.Laes_v7m_return_7219:
 	movs	r1, #0
 	movs	r2, #0
 	movs	r3, #0
@@ -11040,9 +11039,8 @@ aes_v7m.key_wrap.wrapping.unwrap: @ @aes_v7m.key_wrap.wrapping.unwrap
 	movt	r1, :upper16:.Laes_v7m_static.2
 	add	r0, sp, #16
 	bl	aes_v7m.aes_cipher.blocks.difference
-	lsls	r0, r0, #24
 	mov.w	r5, #0
-	beq	.Laes_v7m_BB24_15
+	cbz	r0, .Laes_v7m_BB24_15
 @ %bb.13:                               @ %loop.5.preheader.i
 	subs.w	r4, r9, #1
 	sbc	r0, r10, #0
@@ -14106,8 +14104,7 @@ aes_v7m.ccm.mode.decrypt: @ @aes_v7m.ccm.mode.decrypt
 	mov	r0, r6
 	mov	r1, r4
 	bl	aes_v7m.aes_cipher.blocks.difference
-	lsls	r0, r0, #24
-	beq	.Laes_v7m_BB36_10
+	cbz	r0, .Laes_v7m_BB36_10
 @ %bb.9:                                @ %join.7
 	movs	r5, #0
 	add	r0, sp, #60
@@ -14549,8 +14546,8 @@ aes_v7m.fotsgure_aes_version:                   @ @aes_v7m.fotsgure_aes_version
 	.fnstart
 @ %bb.0:
 	mov.w	r0, #400
-	b	.Laes_v7m_return_14540
-.Laes_v7m_return_14540:
+	b	.Laes_v7m_return_14537
+.Laes_v7m_return_14537:
 	movs	r1, #0
 	movs	r2, #0
 	movs	r3, #0
@@ -14584,7 +14581,7 @@ aes_v7m.fotsgure_aes_set_key:                   @ @aes_v7m.fotsgure_aes_set_key
 	mov.w	r2, #484
 	bl	memset
 	movs	r0, #1
-	b	.Laes_v7m_return_14575
+	b	.Laes_v7m_return_14572
 	.p2align	2
 .Laes_v7m_BB40_3:                               @ %join.3.i.i
 	cmp	r1, #0
@@ -14606,8 +14603,8 @@ aes_v7m.fotsgure_aes_set_key:                   @ @aes_v7m.fotsgure_aes_set_key
 	bl	aes_v7m.aes_cipher.zeroize.stack.wipe_stack.768
 	mov	r0, r5
 	str	r4, [r6]
-	b	.Laes_v7m_return_14575
-.Laes_v7m_return_14575:
+	b	.Laes_v7m_return_14572
+.Laes_v7m_return_14572:
 	movs	r1, #0
 	movs	r2, #0
 	movs	r3, #0
@@ -14637,8 +14634,8 @@ aes_v7m.fotsgure_aes_key_length:                @ @aes_v7m.fotsgure_aes_key_leng
 	cmp	r1, #32
 	it	eq
 	moveq	r0, r1
-	b	.Laes_v7m_return_14628
-.Laes_v7m_return_14628:
+	b	.Laes_v7m_return_14625
+.Laes_v7m_return_14625:
 	movs	r1, #0
 	movs	r2, #0
 	movs	r3, #0
@@ -14696,7 +14693,7 @@ aes_v7m.fotsgure_aes_encrypt_blocks:            @ @aes_v7m.fotsgure_aes_encrypt_
 	movs	r4, #2
 	mov	r0, r4
 	add	sp, #16
-	b	.Laes_v7m_return_14687
+	b	.Laes_v7m_return_14684
 	.p2align	2
 .Laes_v7m_BB43_3:                               @ %join.3.i.i
 	cmp	r1, #0
@@ -14715,8 +14712,8 @@ aes_v7m.fotsgure_aes_encrypt_blocks:            @ @aes_v7m.fotsgure_aes_encrypt_
 	bl	aes_v7m.aes_cipher.zeroize.stack.wipe_stack.1024
 	mov	r0, r4
 	add	sp, #16
-	b	.Laes_v7m_return_14687
-.Laes_v7m_return_14687:
+	b	.Laes_v7m_return_14684
+.Laes_v7m_return_14684:
 	movs	r1, #0
 	movs	r2, #0
 	movs	r3, #0
@@ -14752,7 +14749,7 @@ aes_v7m.fotsgure_aes_decrypt_blocks:            @ @aes_v7m.fotsgure_aes_decrypt_
 	movs	r4, #2
 	mov	r0, r4
 	add	sp, #16
-	b	.Laes_v7m_return_14743
+	b	.Laes_v7m_return_14740
 	.p2align	2
 .Laes_v7m_BB44_3:                               @ %join.3.i.i
 	cmp	r1, #0
@@ -14771,8 +14768,8 @@ aes_v7m.fotsgure_aes_decrypt_blocks:            @ @aes_v7m.fotsgure_aes_decrypt_
 	bl	aes_v7m.aes_cipher.zeroize.stack.wipe_stack.1024
 	mov	r0, r4
 	add	sp, #16
-	b	.Laes_v7m_return_14743
-.Laes_v7m_return_14743:
+	b	.Laes_v7m_return_14740
+.Laes_v7m_return_14740:
 	movs	r1, #0
 	movs	r2, #0
 	movs	r3, #0
@@ -14844,7 +14841,7 @@ aes_v7m.fotsgure_aes_encrypt_blocks_to:         @ @aes_v7m.fotsgure_aes_encrypt_
 .Laes_v7m_BB45_7:                               @ %wide_fotsgure_aes_encrypt_blocks_to.exit
 	mov	r0, r5
 	add	sp, #20
-	b	.Laes_v7m_return_14835
+	b	.Laes_v7m_return_14832
 	.p2align	2
 .Laes_v7m_BB45_8:                               @ %apart.2.i.i.i.i.i.i.i.i
 	lsls	r3, r2, #4
@@ -14975,8 +14972,8 @@ aes_v7m.fotsgure_aes_encrypt_blocks_to:         @ @aes_v7m.fotsgure_aes_encrypt_
 	bl	aes_v7m.aes_cipher.zeroize.stack.wipe_stack.1024
 	mov	r0, r5
 	add	sp, #20
-	b	.Laes_v7m_return_14835
-.Laes_v7m_return_14835:
+	b	.Laes_v7m_return_14832
+.Laes_v7m_return_14832:
 	movs	r1, #0
 	movs	r2, #0
 	movs	r3, #0
@@ -15048,7 +15045,7 @@ aes_v7m.fotsgure_aes_decrypt_blocks_to:         @ @aes_v7m.fotsgure_aes_decrypt_
 .Laes_v7m_BB46_7:                               @ %wide_fotsgure_aes_decrypt_blocks_to.exit
 	mov	r0, r5
 	add	sp, #20
-	b	.Laes_v7m_return_15039
+	b	.Laes_v7m_return_15036
 	.p2align	2
 .Laes_v7m_BB46_8:                               @ %apart.2.i.i.i.i.i.i.i.i
 	lsls	r3, r2, #4
@@ -15179,8 +15176,8 @@ aes_v7m.fotsgure_aes_decrypt_blocks_to:         @ @aes_v7m.fotsgure_aes_decrypt_
 	bl	aes_v7m.aes_cipher.zeroize.stack.wipe_stack.1024
 	mov	r0, r5
 	add	sp, #20
-	b	.Laes_v7m_return_15039
-.Laes_v7m_return_15039:
+	b	.Laes_v7m_return_15036
+.Laes_v7m_return_15036:
 	movs	r1, #0
 	movs	r2, #0
 	movs	r3, #0
@@ -15220,7 +15217,7 @@ aes_v7m.fotsgure_aes_add_keystream:             @ @aes_v7m.fotsgure_aes_add_keys
 .Laes_v7m_BB47_2:                               @ %wide_fotsgure_aes_add_keystream.exit
 	mov	r0, r4
 	add	sp, #36
-	b	.Laes_v7m_return_15211
+	b	.Laes_v7m_return_15208
 	.p2align	2
 .Laes_v7m_BB47_3:                               @ %join.3.i.i.i
 	ldr	r5, [r0]
@@ -15258,8 +15255,8 @@ aes_v7m.fotsgure_aes_add_keystream:             @ @aes_v7m.fotsgure_aes_add_keys
 	strd	r0, r1, [r5, #16]
 	mov	r0, r4
 	add	sp, #36
-	b	.Laes_v7m_return_15211
-.Laes_v7m_return_15211:
+	b	.Laes_v7m_return_15208
+.Laes_v7m_return_15208:
 	movs	r1, #0
 	movs	r2, #0
 	movs	r3, #0
@@ -15305,13 +15302,13 @@ aes_v7m.fotsgure_aes_add_keystream_to:          @ @aes_v7m.fotsgure_aes_add_keys
 .Laes_v7m_BB48_3:                               @ %wide_fotsgure_aes_add_keystream_to.exit
 	mov	r0, r5
 	add	sp, #32
-	b	.Laes_v7m_return_15296
+	b	.Laes_v7m_return_15293
 	.p2align	2
 .Laes_v7m_BB48_4:
 	movs	r5, #3
 	mov	r0, r5
 	add	sp, #32
-	b	.Laes_v7m_return_15296
+	b	.Laes_v7m_return_15293
 	.p2align	2
 .Laes_v7m_BB48_5:                               @ %join.3.i.i.i
 	ldr	r7, [r0]
@@ -15406,7 +15403,7 @@ aes_v7m.fotsgure_aes_add_keystream_to:          @ @aes_v7m.fotsgure_aes_add_keys
 	movs	r5, #4
 	mov	r0, r5
 	add	sp, #32
-	b	.Laes_v7m_return_15296
+	b	.Laes_v7m_return_15293
 	.p2align	2
 .Laes_v7m_BB48_19:                              @ %join.3.i.i.i.i
 	ldr	r7, [r0]
@@ -15442,8 +15439,8 @@ aes_v7m.fotsgure_aes_add_keystream_to:          @ @aes_v7m.fotsgure_aes_add_keys
 	strd	r0, r1, [r6, #16]
 	mov	r0, r5
 	add	sp, #32
-	b	.Laes_v7m_return_15296
-.Laes_v7m_return_15296:
+	b	.Laes_v7m_return_15293
+.Laes_v7m_return_15293:
 	movs	r1, #0
 	movs	r2, #0
 	movs	r3, #0
@@ -15483,7 +15480,7 @@ aes_v7m.fotsgure_aes_cbc_encrypt:               @ @aes_v7m.fotsgure_aes_cbc_encr
 @ %bb.2:
 	movs	r0, #2
 	add	sp, #124
-	b	.Laes_v7m_return_15474
+	b	.Laes_v7m_return_15471
 	.p2align	2
 .Laes_v7m_BB49_3:                               @ %join.3.i.i
 	movs	r3, #56
@@ -15687,8 +15684,8 @@ aes_v7m.fotsgure_aes_cbc_encrypt:               @ @aes_v7m.fotsgure_aes_cbc_encr
 	str	r0, [r7]
 	movs	r0, #0
 	add	sp, #124
-	b	.Laes_v7m_return_15474
-.Laes_v7m_return_15474:
+	b	.Laes_v7m_return_15471
+.Laes_v7m_return_15471:
 	movs	r1, #0
 	movs	r2, #0
 	movs	r3, #0
@@ -15724,7 +15721,7 @@ aes_v7m.fotsgure_aes_cbc_decrypt:               @ @aes_v7m.fotsgure_aes_cbc_decr
 	movs	r4, #2
 	mov	r0, r4
 	add	sp, #44
-	b	.Laes_v7m_return_15715
+	b	.Laes_v7m_return_15712
 	.p2align	2
 .Laes_v7m_BB50_3:                               @ %join.3.i.i
 	cmp	r2, #0
@@ -15762,8 +15759,8 @@ aes_v7m.fotsgure_aes_cbc_decrypt:               @ @aes_v7m.fotsgure_aes_cbc_decr
 	str	r0, [r5]
 	mov	r0, r4
 	add	sp, #44
-	b	.Laes_v7m_return_15715
-.Laes_v7m_return_15715:
+	b	.Laes_v7m_return_15712
+.Laes_v7m_return_15712:
 	movs	r1, #0
 	movs	r2, #0
 	movs	r3, #0
@@ -15798,7 +15795,7 @@ aes_v7m.fotsgure_aes_wrap:                      @ @aes_v7m.fotsgure_aes_wrap
 @ %bb.2:
 	movs	r0, #2
 	add	sp, #32
-	b	.Laes_v7m_return_15789
+	b	.Laes_v7m_return_15786
 	.p2align	2
 .Laes_v7m_BB51_3:                               @ %join.3.i.i
 	cmp	r3, #0
@@ -15830,8 +15827,8 @@ aes_v7m.fotsgure_aes_wrap:                      @ @aes_v7m.fotsgure_aes_wrap
 	it	ne
 	movne	r0, #5
 	add	sp, #32
-	b	.Laes_v7m_return_15789
-.Laes_v7m_return_15789:
+	b	.Laes_v7m_return_15786
+.Laes_v7m_return_15786:
 	movs	r1, #0
 	movs	r2, #0
 	movs	r3, #0
@@ -15866,7 +15863,7 @@ aes_v7m.fotsgure_aes_unwrap:                    @ @aes_v7m.fotsgure_aes_unwrap
 @ %bb.2:
 	movs	r0, #2
 	add	sp, #32
-	b	.Laes_v7m_return_15857
+	b	.Laes_v7m_return_15854
 	.p2align	2
 .Laes_v7m_BB52_3:                               @ %join.3.i.i
 	cmp	r3, #0
@@ -15902,8 +15899,8 @@ aes_v7m.fotsgure_aes_unwrap:                    @ @aes_v7m.fotsgure_aes_unwrap
 	it	eq
 	moveq	r0, r5
 	add	sp, #32
-	b	.Laes_v7m_return_15857
-.Laes_v7m_return_15857:
+	b	.Laes_v7m_return_15854
+.Laes_v7m_return_15854:
 	movs	r1, #0
 	movs	r2, #0
 	movs	r3, #0
@@ -15938,7 +15935,7 @@ aes_v7m.fotsgure_aes_wrap_padded:               @ @aes_v7m.fotsgure_aes_wrap_pad
 @ %bb.2:
 	movs	r0, #2
 	add	sp, #32
-	b	.Laes_v7m_return_15929
+	b	.Laes_v7m_return_15926
 	.p2align	2
 .Laes_v7m_BB53_3:                               @ %join.3.i.i
 	cmp	r3, #0
@@ -15970,8 +15967,8 @@ aes_v7m.fotsgure_aes_wrap_padded:               @ @aes_v7m.fotsgure_aes_wrap_pad
 	it	ne
 	movne	r0, #5
 	add	sp, #32
-	b	.Laes_v7m_return_15929
-.Laes_v7m_return_15929:
+	b	.Laes_v7m_return_15926
+.Laes_v7m_return_15926:
 	movs	r1, #0
 	movs	r2, #0
 	movs	r3, #0
@@ -16011,7 +16008,7 @@ aes_v7m.fotsgure_aes_unwrap_padded:             @ @aes_v7m.fotsgure_aes_unwrap_p
 	movs	r0, #2
 	str.w	r4, [r8]
 	add	sp, #48
-	b	.Laes_v7m_return_16002
+	b	.Laes_v7m_return_15999
 	.p2align	2
 .Laes_v7m_BB54_3:                               @ %join.3.i.i
 	ldr.w	r12, [sp, #72]
@@ -16048,15 +16045,15 @@ aes_v7m.fotsgure_aes_unwrap_padded:             @ @aes_v7m.fotsgure_aes_unwrap_p
 	moveq	r0, #5
 	str.w	r4, [r8]
 	add	sp, #48
-	b	.Laes_v7m_return_16002
+	b	.Laes_v7m_return_15999
 	.p2align	2
 .Laes_v7m_BB54_5:                               @ %arm.4.i.i
 	ldr	r4, [sp, #44]
 	movs	r0, #0
 	str.w	r4, [r8]
 	add	sp, #48
-	b	.Laes_v7m_return_16002
-.Laes_v7m_return_16002:
+	b	.Laes_v7m_return_15999
+.Laes_v7m_return_15999:
 	movs	r1, #0
 	movs	r2, #0
 	movs	r3, #0
@@ -16095,7 +16092,7 @@ aes_v7m.fotsgure_aes_cmac:                      @ @aes_v7m.fotsgure_aes_cmac
 	movs	r5, #2
 	mov	r0, r5
 	add	sp, #40
-	b	.Laes_v7m_return_16086
+	b	.Laes_v7m_return_16083
 	.p2align	2
 .Laes_v7m_BB55_3:                               @ %join.3.i.i
 	cmp	r2, #0
@@ -16124,8 +16121,8 @@ aes_v7m.fotsgure_aes_cmac:                      @ @aes_v7m.fotsgure_aes_cmac
 	bl	aes_v7m.aes_cipher.zeroize.stack.wipe_stack.768
 	mov	r0, r5
 	add	sp, #40
-	b	.Laes_v7m_return_16086
-.Laes_v7m_return_16086:
+	b	.Laes_v7m_return_16083
+.Laes_v7m_return_16083:
 	movs	r1, #0
 	movs	r2, #0
 	movs	r3, #0
@@ -16166,7 +16163,7 @@ aes_v7m.fotsgure_aes_cmac_verify:               @ @aes_v7m.fotsgure_aes_cmac_ver
 @ %bb.2:
 	movs	r0, #2
 	add	sp, #32
-	b	.Laes_v7m_return_16157
+	b	.Laes_v7m_return_16154
 	.p2align	2
 .Laes_v7m_BB56_3:                               @ %join.3.i.i
 	ldr.w	r12, [sp, #48]
@@ -16176,7 +16173,7 @@ aes_v7m.fotsgure_aes_cmac_verify:               @ @aes_v7m.fotsgure_aes_cmac_ver
 @ %bb.4:
 	movs	r0, #7
 	add	sp, #32
-	b	.Laes_v7m_return_16157
+	b	.Laes_v7m_return_16154
 	.p2align	2
 .Laes_v7m_BB56_5:                               @ %after.4.i.i
 	adds	r0, #4
@@ -16201,8 +16198,8 @@ aes_v7m.fotsgure_aes_cmac_verify:               @ @aes_v7m.fotsgure_aes_cmac_ver
 	it	ne
 	movne	r0, #0
 	add	sp, #32
-	b	.Laes_v7m_return_16157
-.Laes_v7m_return_16157:
+	b	.Laes_v7m_return_16154
+.Laes_v7m_return_16154:
 	movs	r1, #0
 	movs	r2, #0
 	movs	r3, #0
@@ -16237,7 +16234,7 @@ aes_v7m.fotsgure_aes_ccm_seal:                  @ @aes_v7m.fotsgure_aes_ccm_seal
 @ %bb.2:
 	movs	r0, #2
 	add	sp, #68
-	b	.Laes_v7m_return_16228
+	b	.Laes_v7m_return_16225
 	.p2align	2
 .Laes_v7m_BB57_3:                               @ %join.3.i.i
 	ldrd	r9, r5, [sp, #104]
@@ -16284,8 +16281,8 @@ aes_v7m.fotsgure_aes_ccm_seal:                  @ @aes_v7m.fotsgure_aes_ccm_seal
 	uxtbne	r0, r4
 	addne	r0, #7
 	add	sp, #68
-	b	.Laes_v7m_return_16228
-.Laes_v7m_return_16228:
+	b	.Laes_v7m_return_16225
+.Laes_v7m_return_16225:
 	movs	r1, #0
 	movs	r2, #0
 	movs	r3, #0
@@ -16320,7 +16317,7 @@ aes_v7m.fotsgure_aes_ccm_open:                  @ @aes_v7m.fotsgure_aes_ccm_open
 @ %bb.2:
 	movs	r0, #2
 	add	sp, #76
-	b	.Laes_v7m_return_16311
+	b	.Laes_v7m_return_16308
 	.p2align	2
 .Laes_v7m_BB58_3:                               @ %join.3.i.i
 	ldrd	r7, r4, [sp, #112]
@@ -16372,13 +16369,13 @@ aes_v7m.fotsgure_aes_ccm_open:                  @ @aes_v7m.fotsgure_aes_ccm_open
 	ldrbeq.w	r0, [sp, #75]
 	addeq	r0, #7
 	add	sp, #76
-	b	.Laes_v7m_return_16311
+	b	.Laes_v7m_return_16308
 	.p2align	2
 .Laes_v7m_BB58_5:
 	mov	r0, r4
 	add	sp, #76
-	b	.Laes_v7m_return_16311
-.Laes_v7m_return_16311:
+	b	.Laes_v7m_return_16308
+.Laes_v7m_return_16308:
 	movs	r1, #0
 	movs	r2, #0
 	movs	r3, #0
@@ -16528,7 +16525,7 @@ aes_v7m.fotsgure_aes_encrypt_blocks_with:       @ @aes_v7m.fotsgure_aes_encrypt_
 	movs	r6, #1
 	mov	r0, r6
 	add	sp, #500
-	b	.Laes_v7m_return_16519
+	b	.Laes_v7m_return_16516
 	.p2align	2
 .Laes_v7m_BB65_3:                               @ %join.3.i.i
 	cmp	r2, #0
@@ -16570,8 +16567,8 @@ aes_v7m.fotsgure_aes_encrypt_blocks_with:       @ @aes_v7m.fotsgure_aes_encrypt_
 	bl	aes_v7m.aes_cipher.zeroize.elements.zeroize_elements.1
 	mov	r0, r6
 	add	sp, #500
-	b	.Laes_v7m_return_16519
-.Laes_v7m_return_16519:
+	b	.Laes_v7m_return_16516
+.Laes_v7m_return_16516:
 	movs	r1, #0
 	movs	r2, #0
 	movs	r3, #0
@@ -16614,7 +16611,7 @@ aes_v7m.fotsgure_aes_decrypt_blocks_with:       @ @aes_v7m.fotsgure_aes_decrypt_
 	movs	r6, #1
 	mov	r0, r6
 	add	sp, #500
-	b	.Laes_v7m_return_16605
+	b	.Laes_v7m_return_16602
 	.p2align	2
 .Laes_v7m_BB66_3:                               @ %join.3.i.i
 	add	r1, sp, #16
@@ -16663,8 +16660,8 @@ aes_v7m.fotsgure_aes_decrypt_blocks_with:       @ @aes_v7m.fotsgure_aes_decrypt_
 	bl	aes_v7m.aes_cipher.zeroize.elements.zeroize_elements.1
 	mov	r0, r6
 	add	sp, #500
-	b	.Laes_v7m_return_16605
-.Laes_v7m_return_16605:
+	b	.Laes_v7m_return_16602
+.Laes_v7m_return_16602:
 	movs	r1, #0
 	movs	r2, #0
 	movs	r3, #0
@@ -16705,7 +16702,7 @@ aes_v7m.fotsgure_aes_add_keystream_with:        @ @aes_v7m.fotsgure_aes_add_keys
 	movs	r4, #1
 	mov	r0, r4
 	add.w	sp, sp, #524
-	b	.Laes_v7m_return_16696
+	b	.Laes_v7m_return_16693
 	.p2align	2
 .Laes_v7m_BB67_3:                               @ %join.3.i.i
 	ldr.w	r9, [sp, #560]
@@ -16719,7 +16716,7 @@ aes_v7m.fotsgure_aes_add_keystream_with:        @ @aes_v7m.fotsgure_aes_add_keys
 	movs	r4, #4
 	mov	r0, r4
 	add.w	sp, sp, #524
-	b	.Laes_v7m_return_16696
+	b	.Laes_v7m_return_16693
 	.p2align	2
 .Laes_v7m_BB67_5:                               @ %join.6.i.i
 	movs	r5, #56
@@ -16761,8 +16758,8 @@ aes_v7m.fotsgure_aes_add_keystream_with:        @ @aes_v7m.fotsgure_aes_add_keys
 	bl	aes_v7m.aes_cipher.zeroize.elements.zeroize_elements.1
 	mov	r0, r4
 	add.w	sp, sp, #524
-	b	.Laes_v7m_return_16696
-.Laes_v7m_return_16696:
+	b	.Laes_v7m_return_16693
+.Laes_v7m_return_16693:
 	movs	r1, #0
 	movs	r2, #0
 	movs	r3, #0

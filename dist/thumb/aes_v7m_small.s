@@ -3818,7 +3818,6 @@ aes_v7m_small.cmac.tags.is_tag_start: @ @aes_v7m_small.cmac.tags.is_tag_start
 	mov	r0, r7
 	mov	r1, r6
 	bl	aes_v7m_small.aes_cipher.blocks.difference
-	uxtb	r0, r0
 	clz	r0, r0
 	lsrs	r0, r0, #5
 	add	sp, #44
@@ -4173,8 +4172,8 @@ aes_v7m_small.aes_cipher.zeroize.stack.wipe_stack.512: @ @aes_v7m_small.aes_ciph
 	@APP
 	@NO_APP
 	add.w	sp, sp, #520
-	b	.Laes_v7m_small_return_4164
-.Laes_v7m_small_return_4164:
+	b	.Laes_v7m_small_return_4163
+.Laes_v7m_small_return_4163:
 	movs	r1, #0
 	movs	r2, #0
 	movs	r3, #0
@@ -6482,9 +6481,8 @@ aes_v7m_small.key_wrap.wrapping.unwrap: @ @aes_v7m_small.key_wrap.wrapping.unwra
 	add	r0, sp, #40
 	strd	r9, r10, [sp, #40]
 	bl	aes_v7m_small.aes_cipher.blocks.difference
-	lsls	r0, r0, #24
 	mov.w	r6, #0
-	beq	.Laes_v7m_small_BB57_18
+	cbz	r0, .Laes_v7m_small_BB57_18
 @ %bb.17:                               @ %loop.5.preheader.i
 	subs.w	r4, r11, #1
 	sbc	r0, r8, #0
@@ -7382,7 +7380,7 @@ aes_v7m_small.aes_c.stream.fotsgure_aes_add_keystream: @ @aes_v7m_small.aes_c.st
 @ %bb.1:
 	movs	r0, #4
 	add	sp, #84
-	b	.Laes_v7m_small_return_7373
+	b	.Laes_v7m_small_return_7371
 .Laes_v7m_small_BB66_2:                               @ %join.3.i
 	ldr	r7, [r0]
 	mov	r1, r0
@@ -7449,8 +7447,8 @@ aes_v7m_small.aes_c.stream.fotsgure_aes_add_keystream: @ @aes_v7m_small.aes_c.st
 	movs	r0, #0
 .Laes_v7m_small_BB66_8:                               @ %join.3
 	add	sp, #84
-	b	.Laes_v7m_small_return_7373
-.Laes_v7m_small_return_7373:
+	b	.Laes_v7m_small_return_7371
+.Laes_v7m_small_return_7371:
 	movs	r1, #0
 	movs	r2, #0
 	movs	r3, #0
@@ -7922,8 +7920,7 @@ aes_v7m_small.ccm.mode.decrypt: @ @aes_v7m_small.ccm.mode.decrypt
 	mov	r0, r7
 	mov	r1, r5
 	bl	aes_v7m_small.aes_cipher.blocks.difference
-	lsls	r0, r0, #24
-	beq	.Laes_v7m_small_BB69_14
+	cbz	r0, .Laes_v7m_small_BB69_14
 @ %bb.12:                               @ %join.7
 	ldr	r1, [sp, #52]                   @ 4-byte Reload
 	movs	r6, #0
@@ -8405,8 +8402,8 @@ aes_v7m_small.fotsgure_aes_version:                   @ @aes_v7m_small.fotsgure_
 	.fnstart
 @ %bb.0:
 	mov.w	r0, #400
-	b	.Laes_v7m_small_return_8396
-.Laes_v7m_small_return_8396:
+	b	.Laes_v7m_small_return_8393
+.Laes_v7m_small_return_8393:
 	movs	r1, #0
 	movs	r2, #0
 	movs	r3, #0
@@ -8440,7 +8437,7 @@ aes_v7m_small.fotsgure_aes_set_key:                   @ @aes_v7m_small.fotsgure_
 	mov.w	r2, #484
 	bl	memset
 	movs	r0, #1
-	b	.Laes_v7m_small_return_8431
+	b	.Laes_v7m_small_return_8428
 .Laes_v7m_small_BB73_3:                               @ %join.3.i.i
 	cmp	r1, #0
 	it	eq
@@ -8461,8 +8458,8 @@ aes_v7m_small.fotsgure_aes_set_key:                   @ @aes_v7m_small.fotsgure_
 	bl	aes_v7m_small.aes_cipher.zeroize.stack.wipe_stack.768
 	mov	r0, r5
 	str	r4, [r6]
-	b	.Laes_v7m_small_return_8431
-.Laes_v7m_small_return_8431:
+	b	.Laes_v7m_small_return_8428
+.Laes_v7m_small_return_8428:
 	movs	r1, #0
 	movs	r2, #0
 	movs	r3, #0
@@ -8492,8 +8489,8 @@ aes_v7m_small.fotsgure_aes_key_length:                @ @aes_v7m_small.fotsgure_
 	cmp	r1, #32
 	it	eq
 	moveq	r0, r1
-	b	.Laes_v7m_small_return_8483
-.Laes_v7m_small_return_8483:
+	b	.Laes_v7m_small_return_8480
+.Laes_v7m_small_return_8480:
 	movs	r1, #0
 	movs	r2, #0
 	movs	r3, #0
@@ -8568,8 +8565,8 @@ aes_v7m_small.fotsgure_aes_encrypt_blocks:            @ @aes_v7m_small.fotsgure_
 .Laes_v7m_small_BB76_4:                               @ %wide_fotsgure_aes_encrypt_blocks.exit
 	mov	r0, r4
 	add	sp, #16
-	b	.Laes_v7m_small_return_8559
-.Laes_v7m_small_return_8559:
+	b	.Laes_v7m_small_return_8556
+.Laes_v7m_small_return_8556:
 	movs	r1, #0
 	movs	r2, #0
 	movs	r3, #0
@@ -8622,8 +8619,8 @@ aes_v7m_small.fotsgure_aes_decrypt_blocks:            @ @aes_v7m_small.fotsgure_
 .Laes_v7m_small_BB77_4:                               @ %wide_fotsgure_aes_decrypt_blocks.exit
 	mov	r0, r4
 	add	sp, #16
-	b	.Laes_v7m_small_return_8613
-.Laes_v7m_small_return_8613:
+	b	.Laes_v7m_small_return_8610
+.Laes_v7m_small_return_8610:
 	movs	r1, #0
 	movs	r2, #0
 	movs	r3, #0
@@ -8821,8 +8818,8 @@ aes_v7m_small.fotsgure_aes_encrypt_blocks_to:         @ @aes_v7m_small.fotsgure_
 .Laes_v7m_small_BB78_15:                              @ %wide_fotsgure_aes_encrypt_blocks_to.exit
 	mov	r0, r5
 	add	sp, #20
-	b	.Laes_v7m_small_return_8812
-.Laes_v7m_small_return_8812:
+	b	.Laes_v7m_small_return_8809
+.Laes_v7m_small_return_8809:
 	movs	r1, #0
 	movs	r2, #0
 	movs	r3, #0
@@ -9020,8 +9017,8 @@ aes_v7m_small.fotsgure_aes_decrypt_blocks_to:         @ @aes_v7m_small.fotsgure_
 .Laes_v7m_small_BB79_15:                              @ %wide_fotsgure_aes_decrypt_blocks_to.exit
 	mov	r0, r5
 	add	sp, #20
-	b	.Laes_v7m_small_return_9011
-.Laes_v7m_small_return_9011:
+	b	.Laes_v7m_small_return_9008
+.Laes_v7m_small_return_9008:
 	movs	r1, #0
 	movs	r2, #0
 	movs	r3, #0
@@ -9053,8 +9050,8 @@ aes_v7m_small.fotsgure_aes_add_keystream:             @ @aes_v7m_small.fotsgure_
 	strd	r3, r12, [sp]
 	bl	aes_v7m_small.aes_c.stream.fotsgure_aes_add_keystream
 	add	sp, #8
-	b	.Laes_v7m_small_return_9044
-.Laes_v7m_small_return_9044:
+	b	.Laes_v7m_small_return_9041
+.Laes_v7m_small_return_9041:
 	movs	r1, #0
 	movs	r2, #0
 	movs	r3, #0
@@ -9103,7 +9100,7 @@ aes_v7m_small.fotsgure_aes_add_keystream_to:          @ @aes_v7m_small.fotsgure_
 .Laes_v7m_small_BB81_4:                               @ %wide_fotsgure_aes_add_keystream_to.exit
 	mov	r0, r12
 	add	sp, #4
-	b	.Laes_v7m_small_return_9094
+	b	.Laes_v7m_small_return_9091
 .Laes_v7m_small_BB81_5:                               @ %join.3.i.i.i
 	ldr	r7, [r0]
 	mov.w	r12, #2
@@ -9192,7 +9189,7 @@ aes_v7m_small.fotsgure_aes_add_keystream_to:          @ @aes_v7m_small.fotsgure_
 	add	sp, #4
 	pop.w	{r4, r5, r6, r7, r8, r9, lr}
 	b	aes_v7m_small.aes_c.stream.fotsgure_aes_add_keystream
-.Laes_v7m_small_return_9094:
+.Laes_v7m_small_return_9091:
 	movs	r1, #0
 	movs	r2, #0
 	movs	r3, #0
@@ -9232,7 +9229,7 @@ aes_v7m_small.fotsgure_aes_cbc_encrypt:               @ @aes_v7m_small.fotsgure_
 @ %bb.2:
 	movs	r0, #2
 	add	sp, #124
-	b	.Laes_v7m_small_return_9223
+	b	.Laes_v7m_small_return_9220
 .Laes_v7m_small_BB82_3:                               @ %join.3.i.i
 	movs	r3, #56
 	lsrs	r2, r7, #31
@@ -9435,8 +9432,8 @@ aes_v7m_small.fotsgure_aes_cbc_encrypt:               @ @aes_v7m_small.fotsgure_
 	str	r0, [r7]
 	movs	r0, #0
 	add	sp, #124
-	b	.Laes_v7m_small_return_9223
-.Laes_v7m_small_return_9223:
+	b	.Laes_v7m_small_return_9220
+.Laes_v7m_small_return_9220:
 	movs	r1, #0
 	movs	r2, #0
 	movs	r3, #0
@@ -9508,8 +9505,8 @@ aes_v7m_small.fotsgure_aes_cbc_decrypt:               @ @aes_v7m_small.fotsgure_
 .Laes_v7m_small_BB83_4:                               @ %wide_fotsgure_aes_cbc_decrypt.exit
 	mov	r0, r4
 	add	sp, #44
-	b	.Laes_v7m_small_return_9499
-.Laes_v7m_small_return_9499:
+	b	.Laes_v7m_small_return_9496
+.Laes_v7m_small_return_9496:
 	movs	r1, #0
 	movs	r2, #0
 	movs	r3, #0
@@ -9544,7 +9541,7 @@ aes_v7m_small.fotsgure_aes_wrap:                      @ @aes_v7m_small.fotsgure_
 @ %bb.2:
 	movs	r0, #2
 	add	sp, #32
-	b	.Laes_v7m_small_return_9535
+	b	.Laes_v7m_small_return_9532
 .Laes_v7m_small_BB84_3:                               @ %join.3.i.i
 	cmp	r3, #0
 	ldr.w	lr, [sp, #48]
@@ -9575,8 +9572,8 @@ aes_v7m_small.fotsgure_aes_wrap:                      @ @aes_v7m_small.fotsgure_
 	it	ne
 	movne	r0, #5
 	add	sp, #32
-	b	.Laes_v7m_small_return_9535
-.Laes_v7m_small_return_9535:
+	b	.Laes_v7m_small_return_9532
+.Laes_v7m_small_return_9532:
 	movs	r1, #0
 	movs	r2, #0
 	movs	r3, #0
@@ -9611,7 +9608,7 @@ aes_v7m_small.fotsgure_aes_unwrap:                    @ @aes_v7m_small.fotsgure_
 @ %bb.2:
 	movs	r0, #2
 	add	sp, #32
-	b	.Laes_v7m_small_return_9602
+	b	.Laes_v7m_small_return_9599
 .Laes_v7m_small_BB85_3:                               @ %join.3.i.i
 	cmp	r3, #0
 	ldr.w	lr, [sp, #48]
@@ -9646,8 +9643,8 @@ aes_v7m_small.fotsgure_aes_unwrap:                    @ @aes_v7m_small.fotsgure_
 	it	eq
 	moveq	r0, r5
 	add	sp, #32
-	b	.Laes_v7m_small_return_9602
-.Laes_v7m_small_return_9602:
+	b	.Laes_v7m_small_return_9599
+.Laes_v7m_small_return_9599:
 	movs	r1, #0
 	movs	r2, #0
 	movs	r3, #0
@@ -9682,7 +9679,7 @@ aes_v7m_small.fotsgure_aes_wrap_padded:               @ @aes_v7m_small.fotsgure_
 @ %bb.2:
 	movs	r0, #2
 	add	sp, #32
-	b	.Laes_v7m_small_return_9673
+	b	.Laes_v7m_small_return_9670
 .Laes_v7m_small_BB86_3:                               @ %join.3.i.i
 	cmp	r3, #0
 	ldr.w	lr, [sp, #48]
@@ -9713,8 +9710,8 @@ aes_v7m_small.fotsgure_aes_wrap_padded:               @ @aes_v7m_small.fotsgure_
 	it	ne
 	movne	r0, #5
 	add	sp, #32
-	b	.Laes_v7m_small_return_9673
-.Laes_v7m_small_return_9673:
+	b	.Laes_v7m_small_return_9670
+.Laes_v7m_small_return_9670:
 	movs	r1, #0
 	movs	r2, #0
 	movs	r3, #0
@@ -9793,8 +9790,8 @@ aes_v7m_small.fotsgure_aes_unwrap_padded:             @ @aes_v7m_small.fotsgure_
 .Laes_v7m_small_BB87_6:                               @ %wide_fotsgure_aes_unwrap_padded.exit
 	str.w	r4, [r8]
 	add	sp, #48
-	b	.Laes_v7m_small_return_9784
-.Laes_v7m_small_return_9784:
+	b	.Laes_v7m_small_return_9781
+.Laes_v7m_small_return_9781:
 	movs	r1, #0
 	movs	r2, #0
 	movs	r3, #0
@@ -9860,8 +9857,8 @@ aes_v7m_small.fotsgure_aes_cmac:                      @ @aes_v7m_small.fotsgure_
 .Laes_v7m_small_BB88_4:                               @ %wide_fotsgure_aes_cmac.exit
 	mov	r0, r5
 	add	sp, #40
-	b	.Laes_v7m_small_return_9851
-.Laes_v7m_small_return_9851:
+	b	.Laes_v7m_small_return_9848
+.Laes_v7m_small_return_9848:
 	movs	r1, #0
 	movs	r2, #0
 	movs	r3, #0
@@ -9902,7 +9899,7 @@ aes_v7m_small.fotsgure_aes_cmac_verify:               @ @aes_v7m_small.fotsgure_
 @ %bb.2:
 	movs	r0, #2
 	add	sp, #32
-	b	.Laes_v7m_small_return_9893
+	b	.Laes_v7m_small_return_9890
 .Laes_v7m_small_BB89_3:                               @ %join.3.i.i
 	ldr.w	r12, [sp, #48]
 	sub.w	r4, r12, #17
@@ -9911,7 +9908,7 @@ aes_v7m_small.fotsgure_aes_cmac_verify:               @ @aes_v7m_small.fotsgure_
 @ %bb.4:
 	movs	r0, #7
 	add	sp, #32
-	b	.Laes_v7m_small_return_9893
+	b	.Laes_v7m_small_return_9890
 .Laes_v7m_small_BB89_5:                               @ %after.4.i.i
 	adds	r0, #4
 	movs	r5, #56
@@ -9935,8 +9932,8 @@ aes_v7m_small.fotsgure_aes_cmac_verify:               @ @aes_v7m_small.fotsgure_
 	it	ne
 	movne	r0, #0
 	add	sp, #32
-	b	.Laes_v7m_small_return_9893
-.Laes_v7m_small_return_9893:
+	b	.Laes_v7m_small_return_9890
+.Laes_v7m_small_return_9890:
 	movs	r1, #0
 	movs	r2, #0
 	movs	r3, #0
@@ -9971,7 +9968,7 @@ aes_v7m_small.fotsgure_aes_ccm_seal:                  @ @aes_v7m_small.fotsgure_
 @ %bb.2:
 	movs	r0, #2
 	add	sp, #68
-	b	.Laes_v7m_small_return_9962
+	b	.Laes_v7m_small_return_9959
 .Laes_v7m_small_BB90_3:                               @ %join.3.i.i
 	ldrd	r9, r5, [sp, #104]
 	ldrd	lr, r12, [sp, #96]
@@ -10017,8 +10014,8 @@ aes_v7m_small.fotsgure_aes_ccm_seal:                  @ @aes_v7m_small.fotsgure_
 	uxtbne	r0, r4
 	addne	r0, #7
 	add	sp, #68
-	b	.Laes_v7m_small_return_9962
-.Laes_v7m_small_return_9962:
+	b	.Laes_v7m_small_return_9959
+.Laes_v7m_small_return_9959:
 	movs	r1, #0
 	movs	r2, #0
 	movs	r3, #0
@@ -10053,7 +10050,7 @@ aes_v7m_small.fotsgure_aes_ccm_open:                  @ @aes_v7m_small.fotsgure_
 @ %bb.2:
 	movs	r0, #2
 	add	sp, #76
-	b	.Laes_v7m_small_return_10044
+	b	.Laes_v7m_small_return_10041
 .Laes_v7m_small_BB91_3:                               @ %join.3.i.i
 	ldrd	r7, r4, [sp, #112]
 	ldrd	r8, r12, [sp, #104]
@@ -10104,12 +10101,12 @@ aes_v7m_small.fotsgure_aes_ccm_open:                  @ @aes_v7m_small.fotsgure_
 	ldrbeq.w	r0, [sp, #75]
 	addeq	r0, #7
 	add	sp, #76
-	b	.Laes_v7m_small_return_10044
+	b	.Laes_v7m_small_return_10041
 .Laes_v7m_small_BB91_5:
 	mov	r0, r4
 	add	sp, #76
-	b	.Laes_v7m_small_return_10044
-.Laes_v7m_small_return_10044:
+	b	.Laes_v7m_small_return_10041
+.Laes_v7m_small_return_10041:
 	movs	r1, #0
 	movs	r2, #0
 	movs	r3, #0
@@ -10299,8 +10296,8 @@ aes_v7m_small.fotsgure_aes_encrypt_blocks_with:       @ @aes_v7m_small.fotsgure_
 .Laes_v7m_small_BB98_4:                               @ %wide_fotsgure_aes_encrypt_blocks_with.exit
 	mov	r0, r6
 	add	sp, #500
-	b	.Laes_v7m_small_return_10290
-.Laes_v7m_small_return_10290:
+	b	.Laes_v7m_small_return_10287
+.Laes_v7m_small_return_10287:
 	movs	r1, #0
 	movs	r2, #0
 	movs	r3, #0
@@ -10388,8 +10385,8 @@ aes_v7m_small.fotsgure_aes_decrypt_blocks_with:       @ @aes_v7m_small.fotsgure_
 .Laes_v7m_small_BB99_8:                               @ %wide_fotsgure_aes_decrypt_blocks_with.exit
 	mov	r0, r6
 	add	sp, #500
-	b	.Laes_v7m_small_return_10379
-.Laes_v7m_small_return_10379:
+	b	.Laes_v7m_small_return_10376
+.Laes_v7m_small_return_10376:
 	movs	r1, #0
 	movs	r2, #0
 	movs	r3, #0
@@ -10430,7 +10427,7 @@ aes_v7m_small.fotsgure_aes_add_keystream_with:        @ @aes_v7m_small.fotsgure_
 @ %bb.2:
 	movs	r0, #1
 	add.w	sp, sp, #580
-	b	.Laes_v7m_small_return_10421
+	b	.Laes_v7m_small_return_10418
 .Laes_v7m_small_BB100_3:                              @ %join.3.i.i
 	ldr.w	r10, [sp, #616]
 	ldrd	r2, r7, [r4, #16]
@@ -10442,7 +10439,7 @@ aes_v7m_small.fotsgure_aes_add_keystream_with:        @ @aes_v7m_small.fotsgure_
 @ %bb.4:
 	movs	r0, #4
 	add.w	sp, sp, #580
-	b	.Laes_v7m_small_return_10421
+	b	.Laes_v7m_small_return_10418
 .Laes_v7m_small_BB100_5:                              @ %join.6.i.i
 	add	r2, sp, #44
 	movs	r7, #56
@@ -10516,8 +10513,8 @@ aes_v7m_small.fotsgure_aes_add_keystream_with:        @ @aes_v7m_small.fotsgure_
 	bl	aes_v7m_small.aes_cipher.zeroize.elements.zeroize_elements.1
 	mov	r0, r4
 	add.w	sp, sp, #580
-	b	.Laes_v7m_small_return_10421
-.Laes_v7m_small_return_10421:
+	b	.Laes_v7m_small_return_10418
+.Laes_v7m_small_return_10418:
 	movs	r1, #0
 	movs	r2, #0
 	movs	r3, #0

@@ -5866,7 +5866,6 @@ gcm_v7m.gcm.mode.is_expected:               @ @gcm_v7m.gcm.mode.is_expected
 	.save	{r7, lr}
 	push	{r7, lr}
 	bl	gcm_v7m.aes_cipher.blocks.difference
-	uxtb	r0, r0
 	clz	r0, r0
 	lsrs	r0, r0, #5
 	pop	{r7, pc}
@@ -7751,8 +7750,7 @@ gcm_v7m.gcm_siv.message.open: @ @gcm_v7m.gcm_siv.message.open
 	mov	r4, r0
 	mov	r0, r7
 	bl	gcm_v7m.aes_cipher.zeroize.elements.zeroize_elements.4
-	lsls	r0, r4, #24
-	beq	.Lgcm_v7m_BB31_2
+	cbz	r4, .Lgcm_v7m_BB31_2
 @ %bb.1:                                @ %join.3
 	ldrd	r7, r3, [sp, #96]
 	mov	r0, r6
@@ -7761,8 +7759,7 @@ gcm_v7m.gcm_siv.message.open: @ @gcm_v7m.gcm_siv.message.open
 	strd	r7, r3, [sp]
 	bl	gcm_v7m.gcm_siv.message.apply
 .Lgcm_v7m_BB31_2:                               @ %common.ret
-	uxtb	r0, r4
-	clz	r0, r0
+	clz	r0, r4
 	lsrs	r0, r0, #5
 	add	sp, #44
 	pop.w	{r4, r5, r6, r7, r8, r9, r10, r11, pc}
@@ -9452,8 +9449,8 @@ gcm_v7m.fotsgure_gcm_version:                   @ @gcm_v7m.fotsgure_gcm_version
 	.fnstart
 @ %bb.0:
 	mov.w	r0, #400
-	b	.Lgcm_v7m_return_9443
-.Lgcm_v7m_return_9443:
+	b	.Lgcm_v7m_return_9440
+.Lgcm_v7m_return_9440:
 	movs	r1, #0
 	movs	r2, #0
 	movs	r3, #0
@@ -9491,7 +9488,7 @@ gcm_v7m.fotsgure_gcm_set_key:                   @ @gcm_v7m.fotsgure_gcm_set_key
 	movs	r5, #1
 	mov	r0, r5
 	add	sp, #8
-	b	.Lgcm_v7m_return_9482
+	b	.Lgcm_v7m_return_9479
 	.p2align	2
 .Lgcm_v7m_BB43_3:                               @ %join.3.i.i
 	cmp	r1, #0
@@ -9525,8 +9522,8 @@ gcm_v7m.fotsgure_gcm_set_key:                   @ @gcm_v7m.fotsgure_gcm_set_key
 	bl	gcm_v7m.aes_cipher.zeroize.stack.wipe_stack.512
 	mov	r0, r5
 	add	sp, #8
-	b	.Lgcm_v7m_return_9482
-.Lgcm_v7m_return_9482:
+	b	.Lgcm_v7m_return_9479
+.Lgcm_v7m_return_9479:
 	movs	r1, #0
 	movs	r2, #0
 	movs	r3, #0
@@ -9574,7 +9571,7 @@ gcm_v7m.fotsgure_gcm_set_key_of:                @ @gcm_v7m.fotsgure_gcm_set_key_
 	bl	gcm_v7m.aes_cipher.zeroize.elements.zeroize_elements.1
 	movs	r0, #2
 	add	sp, #8
-	b	.Lgcm_v7m_return_9565
+	b	.Lgcm_v7m_return_9562
 	.p2align	2
 .Lgcm_v7m_BB44_3:                               @ %join.3.i.i
 	mov	r4, r0
@@ -9595,8 +9592,8 @@ gcm_v7m.fotsgure_gcm_set_key_of:                @ @gcm_v7m.fotsgure_gcm_set_key_
 	bl	gcm_v7m.aes_cipher.zeroize.stack.wipe_stack.512
 	movs	r0, #0
 	add	sp, #8
-	b	.Lgcm_v7m_return_9565
-.Lgcm_v7m_return_9565:
+	b	.Lgcm_v7m_return_9562
+.Lgcm_v7m_return_9562:
 	movs	r1, #0
 	movs	r2, #0
 	movs	r3, #0
@@ -9626,8 +9623,8 @@ gcm_v7m.fotsgure_gcm_key_length:                @ @gcm_v7m.fotsgure_gcm_key_leng
 	cmp	r1, #32
 	it	eq
 	moveq	r0, r1
-	b	.Lgcm_v7m_return_9617
-.Lgcm_v7m_return_9617:
+	b	.Lgcm_v7m_return_9614
+.Lgcm_v7m_return_9614:
 	movs	r1, #0
 	movs	r2, #0
 	movs	r3, #0
@@ -9701,8 +9698,8 @@ gcm_v7m.fotsgure_gcm_seal:                      @ @gcm_v7m.fotsgure_gcm_seal
 	str.w	r12, [sp, #8]
 	bl	gcm_v7m.gcm_c.whole.fotsgure_gcm_seal
 	add	sp, #40
-	b	.Lgcm_v7m_return_9692
-.Lgcm_v7m_return_9692:
+	b	.Lgcm_v7m_return_9689
+.Lgcm_v7m_return_9689:
 	movs	r1, #0
 	movs	r2, #0
 	movs	r3, #0
@@ -9782,13 +9779,13 @@ gcm_v7m.fotsgure_gcm_seal_to:                   @ @gcm_v7m.fotsgure_gcm_seal_to
 .Lgcm_v7m_BB48_8:                               @ %wide_fotsgure_gcm_seal_to.exit
 	mov	r0, r6
 	add	sp, #44
-	b	.Lgcm_v7m_return_9773
+	b	.Lgcm_v7m_return_9770
 	.p2align	2
 .Lgcm_v7m_BB48_9:
 	movs	r6, #3
 	mov	r0, r6
 	add	sp, #44
-	b	.Lgcm_v7m_return_9773
+	b	.Lgcm_v7m_return_9770
 	.p2align	2
 .Lgcm_v7m_BB48_10:                              @ %apart.2.i.i.i.i.i.i.i.i
 	mov	r6, r0
@@ -9855,8 +9852,8 @@ gcm_v7m.fotsgure_gcm_seal_to:                   @ @gcm_v7m.fotsgure_gcm_seal_to
 	str	r7, [sp]
 	bl	gcm_v7m.gcm_c.whole.fotsgure_gcm_seal
 	add	sp, #44
-	b	.Lgcm_v7m_return_9773
-.Lgcm_v7m_return_9773:
+	b	.Lgcm_v7m_return_9770
+.Lgcm_v7m_return_9770:
 	movs	r1, #0
 	movs	r2, #0
 	movs	r3, #0
@@ -9912,12 +9909,12 @@ gcm_v7m.fotsgure_gcm_seal_next:                 @ @gcm_v7m.fotsgure_gcm_seal_nex
 	cbz	r0, .Lgcm_v7m_BB49_4
 @ %bb.2:                                @ %wide_fotsgure_gcm_seal_next.exit
 	add	sp, #40
-	b	.Lgcm_v7m_return_9903
+	b	.Lgcm_v7m_return_9900
 	.p2align	2
 .Lgcm_v7m_BB49_3:
 	movs	r0, #7
 	add	sp, #40
-	b	.Lgcm_v7m_return_9903
+	b	.Lgcm_v7m_return_9900
 	.p2align	2
 .Lgcm_v7m_BB49_4:                               @ %then.4.i.i
 	ldr	r1, [r5, #8]
@@ -9959,8 +9956,8 @@ gcm_v7m.fotsgure_gcm_seal_next:                 @ @gcm_v7m.fotsgure_gcm_seal_nex
 	str	r3, [r4, #4]
 	str	r1, [r4, #8]
 	add	sp, #40
-	b	.Lgcm_v7m_return_9903
-.Lgcm_v7m_return_9903:
+	b	.Lgcm_v7m_return_9900
+.Lgcm_v7m_return_9900:
 	movs	r1, #0
 	movs	r2, #0
 	movs	r3, #0
@@ -10075,13 +10072,13 @@ gcm_v7m.fotsgure_gcm_open:                      @ @gcm_v7m.fotsgure_gcm_open
 .Lgcm_v7m_BB50_7:                               @ %wide_fotsgure_gcm_open.exit
 	mov	r0, r4
 	add	sp, #108
-	b	.Lgcm_v7m_return_10066
+	b	.Lgcm_v7m_return_10063
 	.p2align	2
 .Lgcm_v7m_BB50_8:
 	movs	r4, #3
 	mov	r0, r4
 	add	sp, #108
-	b	.Lgcm_v7m_return_10066
+	b	.Lgcm_v7m_return_10063
 	.p2align	2
 .Lgcm_v7m_BB50_9:
 	movs	r4, #6
@@ -10091,8 +10088,8 @@ gcm_v7m.fotsgure_gcm_open:                      @ @gcm_v7m.fotsgure_gcm_open
 	bl	gcm_v7m.aes_cipher.zeroize.stack.wipe_stack.1536
 	mov	r0, r4
 	add	sp, #108
-	b	.Lgcm_v7m_return_10066
-.Lgcm_v7m_return_10066:
+	b	.Lgcm_v7m_return_10063
+.Lgcm_v7m_return_10063:
 	movs	r1, #0
 	movs	r2, #0
 	movs	r3, #0
@@ -10218,19 +10215,19 @@ gcm_v7m.fotsgure_gcm_open_to:                   @ @gcm_v7m.fotsgure_gcm_open_to
 .Lgcm_v7m_BB51_10:                              @ %wide_fotsgure_gcm_open_to.exit
 	mov	r0, r5
 	add	sp, #108
-	b	.Lgcm_v7m_return_10209
+	b	.Lgcm_v7m_return_10206
 	.p2align	2
 .Lgcm_v7m_BB51_11:
 	movs	r5, #4
 	mov	r0, r5
 	add	sp, #108
-	b	.Lgcm_v7m_return_10209
+	b	.Lgcm_v7m_return_10206
 	.p2align	2
 .Lgcm_v7m_BB51_12:
 	movs	r5, #3
 	mov	r0, r5
 	add	sp, #108
-	b	.Lgcm_v7m_return_10209
+	b	.Lgcm_v7m_return_10206
 	.p2align	2
 .Lgcm_v7m_BB51_13:                              @ %else.2.i.i.i
 	cmp.w	r11, #0
@@ -10315,8 +10312,8 @@ gcm_v7m.fotsgure_gcm_open_to:                   @ @gcm_v7m.fotsgure_gcm_open_to
 	bl	gcm_v7m.aes_cipher.zeroize.stack.wipe_stack.1536
 	mov	r0, r5
 	add	sp, #108
-	b	.Lgcm_v7m_return_10209
-.Lgcm_v7m_return_10209:
+	b	.Lgcm_v7m_return_10206
+.Lgcm_v7m_return_10206:
 	movs	r1, #0
 	movs	r2, #0
 	movs	r3, #0
@@ -10403,8 +10400,8 @@ gcm_v7m.fotsgure_gcm_begin:                     @ @gcm_v7m.fotsgure_gcm_begin
 	movs	r0, #0
 .Lgcm_v7m_BB52_5:
 	add	sp, #32
-	b	.Lgcm_v7m_return_10394
-.Lgcm_v7m_return_10394:
+	b	.Lgcm_v7m_return_10391
+.Lgcm_v7m_return_10391:
 	movs	r1, #0
 	movs	r2, #0
 	movs	r3, #0
@@ -10481,7 +10478,7 @@ gcm_v7m.fotsgure_gcm_begin_next:                @ @gcm_v7m.fotsgure_gcm_begin_ne
 .Lgcm_v7m_BB53_5:
 	movs	r0, #7
 	add	sp, #56
-	b	.Lgcm_v7m_return_10472
+	b	.Lgcm_v7m_return_10469
 	.p2align	2
 .Lgcm_v7m_BB53_6:                               @ %"gcm::counter::after.exit.i.i.i.i"
 	adds.w	r3, r10, #1
@@ -10532,8 +10529,8 @@ gcm_v7m.fotsgure_gcm_begin_next:                @ @gcm_v7m.fotsgure_gcm_begin_ne
 	str.w	r1, [r8]
 .Lgcm_v7m_BB53_10:                              @ %wide_fotsgure_gcm_begin_next.exit
 	add	sp, #56
-	b	.Lgcm_v7m_return_10472
-.Lgcm_v7m_return_10472:
+	b	.Lgcm_v7m_return_10469
+.Lgcm_v7m_return_10469:
 	movs	r1, #0
 	movs	r2, #0
 	movs	r3, #0
@@ -10609,7 +10606,7 @@ gcm_v7m.fotsgure_gcm_additional:                @ @gcm_v7m.fotsgure_gcm_addition
 @ %bb.5:
 	movs	r0, #5
 	add	sp, #48
-	b	.Lgcm_v7m_return_10600
+	b	.Lgcm_v7m_return_10597
 	.p2align	2
 .Lgcm_v7m_BB54_6:                               @ %arm.4.i.i
 	add	r0, sp, #24
@@ -10635,8 +10632,8 @@ gcm_v7m.fotsgure_gcm_additional:                @ @gcm_v7m.fotsgure_gcm_addition
 	strd	r1, r2, [r4]
 .Lgcm_v7m_BB54_7:                               @ %wide_fotsgure_gcm_additional.exit
 	add	sp, #48
-	b	.Lgcm_v7m_return_10600
-.Lgcm_v7m_return_10600:
+	b	.Lgcm_v7m_return_10597
+.Lgcm_v7m_return_10597:
 	movs	r1, #0
 	movs	r2, #0
 	movs	r3, #0
@@ -10773,7 +10770,7 @@ gcm_v7m.fotsgure_gcm_encrypt:                   @ @gcm_v7m.fotsgure_gcm_encrypt
 .Lgcm_v7m_BB55_6:
 	movs	r0, #8
 	add	sp, #48
-	b	.Lgcm_v7m_return_10764
+	b	.Lgcm_v7m_return_10761
 	.p2align	2
 .Lgcm_v7m_BB55_7:                               @ %"gcm::mode::BorrowedGcm::turn_to::<#8fbcb3568c91fb3e>.exit.i.i.i"
 	cbz	r5, .Lgcm_v7m_BB55_9
@@ -10807,14 +10804,14 @@ gcm_v7m.fotsgure_gcm_encrypt:                   @ @gcm_v7m.fotsgure_gcm_encrypt
 	bl	gcm_v7m.aes_cipher.zeroize.stack.wipe_stack.1536
 	mov	r0, r7
 	add	sp, #48
-	b	.Lgcm_v7m_return_10764
+	b	.Lgcm_v7m_return_10761
 	.p2align	2
 .Lgcm_v7m_BB55_9:
 	movs	r0, #5
 .Lgcm_v7m_BB55_10:                              @ %wide_fotsgure_gcm_encrypt.exit
 	add	sp, #48
-	b	.Lgcm_v7m_return_10764
-.Lgcm_v7m_return_10764:
+	b	.Lgcm_v7m_return_10761
+.Lgcm_v7m_return_10761:
 	movs	r1, #0
 	movs	r2, #0
 	movs	r3, #0
@@ -10889,14 +10886,14 @@ gcm_v7m.fotsgure_gcm_finish:                    @ @gcm_v7m.fotsgure_gcm_finish
 .Lgcm_v7m_BB56_4:                               @ %wide_fotsgure_gcm_finish.exit
 	mov	r0, r2
 	add	sp, #40
-	b	.Lgcm_v7m_return_10880
+	b	.Lgcm_v7m_return_10877
 	.p2align	2
 .Lgcm_v7m_BB56_5:
 	movs	r2, #8
 	mov	r0, r2
 	add	sp, #40
-	b	.Lgcm_v7m_return_10880
-.Lgcm_v7m_return_10880:
+	b	.Lgcm_v7m_return_10877
+.Lgcm_v7m_return_10877:
 	movs	r1, #0
 	movs	r2, #0
 	movs	r3, #0
@@ -11030,7 +11027,7 @@ gcm_v7m.fotsgure_gcm_verify:                    @ @gcm_v7m.fotsgure_gcm_verify
 .Lgcm_v7m_BB57_6:
 	movs	r0, #8
 	add	sp, #52
-	b	.Lgcm_v7m_return_11021
+	b	.Lgcm_v7m_return_11018
 	.p2align	2
 .Lgcm_v7m_BB57_7:                               @ %"gcm::mode::BorrowedGcm::turn_to::<#8fbcb3568c91fb3e>.exit.i.i.i"
 	cbz	r1, .Lgcm_v7m_BB57_9
@@ -11051,14 +11048,14 @@ gcm_v7m.fotsgure_gcm_verify:                    @ @gcm_v7m.fotsgure_gcm_verify
 	bl	gcm_v7m.aes_cipher.zeroize.stack.wipe_stack.512
 	mov	r0, r5
 	add	sp, #52
-	b	.Lgcm_v7m_return_11021
+	b	.Lgcm_v7m_return_11018
 	.p2align	2
 .Lgcm_v7m_BB57_9:
 	movs	r0, #5
 .Lgcm_v7m_BB57_10:                              @ %wide_fotsgure_gcm_verify.exit
 	add	sp, #52
-	b	.Lgcm_v7m_return_11021
-.Lgcm_v7m_return_11021:
+	b	.Lgcm_v7m_return_11018
+.Lgcm_v7m_return_11018:
 	movs	r1, #0
 	movs	r2, #0
 	movs	r3, #0
@@ -11156,18 +11153,18 @@ gcm_v7m.fotsgure_gcm_accept:                    @ @gcm_v7m.fotsgure_gcm_accept
 	strd	r1, r0, [r6, #24]
 .Lgcm_v7m_BB58_6:
 	add	sp, #56
-	b	.Lgcm_v7m_return_11147
+	b	.Lgcm_v7m_return_11144
 	.p2align	2
 .Lgcm_v7m_BB58_7:
 	movs	r0, #8
 	add	sp, #56
-	b	.Lgcm_v7m_return_11147
+	b	.Lgcm_v7m_return_11144
 	.p2align	2
 .Lgcm_v7m_BB58_8:
 	movs	r0, #6
 	add	sp, #56
-	b	.Lgcm_v7m_return_11147
-.Lgcm_v7m_return_11147:
+	b	.Lgcm_v7m_return_11144
+.Lgcm_v7m_return_11144:
 	movs	r1, #0
 	movs	r2, #0
 	movs	r3, #0
@@ -11285,18 +11282,18 @@ gcm_v7m.fotsgure_gcm_accept_short:              @ @gcm_v7m.fotsgure_gcm_accept_s
 	strd	r1, r0, [r8, #24]
 .Lgcm_v7m_BB59_7:                               @ %wide_fotsgure_gcm_accept_short.exit
 	add	sp, #56
-	b	.Lgcm_v7m_return_11276
+	b	.Lgcm_v7m_return_11273
 	.p2align	2
 .Lgcm_v7m_BB59_8:
 	movs	r0, #8
 	add	sp, #56
-	b	.Lgcm_v7m_return_11276
+	b	.Lgcm_v7m_return_11273
 	.p2align	2
 .Lgcm_v7m_BB59_9:
 	movs	r0, #6
 	add	sp, #56
-	b	.Lgcm_v7m_return_11276
-.Lgcm_v7m_return_11276:
+	b	.Lgcm_v7m_return_11273
+.Lgcm_v7m_return_11273:
 	movs	r1, #0
 	movs	r2, #0
 	movs	r3, #0
@@ -11382,7 +11379,7 @@ gcm_v7m.fotsgure_gcm_decrypt:                   @ @gcm_v7m.fotsgure_gcm_decrypt
 @ %bb.5:
 	movs	r0, #5
 	add	sp, #44
-	b	.Lgcm_v7m_return_11373
+	b	.Lgcm_v7m_return_11370
 	.p2align	2
 .Lgcm_v7m_BB60_6:                               @ %arm.4.i.i
 	adds.w	lr, lr, #16
@@ -11407,8 +11404,8 @@ gcm_v7m.fotsgure_gcm_decrypt:                   @ @gcm_v7m.fotsgure_gcm_decrypt
 	mov	r0, r8
 .Lgcm_v7m_BB60_7:                               @ %wide_fotsgure_gcm_decrypt.exit
 	add	sp, #44
-	b	.Lgcm_v7m_return_11373
-.Lgcm_v7m_return_11373:
+	b	.Lgcm_v7m_return_11370
+.Lgcm_v7m_return_11370:
 	movs	r1, #0
 	movs	r2, #0
 	movs	r3, #0
@@ -11542,7 +11539,7 @@ gcm_v7m.fotsgure_gcm_decrypt_unverified:        @ @gcm_v7m.fotsgure_gcm_decrypt_
 .Lgcm_v7m_BB61_6:
 	movs	r0, #8
 	add	sp, #48
-	b	.Lgcm_v7m_return_11533
+	b	.Lgcm_v7m_return_11530
 	.p2align	2
 .Lgcm_v7m_BB61_7:                               @ %"gcm::mode::BorrowedGcm::turn_to::<#8fbcb3568c91fb3e>.exit.i.i.i"
 	cbz	r1, .Lgcm_v7m_BB61_9
@@ -11572,14 +11569,14 @@ gcm_v7m.fotsgure_gcm_decrypt_unverified:        @ @gcm_v7m.fotsgure_gcm_decrypt_
 	bl	gcm_v7m.aes_cipher.zeroize.stack.wipe_stack.1536
 	mov	r0, r5
 	add	sp, #48
-	b	.Lgcm_v7m_return_11533
+	b	.Lgcm_v7m_return_11530
 	.p2align	2
 .Lgcm_v7m_BB61_9:
 	movs	r0, #5
 .Lgcm_v7m_BB61_10:                              @ %wide_fotsgure_gcm_decrypt_unverified.exit
 	add	sp, #48
-	b	.Lgcm_v7m_return_11533
-.Lgcm_v7m_return_11533:
+	b	.Lgcm_v7m_return_11530
+.Lgcm_v7m_return_11530:
 	movs	r1, #0
 	movs	r2, #0
 	movs	r3, #0
@@ -11651,15 +11648,15 @@ gcm_v7m.fotsgure_gcm_siv_set_key:               @ @gcm_v7m.fotsgure_gcm_siv_set_
 	bl	gcm_v7m.aes_cipher.zeroize.stack.wipe_stack.768
 	mov	r0, r5
 	str	r4, [r6]
-	b	.Lgcm_v7m_return_11642
+	b	.Lgcm_v7m_return_11639
 	.p2align	2
 .Lgcm_v7m_BB63_3:                               @ %then.1.i.i
 	movs	r1, #0
 	mov.w	r2, #484
 	bl	memset
 	movs	r0, #1
-	b	.Lgcm_v7m_return_11642
-.Lgcm_v7m_return_11642:
+	b	.Lgcm_v7m_return_11639
+.Lgcm_v7m_return_11639:
 	movs	r1, #0
 	movs	r2, #0
 	movs	r3, #0
@@ -11720,14 +11717,14 @@ gcm_v7m.fotsgure_gcm_siv_seal:                  @ @gcm_v7m.fotsgure_gcm_siv_seal
 	str	r0, [r5]
 	mov	r0, r4
 	add	sp, #40
-	b	.Lgcm_v7m_return_11711
+	b	.Lgcm_v7m_return_11708
 	.p2align	2
 .Lgcm_v7m_BB64_3:
 	movs	r4, #2
 	mov	r0, r4
 	add	sp, #40
-	b	.Lgcm_v7m_return_11711
-.Lgcm_v7m_return_11711:
+	b	.Lgcm_v7m_return_11708
+.Lgcm_v7m_return_11708:
 	movs	r1, #0
 	movs	r2, #0
 	movs	r3, #0
@@ -11795,7 +11792,7 @@ gcm_v7m.fotsgure_gcm_siv_seal_to:               @ @gcm_v7m.fotsgure_gcm_siv_seal
 .Lgcm_v7m_BB65_6:
 	movs	r0, #10
 	add	sp, #44
-	b	.Lgcm_v7m_return_11786
+	b	.Lgcm_v7m_return_11783
 	.p2align	2
 .Lgcm_v7m_BB65_7:                               @ %apart.2.i.i.i.i.i.i.i.i
 	mov	r8, r2
@@ -11878,13 +11875,13 @@ gcm_v7m.fotsgure_gcm_siv_seal_to:               @ @gcm_v7m.fotsgure_gcm_siv_seal
 	str	r2, [r4, #4]
 	str	r1, [r4]
 	add	sp, #44
-	b	.Lgcm_v7m_return_11786
+	b	.Lgcm_v7m_return_11783
 	.p2align	2
 .Lgcm_v7m_BB65_17:
 	movs	r0, #2
 	add	sp, #44
-	b	.Lgcm_v7m_return_11786
-.Lgcm_v7m_return_11786:
+	b	.Lgcm_v7m_return_11783
+.Lgcm_v7m_return_11783:
 	movs	r1, #0
 	movs	r2, #0
 	movs	r3, #0
@@ -11936,8 +11933,8 @@ gcm_v7m.fotsgure_gcm_siv_open:                  @ @gcm_v7m.fotsgure_gcm_siv_open
 	it	ne
 	movne	r0, #0
 	add	sp, #32
-	b	.Lgcm_v7m_return_11927
-.Lgcm_v7m_return_11927:
+	b	.Lgcm_v7m_return_11924
+.Lgcm_v7m_return_11924:
 	movs	r1, #0
 	movs	r2, #0
 	movs	r3, #0
@@ -12000,7 +11997,7 @@ gcm_v7m.fotsgure_gcm_siv_open_to:               @ @gcm_v7m.fotsgure_gcm_siv_open
 .Lgcm_v7m_BB67_6:
 	movs	r0, #10
 	add	sp, #28
-	b	.Lgcm_v7m_return_11991
+	b	.Lgcm_v7m_return_11988
 	.p2align	2
 .Lgcm_v7m_BB67_7:                               @ %apart.2.i.i.i.i.i.i.i.i
 	mov	r9, r0
@@ -12020,7 +12017,7 @@ gcm_v7m.fotsgure_gcm_siv_open_to:               @ @gcm_v7m.fotsgure_gcm_siv_open
 .Lgcm_v7m_BB67_8:
 	movs	r0, #2
 	add	sp, #28
-	b	.Lgcm_v7m_return_11991
+	b	.Lgcm_v7m_return_11988
 	.p2align	2
 .Lgcm_v7m_BB67_9:                               @ %join.7.i.i.i.i.i.i.i.i.preheader.new
 	bic	lr, r8, #3
@@ -12086,7 +12083,7 @@ gcm_v7m.fotsgure_gcm_siv_open_to:               @ @gcm_v7m.fotsgure_gcm_siv_open
 	bne	.Lgcm_v7m_BB67_21
 .Lgcm_v7m_BB67_19:                              @ %wide_fotsgure_gcm_siv_open_to.exit
 	add	sp, #28
-	b	.Lgcm_v7m_return_11991
+	b	.Lgcm_v7m_return_11988
 	.p2align	2
 .Lgcm_v7m_BB67_20:
 	movs	r0, #2
@@ -12108,8 +12105,8 @@ gcm_v7m.fotsgure_gcm_siv_open_to:               @ @gcm_v7m.fotsgure_gcm_siv_open
 .Lgcm_v7m_BB67_23:                              @ %after.4.i.i.i
 	strb.w	r6, [r10, r5]
 	add	sp, #28
-	b	.Lgcm_v7m_return_11991
-.Lgcm_v7m_return_11991:
+	b	.Lgcm_v7m_return_11988
+.Lgcm_v7m_return_11988:
 	movs	r1, #0
 	movs	r2, #0
 	movs	r3, #0

@@ -3651,7 +3651,6 @@ gcm_v7m_small.gcm.mode.is_expected:               @ @gcm_v7m_small.gcm.mode.is_e
 	.save	{r7, lr}
 	push	{r7, lr}
 	bl	gcm_v7m_small.aes_cipher.blocks.difference
-	uxtb	r0, r0
 	clz	r0, r0
 	lsrs	r0, r0, #5
 	pop	{r7, pc}
@@ -5179,8 +5178,7 @@ gcm_v7m_small.gcm_siv.message.open: @ @gcm_v7m_small.gcm_siv.message.open
 	mov	r5, r0
 	mov	r0, r7
 	bl	gcm_v7m_small.aes_cipher.zeroize.elements.zeroize_elements.4
-	lsls	r0, r5, #24
-	beq	.Lgcm_v7m_small_BB62_7
+	cbz	r5, .Lgcm_v7m_small_BB62_7
 @ %bb.4:                                @ %join.3
 	ldrb	r0, [r6, #15]
 	ldr.w	r3, [r6, #11]
@@ -5219,8 +5217,7 @@ gcm_v7m_small.gcm_siv.message.open: @ @gcm_v7m_small.gcm_siv.message.open
 	bl	gcm_v7m_small.aes_narrow.borrowed_words.call_to_encrypt.2
 	bl	gcm_v7m_small.aes_cipher.zeroize.stack.wipe_stack.2032
 .Lgcm_v7m_small_BB62_7:                               @ %common.ret
-	uxtb	r0, r5
-	clz	r0, r0
+	clz	r0, r5
 	lsrs	r0, r0, #5
 	add	sp, #92
 	pop.w	{r4, r5, r6, r7, r8, r9, r10, r11, pc}
@@ -6393,8 +6390,8 @@ gcm_v7m_small.fotsgure_gcm_version:                   @ @gcm_v7m_small.fotsgure_
 	.fnstart
 @ %bb.0:
 	mov.w	r0, #400
-	b	.Lgcm_v7m_small_return_6384
-.Lgcm_v7m_small_return_6384:
+	b	.Lgcm_v7m_small_return_6381
+.Lgcm_v7m_small_return_6381:
 	movs	r1, #0
 	movs	r2, #0
 	movs	r3, #0
@@ -6463,8 +6460,8 @@ gcm_v7m_small.fotsgure_gcm_set_key:                   @ @gcm_v7m_small.fotsgure_
 .Lgcm_v7m_small_BB76_4:                               @ %wide_fotsgure_gcm_set_key.exit
 	mov	r0, r5
 	add	sp, #16
-	b	.Lgcm_v7m_small_return_6454
-.Lgcm_v7m_small_return_6454:
+	b	.Lgcm_v7m_small_return_6451
+.Lgcm_v7m_small_return_6451:
 	movs	r1, #0
 	movs	r2, #0
 	movs	r3, #0
@@ -6535,8 +6532,8 @@ gcm_v7m_small.fotsgure_gcm_set_key_of:                @ @gcm_v7m_small.fotsgure_
 .Lgcm_v7m_small_BB77_4:                               @ %wide_fotsgure_gcm_set_key_of.exit
 	mov	r0, r4
 	add	sp, #16
-	b	.Lgcm_v7m_small_return_6526
-.Lgcm_v7m_small_return_6526:
+	b	.Lgcm_v7m_small_return_6523
+.Lgcm_v7m_small_return_6523:
 	movs	r1, #0
 	movs	r2, #0
 	movs	r3, #0
@@ -6566,8 +6563,8 @@ gcm_v7m_small.fotsgure_gcm_key_length:                @ @gcm_v7m_small.fotsgure_
 	cmp	r1, #32
 	it	eq
 	moveq	r0, r1
-	b	.Lgcm_v7m_small_return_6557
-.Lgcm_v7m_small_return_6557:
+	b	.Lgcm_v7m_small_return_6554
+.Lgcm_v7m_small_return_6554:
 	movs	r1, #0
 	movs	r2, #0
 	movs	r3, #0
@@ -6641,8 +6638,8 @@ gcm_v7m_small.fotsgure_gcm_seal:                      @ @gcm_v7m_small.fotsgure_
 	str.w	r12, [sp, #8]
 	bl	gcm_v7m_small.gcm_c.whole.fotsgure_gcm_seal
 	add	sp, #40
-	b	.Lgcm_v7m_small_return_6632
-.Lgcm_v7m_small_return_6632:
+	b	.Lgcm_v7m_small_return_6629
+.Lgcm_v7m_small_return_6629:
 	movs	r1, #0
 	movs	r2, #0
 	movs	r3, #0
@@ -6724,7 +6721,7 @@ gcm_v7m_small.fotsgure_gcm_seal_to:                   @ @gcm_v7m_small.fotsgure_
 .Lgcm_v7m_small_BB81_9:                               @ %wide_fotsgure_gcm_seal_to.exit
 	mov	r0, r6
 	add	sp, #44
-	b	.Lgcm_v7m_small_return_6715
+	b	.Lgcm_v7m_small_return_6712
 .Lgcm_v7m_small_BB81_10:                              @ %apart.2.i.i.i.i.i.i.i.i
 	mov	r6, r0
 	mov	r0, r9
@@ -6789,8 +6786,8 @@ gcm_v7m_small.fotsgure_gcm_seal_to:                   @ @gcm_v7m_small.fotsgure_
 	str	r7, [sp]
 	bl	gcm_v7m_small.gcm_c.whole.fotsgure_gcm_seal
 	add	sp, #44
-	b	.Lgcm_v7m_small_return_6715
-.Lgcm_v7m_small_return_6715:
+	b	.Lgcm_v7m_small_return_6712
+.Lgcm_v7m_small_return_6712:
 	movs	r1, #0
 	movs	r2, #0
 	movs	r3, #0
@@ -6849,7 +6846,7 @@ gcm_v7m_small.fotsgure_gcm_seal_next:                 @ @gcm_v7m_small.fotsgure_
 	cbz	r0, .Lgcm_v7m_small_BB82_4
 @ %bb.3:                                @ %wide_fotsgure_gcm_seal_next.exit
 	add	sp, #40
-	b	.Lgcm_v7m_small_return_6840
+	b	.Lgcm_v7m_small_return_6837
 .Lgcm_v7m_small_BB82_4:                               @ %then.4.i.i
 	ldr	r1, [r5, #8]
 	ldr	r2, [r5, #4]
@@ -6871,7 +6868,7 @@ gcm_v7m_small.fotsgure_gcm_seal_next:                 @ @gcm_v7m_small.fotsgure_
 .Lgcm_v7m_small_BB82_6:
 	movs	r0, #7
 	add	sp, #40
-	b	.Lgcm_v7m_small_return_6840
+	b	.Lgcm_v7m_small_return_6837
 .Lgcm_v7m_small_BB82_7:                               @ %"gcm::counter::after.exit.i.i.i"
 	adds	r3, r0, #1
 	beq	.Lgcm_v7m_small_BB82_10
@@ -6890,8 +6887,8 @@ gcm_v7m_small.fotsgure_gcm_seal_next:                 @ @gcm_v7m_small.fotsgure_
 	str.w	r2, [r8, #4]
 	str.w	r1, [r8, #8]
 	add	sp, #40
-	b	.Lgcm_v7m_small_return_6840
-.Lgcm_v7m_small_return_6840:
+	b	.Lgcm_v7m_small_return_6837
+.Lgcm_v7m_small_return_6837:
 	movs	r1, #0
 	movs	r2, #0
 	movs	r3, #0
@@ -7015,8 +7012,8 @@ gcm_v7m_small.fotsgure_gcm_open:                      @ @gcm_v7m_small.fotsgure_
 .Lgcm_v7m_small_BB83_10:                              @ %wide_fotsgure_gcm_open.exit
 	mov	r0, r4
 	add	sp, #108
-	b	.Lgcm_v7m_small_return_7006
-.Lgcm_v7m_small_return_7006:
+	b	.Lgcm_v7m_small_return_7003
+.Lgcm_v7m_small_return_7003:
 	movs	r1, #0
 	movs	r2, #0
 	movs	r3, #0
@@ -7227,8 +7224,8 @@ gcm_v7m_small.fotsgure_gcm_open_to:                   @ @gcm_v7m_small.fotsgure_
 .Lgcm_v7m_small_BB84_26:                              @ %wide_fotsgure_gcm_open_to.exit
 	mov	r0, r5
 	add	sp, #108
-	b	.Lgcm_v7m_small_return_7218
-.Lgcm_v7m_small_return_7218:
+	b	.Lgcm_v7m_small_return_7215
+.Lgcm_v7m_small_return_7215:
 	movs	r1, #0
 	movs	r2, #0
 	movs	r3, #0
@@ -7315,8 +7312,8 @@ gcm_v7m_small.fotsgure_gcm_begin:                     @ @gcm_v7m_small.fotsgure_
 	movs	r0, #0
 .Lgcm_v7m_small_BB85_5:
 	add	sp, #32
-	b	.Lgcm_v7m_small_return_7306
-.Lgcm_v7m_small_return_7306:
+	b	.Lgcm_v7m_small_return_7303
+.Lgcm_v7m_small_return_7303:
 	movs	r1, #0
 	movs	r2, #0
 	movs	r3, #0
@@ -7440,12 +7437,12 @@ gcm_v7m_small.fotsgure_gcm_begin_next:                @ @gcm_v7m_small.fotsgure_
 	str.w	r1, [r8]
 .Lgcm_v7m_small_BB86_10:                              @ %wide_fotsgure_gcm_begin_next.exit
 	add	sp, #56
-	b	.Lgcm_v7m_small_return_7431
+	b	.Lgcm_v7m_small_return_7428
 .Lgcm_v7m_small_BB86_11:
 	movs	r0, #7
 	add	sp, #56
-	b	.Lgcm_v7m_small_return_7431
-.Lgcm_v7m_small_return_7431:
+	b	.Lgcm_v7m_small_return_7428
+.Lgcm_v7m_small_return_7428:
 	movs	r1, #0
 	movs	r2, #0
 	movs	r3, #0
@@ -7521,7 +7518,7 @@ gcm_v7m_small.fotsgure_gcm_additional:                @ @gcm_v7m_small.fotsgure_
 @ %bb.5:
 	movs	r0, #5
 	add	sp, #48
-	b	.Lgcm_v7m_small_return_7512
+	b	.Lgcm_v7m_small_return_7509
 .Lgcm_v7m_small_BB87_6:                               @ %arm.4.i.i
 	add	r0, sp, #24
 	and	r4, r12, #15
@@ -7546,8 +7543,8 @@ gcm_v7m_small.fotsgure_gcm_additional:                @ @gcm_v7m_small.fotsgure_
 	strd	r1, r2, [r4]
 .Lgcm_v7m_small_BB87_7:                               @ %wide_fotsgure_gcm_additional.exit
 	add	sp, #48
-	b	.Lgcm_v7m_small_return_7512
-.Lgcm_v7m_small_return_7512:
+	b	.Lgcm_v7m_small_return_7509
+.Lgcm_v7m_small_return_7509:
 	movs	r1, #0
 	movs	r2, #0
 	movs	r3, #0
@@ -7684,7 +7681,7 @@ gcm_v7m_small.fotsgure_gcm_encrypt:                   @ @gcm_v7m_small.fotsgure_
 .Lgcm_v7m_small_BB88_6:
 	movs	r0, #8
 	add	sp, #52
-	b	.Lgcm_v7m_small_return_7675
+	b	.Lgcm_v7m_small_return_7672
 .Lgcm_v7m_small_BB88_7:                               @ %"gcm::mode::BorrowedGcm::turn_to::<#8fbcb3568c91fb3e>.exit.i.i.i"
 	cbz	r0, .Lgcm_v7m_small_BB88_9
 .Lgcm_v7m_small_BB88_8:                               @ %arm.1.i.i.i
@@ -7717,13 +7714,13 @@ gcm_v7m_small.fotsgure_gcm_encrypt:                   @ @gcm_v7m_small.fotsgure_
 	bl	gcm_v7m_small.aes_cipher.zeroize.stack.wipe_stack.1536
 	mov	r0, r7
 	add	sp, #52
-	b	.Lgcm_v7m_small_return_7675
+	b	.Lgcm_v7m_small_return_7672
 .Lgcm_v7m_small_BB88_9:
 	movs	r0, #5
 .Lgcm_v7m_small_BB88_10:                              @ %wide_fotsgure_gcm_encrypt.exit
 	add	sp, #52
-	b	.Lgcm_v7m_small_return_7675
-.Lgcm_v7m_small_return_7675:
+	b	.Lgcm_v7m_small_return_7672
+.Lgcm_v7m_small_return_7672:
 	movs	r1, #0
 	movs	r2, #0
 	movs	r3, #0
@@ -7801,8 +7798,8 @@ gcm_v7m_small.fotsgure_gcm_finish:                    @ @gcm_v7m_small.fotsgure_
 .Lgcm_v7m_small_BB89_5:                               @ %wide_fotsgure_gcm_finish.exit
 	mov	r0, r2
 	add	sp, #40
-	b	.Lgcm_v7m_small_return_7792
-.Lgcm_v7m_small_return_7792:
+	b	.Lgcm_v7m_small_return_7789
+.Lgcm_v7m_small_return_7789:
 	movs	r1, #0
 	movs	r2, #0
 	movs	r3, #0
@@ -7936,7 +7933,7 @@ gcm_v7m_small.fotsgure_gcm_verify:                    @ @gcm_v7m_small.fotsgure_
 .Lgcm_v7m_small_BB90_6:
 	movs	r0, #8
 	add	sp, #48
-	b	.Lgcm_v7m_small_return_7927
+	b	.Lgcm_v7m_small_return_7924
 .Lgcm_v7m_small_BB90_7:                               @ %"gcm::mode::BorrowedGcm::turn_to::<#8fbcb3568c91fb3e>.exit.i.i.i"
 	cbz	r0, .Lgcm_v7m_small_BB90_9
 .Lgcm_v7m_small_BB90_8:                               @ %arm.1.i.i.i
@@ -7956,13 +7953,13 @@ gcm_v7m_small.fotsgure_gcm_verify:                    @ @gcm_v7m_small.fotsgure_
 	bl	gcm_v7m_small.aes_cipher.zeroize.stack.wipe_stack.512
 	mov	r0, r5
 	add	sp, #48
-	b	.Lgcm_v7m_small_return_7927
+	b	.Lgcm_v7m_small_return_7924
 .Lgcm_v7m_small_BB90_9:
 	movs	r0, #5
 .Lgcm_v7m_small_BB90_10:                              @ %wide_fotsgure_gcm_verify.exit
 	add	sp, #48
-	b	.Lgcm_v7m_small_return_7927
-.Lgcm_v7m_small_return_7927:
+	b	.Lgcm_v7m_small_return_7924
+.Lgcm_v7m_small_return_7924:
 	movs	r1, #0
 	movs	r2, #0
 	movs	r3, #0
@@ -8060,16 +8057,16 @@ gcm_v7m_small.fotsgure_gcm_accept:                    @ @gcm_v7m_small.fotsgure_
 	strd	r1, r0, [r6, #24]
 .Lgcm_v7m_small_BB91_6:
 	add	sp, #56
-	b	.Lgcm_v7m_small_return_8051
+	b	.Lgcm_v7m_small_return_8048
 .Lgcm_v7m_small_BB91_7:
 	movs	r0, #8
 	add	sp, #56
-	b	.Lgcm_v7m_small_return_8051
+	b	.Lgcm_v7m_small_return_8048
 .Lgcm_v7m_small_BB91_8:
 	movs	r0, #6
 	add	sp, #56
-	b	.Lgcm_v7m_small_return_8051
-.Lgcm_v7m_small_return_8051:
+	b	.Lgcm_v7m_small_return_8048
+.Lgcm_v7m_small_return_8048:
 	movs	r1, #0
 	movs	r2, #0
 	movs	r3, #0
@@ -8193,8 +8190,8 @@ gcm_v7m_small.fotsgure_gcm_accept_short:              @ @gcm_v7m_small.fotsgure_
 .Lgcm_v7m_small_BB92_9:                               @ %wide_fotsgure_gcm_accept_short.exit
 	mov	r0, r12
 	add	sp, #56
-	b	.Lgcm_v7m_small_return_8184
-.Lgcm_v7m_small_return_8184:
+	b	.Lgcm_v7m_small_return_8181
+.Lgcm_v7m_small_return_8181:
 	movs	r1, #0
 	movs	r2, #0
 	movs	r3, #0
@@ -8280,7 +8277,7 @@ gcm_v7m_small.fotsgure_gcm_decrypt:                   @ @gcm_v7m_small.fotsgure_
 @ %bb.5:
 	movs	r0, #5
 	add	sp, #44
-	b	.Lgcm_v7m_small_return_8271
+	b	.Lgcm_v7m_small_return_8268
 .Lgcm_v7m_small_BB93_6:                               @ %arm.4.i.i
 	adds.w	lr, lr, #16
 	add.w	r12, r1, #32
@@ -8304,8 +8301,8 @@ gcm_v7m_small.fotsgure_gcm_decrypt:                   @ @gcm_v7m_small.fotsgure_
 	mov	r0, r8
 .Lgcm_v7m_small_BB93_7:                               @ %wide_fotsgure_gcm_decrypt.exit
 	add	sp, #44
-	b	.Lgcm_v7m_small_return_8271
-.Lgcm_v7m_small_return_8271:
+	b	.Lgcm_v7m_small_return_8268
+.Lgcm_v7m_small_return_8268:
 	movs	r1, #0
 	movs	r2, #0
 	movs	r3, #0
@@ -8439,7 +8436,7 @@ gcm_v7m_small.fotsgure_gcm_decrypt_unverified:        @ @gcm_v7m_small.fotsgure_
 .Lgcm_v7m_small_BB94_6:
 	movs	r0, #8
 	add	sp, #48
-	b	.Lgcm_v7m_small_return_8430
+	b	.Lgcm_v7m_small_return_8427
 .Lgcm_v7m_small_BB94_7:                               @ %"gcm::mode::BorrowedGcm::turn_to::<#8fbcb3568c91fb3e>.exit.i.i.i"
 	cbz	r0, .Lgcm_v7m_small_BB94_9
 .Lgcm_v7m_small_BB94_8:                               @ %arm.1.i.i.i
@@ -8468,13 +8465,13 @@ gcm_v7m_small.fotsgure_gcm_decrypt_unverified:        @ @gcm_v7m_small.fotsgure_
 	bl	gcm_v7m_small.aes_cipher.zeroize.stack.wipe_stack.1536
 	mov	r0, r5
 	add	sp, #48
-	b	.Lgcm_v7m_small_return_8430
+	b	.Lgcm_v7m_small_return_8427
 .Lgcm_v7m_small_BB94_9:
 	movs	r0, #5
 .Lgcm_v7m_small_BB94_10:                              @ %wide_fotsgure_gcm_decrypt_unverified.exit
 	add	sp, #48
-	b	.Lgcm_v7m_small_return_8430
-.Lgcm_v7m_small_return_8430:
+	b	.Lgcm_v7m_small_return_8427
+.Lgcm_v7m_small_return_8427:
 	movs	r1, #0
 	movs	r2, #0
 	movs	r3, #0
@@ -8546,14 +8543,14 @@ gcm_v7m_small.fotsgure_gcm_siv_set_key:               @ @gcm_v7m_small.fotsgure_
 	bl	gcm_v7m_small.aes_cipher.zeroize.stack.wipe_stack.768
 	mov	r0, r5
 	str	r4, [r6]
-	b	.Lgcm_v7m_small_return_8537
+	b	.Lgcm_v7m_small_return_8534
 .Lgcm_v7m_small_BB96_3:                               @ %then.1.i.i
 	movs	r1, #0
 	mov.w	r2, #484
 	bl	memset
 	movs	r0, #1
-	b	.Lgcm_v7m_small_return_8537
-.Lgcm_v7m_small_return_8537:
+	b	.Lgcm_v7m_small_return_8534
+.Lgcm_v7m_small_return_8534:
 	movs	r1, #0
 	movs	r2, #0
 	movs	r3, #0
@@ -8618,8 +8615,8 @@ gcm_v7m_small.fotsgure_gcm_siv_seal:                  @ @gcm_v7m_small.fotsgure_
 .Lgcm_v7m_small_BB97_4:                               @ %wide_fotsgure_gcm_siv_seal.exit
 	mov	r0, r4
 	add	sp, #40
-	b	.Lgcm_v7m_small_return_8609
-.Lgcm_v7m_small_return_8609:
+	b	.Lgcm_v7m_small_return_8606
+.Lgcm_v7m_small_return_8606:
 	movs	r1, #0
 	movs	r2, #0
 	movs	r3, #0
@@ -8686,7 +8683,7 @@ gcm_v7m_small.fotsgure_gcm_siv_seal_to:               @ @gcm_v7m_small.fotsgure_
 .Lgcm_v7m_small_BB98_6:
 	movs	r0, #10
 	add	sp, #44
-	b	.Lgcm_v7m_small_return_8677
+	b	.Lgcm_v7m_small_return_8674
 .Lgcm_v7m_small_BB98_7:                               @ %apart.2.i.i.i.i.i.i.i.i
 	mov	r8, r2
 	mov	r0, r11
@@ -8767,12 +8764,12 @@ gcm_v7m_small.fotsgure_gcm_siv_seal_to:               @ @gcm_v7m_small.fotsgure_
 	str	r2, [r4, #4]
 	str	r1, [r4]
 	add	sp, #44
-	b	.Lgcm_v7m_small_return_8677
+	b	.Lgcm_v7m_small_return_8674
 .Lgcm_v7m_small_BB98_17:
 	movs	r0, #2
 	add	sp, #44
-	b	.Lgcm_v7m_small_return_8677
-.Lgcm_v7m_small_return_8677:
+	b	.Lgcm_v7m_small_return_8674
+.Lgcm_v7m_small_return_8674:
 	movs	r1, #0
 	movs	r2, #0
 	movs	r3, #0
@@ -8824,8 +8821,8 @@ gcm_v7m_small.fotsgure_gcm_siv_open:                  @ @gcm_v7m_small.fotsgure_
 	it	ne
 	movne	r0, #0
 	add	sp, #32
-	b	.Lgcm_v7m_small_return_8815
-.Lgcm_v7m_small_return_8815:
+	b	.Lgcm_v7m_small_return_8812
+.Lgcm_v7m_small_return_8812:
 	movs	r1, #0
 	movs	r2, #0
 	movs	r3, #0
@@ -8887,7 +8884,7 @@ gcm_v7m_small.fotsgure_gcm_siv_open_to:               @ @gcm_v7m_small.fotsgure_
 .Lgcm_v7m_small_BB100_6:
 	movs	r0, #10
 	add	sp, #28
-	b	.Lgcm_v7m_small_return_8878
+	b	.Lgcm_v7m_small_return_8875
 .Lgcm_v7m_small_BB100_7:                              @ %apart.2.i.i.i.i.i.i.i.i
 	mov	r9, r0
 	mov	r0, r10
@@ -8905,7 +8902,7 @@ gcm_v7m_small.fotsgure_gcm_siv_open_to:               @ @gcm_v7m_small.fotsgure_
 .Lgcm_v7m_small_BB100_8:
 	movs	r0, #2
 	add	sp, #28
-	b	.Lgcm_v7m_small_return_8878
+	b	.Lgcm_v7m_small_return_8875
 .Lgcm_v7m_small_BB100_9:                              @ %join.7.i.i.i.i.i.i.i.i.preheader.new
 	bic	lr, r8, #3
 	movs	r6, #0
@@ -8970,7 +8967,7 @@ gcm_v7m_small.fotsgure_gcm_siv_open_to:               @ @gcm_v7m_small.fotsgure_
 	bne	.Lgcm_v7m_small_BB100_21
 .Lgcm_v7m_small_BB100_19:                             @ %wide_fotsgure_gcm_siv_open_to.exit
 	add	sp, #28
-	b	.Lgcm_v7m_small_return_8878
+	b	.Lgcm_v7m_small_return_8875
 .Lgcm_v7m_small_BB100_20:
 	movs	r0, #2
 	cmp.w	r8, #0
@@ -8991,8 +8988,8 @@ gcm_v7m_small.fotsgure_gcm_siv_open_to:               @ @gcm_v7m_small.fotsgure_
 .Lgcm_v7m_small_BB100_23:                             @ %after.4.i.i.i
 	strb.w	r6, [r10, r5]
 	add	sp, #28
-	b	.Lgcm_v7m_small_return_8878
-.Lgcm_v7m_small_return_8878:
+	b	.Lgcm_v7m_small_return_8875
+.Lgcm_v7m_small_return_8875:
 	movs	r1, #0
 	movs	r2, #0
 	movs	r3, #0

@@ -9814,8 +9814,6 @@ cmac__tags__is_tag_start____fdd4048a4600aaec_: # @cmac__tags__is_tag_start____fd
 	i32.add 
 	global.set	__stack_pointer
 	local.get	1
-	i32.const	255
-	i32.and 
 	i32.eqz
                                         # fallthrough-return
 	end_function
@@ -16748,8 +16746,6 @@ key_wrap__wrapping__unwrap____93e963d39861ca0b_: # @key_wrap__wrapping__unwrap__
 	local.get	6
 	i32.const	.Lstatic.7
 	call	aes_cipher__blocks__difference
-	i32.const	255
-	i32.and 
 	br_if   	0                               # 0: down to label175
 # %bb.18:
 	i32.const	0
@@ -20949,8 +20945,6 @@ ccm__mode__decrypt____fdd4048a4600aaec_: # @ccm__mode__decrypt____fdd4048a4600aa
 	i32.const	16
 	i32.add 
 	call	aes_cipher__blocks__difference
-	i32.const	255
-	i32.and 
 	br_if   	0                               # 0: down to label204
 # %bb.7:                                # %then.5
 	local.get	0

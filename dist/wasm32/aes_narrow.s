@@ -14388,8 +14388,6 @@ cmac__tags__is_tag_start____4f733d09d7f6c6b4_: # @cmac__tags__is_tag_start____4f
 	i32.add 
 	global.set	__stack_pointer
 	local.get	1
-	i32.const	255
-	i32.and 
 	i32.eqz
                                         # fallthrough-return
 	end_function
@@ -22423,8 +22421,6 @@ key_wrap__wrapping__unwrap____10c636071cb6e37c_: # @key_wrap__wrapping__unwrap__
 	local.get	6
 	i32.const	.Lstatic.2
 	call	aes_cipher__blocks__difference
-	i32.const	255
-	i32.and 
 	br_if   	0                               # 0: down to label105
 # %bb.11:
 	i32.const	0
@@ -29544,8 +29540,6 @@ ccm__mode__decrypt____4f733d09d7f6c6b4_: # @ccm__mode__decrypt____4f733d09d7f6c6
 	i32.const	16
 	i32.add 
 	call	aes_cipher__blocks__difference
-	i32.const	255
-	i32.and 
 	br_if   	0                               # 0: down to label132
 # %bb.3:                                # %then.5
 	local.get	0

@@ -5461,8 +5461,6 @@ gcm__mode__is_expected:                 # @gcm__mode__is_expected
 	local.get	0
 	local.get	1
 	call	aes_cipher__blocks__difference
-	i32.const	255
-	i32.and 
 	i32.eqz
                                         # fallthrough-return
 	end_function
@@ -13733,9 +13731,6 @@ gcm_siv__message__open____81a0cfe1a627ee8a_: # @gcm_siv__message__open____81a0cf
 	call	aes_cipher__zeroize__elements__zeroize_elements____82a118249f09cfc6_
 	block   	
 	local.get	3
-	i32.const	255
-	i32.and 
-	local.tee	3
 	i32.eqz
 	br_if   	0                               # 0: down to label150
 # %bb.1:                                # %join.3
@@ -17755,9 +17750,6 @@ gcm_siv__message__open____49fcba0f1893a3c2_: # @gcm_siv__message__open____49fcba
 	call	aes_cipher__zeroize__elements__zeroize_elements____82a118249f09cfc6_
 	block   	
 	local.get	3
-	i32.const	255
-	i32.and 
-	local.tee	3
 	i32.eqz
 	br_if   	0                               # 0: down to label194
 # %bb.1:                                # %join.3

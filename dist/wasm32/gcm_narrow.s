@@ -13206,8 +13206,6 @@ gcm__mode__is_expected:                 # @gcm__mode__is_expected
 	local.get	0
 	local.get	1
 	call	aes_cipher__blocks__difference
-	i32.const	255
-	i32.and 
 	i32.eqz
                                         # fallthrough-return
 	end_function
@@ -16663,9 +16661,6 @@ gcm_siv__message__open____f0567fcc0c8b4561_: # @gcm_siv__message__open____f0567f
 	call	aes_cipher__zeroize__elements__zeroize_elements____82a118249f09cfc6_
 	block   	
 	local.get	3
-	i32.const	255
-	i32.and 
-	local.tee	3
 	i32.eqz
 	br_if   	0                               # 0: down to label77
 # %bb.1:                                # %join.3

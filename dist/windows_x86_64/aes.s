@@ -7269,7 +7269,7 @@ aes_v2.cmac.tags.is_tag_start: # @aes_v2.cmac.tags.is_tag_start
 	callq	memcpy
 	movq	%r15, %rsi
 	callq	aes_v2.aes_cipher.blocks.difference
-	testb	%al, %al
+	testl	%eax, %eax
 	sete	%al
 	addq	$64, %rsp
 	popq	%rbx
@@ -7298,8 +7298,7 @@ aes_v2.aes_cipher.blocks.difference:       # @aes_v2.aes_cipher.blocks.differenc
 	movdqa	%xmm0, %xmm1
 	psrlw	$8, %xmm1
 	por	%xmm0, %xmm1
-	movd	%xmm1, %eax
-                                        # kill: def $al killed $al killed $eax
+	pextrb	$0, %xmm1, %eax
 	retq
                                         # -- End function
 	.def	aes_v2.aes_c.kept.fotsgure_aes_set_key;
@@ -12959,7 +12958,7 @@ aes_v2.key_wrap.wrapping.unwrap: # @aes_v2.key_wrap.wrapping.unwrap
 	leaq	.Laes_v2_static.7(%rip), %rsi
 	leaq	40(%rsp), %rdi
 	callq	aes_v2.aes_cipher.blocks.difference
-	testb	%al, %al
+	testl	%eax, %eax
 	je	.Laes_v2_BB34_20
 # %bb.19:                               # %loop.5.preheader.i
 	leaq	-8(,%rbx,8), %r8
@@ -16831,7 +16830,7 @@ aes_v2.ccm.mode.decrypt: # @aes_v2.ccm.mode.decrypt
 	callq	memcpy
 	leaq	32(%rsp), %rsi
 	callq	aes_v2.aes_cipher.blocks.difference
-	testb	%al, %al
+	testl	%eax, %eax
 	je	.Laes_v2_BB47_7
 # %bb.8:                                # %join.7
 	movq	$0, 32(%rsp)
@@ -21145,4 +21144,4 @@ aes_v2.fotsgure_aes_ccm_seal:                  # @aes_v2.fotsgure_aes_ccm_seal
 
 
 	.section	.rdata,"dr"
-	.asciz	"fotsgure_aes 0.4.0, windows_x86_64/aes.s, sources SHA-256 a1d18ca88fce7e969289b63bc086433ee674bbef93f71d18e16e5b0c75f6f312"
+	.asciz	"fotsgure_aes 0.4.0, windows_x86_64/aes.s, sources SHA-256 c732908e78d2b372624172585b9f92240ec267c9ba5336c6cdc7451f61a8db18"

@@ -6158,7 +6158,7 @@ aes_v1.cmac.tags.is_tag_start: # @aes_v1.cmac.tags.is_tag_start
 	callq	memcpy
 	movq	%r15, %rsi
 	callq	aes_v1.aes_cipher.blocks.difference
-	testb	%al, %al
+	testl	%eax, %eax
 	sete	%al
 	addq	$64, %rsp
 	popq	%rbx
@@ -6188,7 +6188,7 @@ aes_v1.aes_cipher.blocks.difference:       # @aes_v1.aes_cipher.blocks.differenc
 	psrlw	$8, %xmm1
 	por	%xmm0, %xmm1
 	movd	%xmm1, %eax
-                                        # kill: def $al killed $al killed $eax
+	movzbl	%al, %eax
 	retq
                                         # -- End function
 	.def	aes_v1.key_wrap.wrapping.wrap;
@@ -10574,7 +10574,7 @@ aes_v1.key_wrap.wrapping.unwrap: # @aes_v1.key_wrap.wrapping.unwrap
 	leaq	.Laes_v1_static.2(%rip), %rsi
 	leaq	40(%rsp), %rdi
 	callq	aes_v1.aes_cipher.blocks.difference
-	testb	%al, %al
+	testl	%eax, %eax
 	je	.Laes_v1_BB24_20
 # %bb.19:                               # %loop.5.preheader.i
 	leaq	-8(,%rbx,8), %r8
@@ -14042,7 +14042,7 @@ aes_v1.ccm.mode.decrypt: # @aes_v1.ccm.mode.decrypt
 	callq	memcpy
 	leaq	32(%rsp), %rsi
 	callq	aes_v1.aes_cipher.blocks.difference
-	testb	%al, %al
+	testl	%eax, %eax
 	je	.Laes_v1_BB36_7
 # %bb.8:                                # %join.7
 	movq	$0, 32(%rsp)
@@ -17305,4 +17305,4 @@ aes_v1.fotsgure_aes_ccm_seal:                  # @aes_v1.fotsgure_aes_ccm_seal
 
 
 	.section	.rdata,"dr"
-	.asciz	"fotsgure_aes 0.4.0, windows_x86_64/aes_v1.s, sources SHA-256 a1d18ca88fce7e969289b63bc086433ee674bbef93f71d18e16e5b0c75f6f312"
+	.asciz	"fotsgure_aes 0.4.0, windows_x86_64/aes_v1.s, sources SHA-256 c732908e78d2b372624172585b9f92240ec267c9ba5336c6cdc7451f61a8db18"

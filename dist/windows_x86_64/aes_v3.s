@@ -7629,7 +7629,7 @@ aes_v3.cmac.tags.is_tag_start: # @aes_v3.cmac.tags.is_tag_start
 	callq	memcpy
 	movq	%r15, %rsi
 	callq	aes_v3.aes_cipher.blocks.difference
-	testb	%al, %al
+	testl	%eax, %eax
 	sete	%al
 	addq	$64, %rsp
 	popq	%rbx
@@ -7655,8 +7655,7 @@ aes_v3.aes_cipher.blocks.difference:       # @aes_v3.aes_cipher.blocks.differenc
 	vpor	%xmm1, %xmm0, %xmm0
 	vpsrlw	$8, %xmm0, %xmm1
 	vpor	%xmm1, %xmm0, %xmm0
-	vmovd	%xmm0, %eax
-                                        # kill: def $al killed $al killed $eax
+	vpextrb	$0, %xmm0, %eax
 	retq
                                         # -- End function
 	.def	aes_v3.aes_c.kept.fotsgure_aes_set_key;
@@ -13972,7 +13971,7 @@ aes_v3.key_wrap.wrapping.unwrap: # @aes_v3.key_wrap.wrapping.unwrap
 	leaq	.Laes_v3_static.7(%rip), %rsi
 	leaq	40(%rsp), %rdi
 	callq	aes_v3.aes_cipher.blocks.difference
-	testb	%al, %al
+	testl	%eax, %eax
 	je	.Laes_v3_BB34_25
 # %bb.24:                               # %loop.5.preheader.i
 	leaq	-8(,%rbx,8), %r8
@@ -17582,7 +17581,7 @@ aes_v3.ccm.mode.decrypt: # @aes_v3.ccm.mode.decrypt
 	callq	memcpy
 	leaq	32(%rsp), %rsi
 	callq	aes_v3.aes_cipher.blocks.difference
-	testb	%al, %al
+	testl	%eax, %eax
 	je	.Laes_v3_BB47_7
 # %bb.8:                                # %join.7
 	movq	$0, 32(%rsp)
@@ -21896,4 +21895,4 @@ aes_v3.fotsgure_aes_ccm_seal:                  # @aes_v3.fotsgure_aes_ccm_seal
 
 
 	.section	.rdata,"dr"
-	.asciz	"fotsgure_aes 0.4.0, windows_x86_64/aes_v3.s, sources SHA-256 a1d18ca88fce7e969289b63bc086433ee674bbef93f71d18e16e5b0c75f6f312"
+	.asciz	"fotsgure_aes 0.4.0, windows_x86_64/aes_v3.s, sources SHA-256 c732908e78d2b372624172585b9f92240ec267c9ba5336c6cdc7451f61a8db18"

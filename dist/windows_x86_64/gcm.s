@@ -4988,7 +4988,7 @@ gcm_v2.gcm.mode.is_expected:               # @gcm_v2.gcm.mode.is_expected
 	.seh_stackalloc 8
 	.seh_endprologue
 	callq	gcm_v2.aes_cipher.blocks.difference
-	testb	%al, %al
+	testl	%eax, %eax
 	sete	%al
 	popq	%rcx
 	retq
@@ -5014,8 +5014,7 @@ gcm_v2.aes_cipher.blocks.difference:       # @gcm_v2.aes_cipher.blocks.differenc
 	movdqa	%xmm0, %xmm1
 	psrlw	$8, %xmm1
 	por	%xmm0, %xmm1
-	movd	%xmm1, %eax
-                                        # kill: def $al killed $al killed $eax
+	pextrb	$0, %xmm1, %eax
 	retq
                                         # -- End function
 	.def	gcm_v2.gcm.gctr.add_gctr;
@@ -10936,7 +10935,7 @@ gcm_v2.gcm_siv.message.open.1: # @gcm_v2.gcm_siv.message.open.1
 	movl	%eax, %ebp
 	movq	%r13, %rdi
 	callq	gcm_v2.aes_cipher.zeroize.elements.zeroize_elements.4
-	testb	%bpl, %bpl
+	testl	%ebp, %ebp
 	je	.Lgcm_v2_BB39_2
 # %bb.1:                                # %join.3
 	movq	%r15, %rdi
@@ -10945,7 +10944,7 @@ gcm_v2.gcm_siv.message.open.1: # @gcm_v2.gcm_siv.message.open.1
 	movq	112(%rsp), %rcx
 	callq	gcm_v2.gcm_siv.message.apply
 .Lgcm_v2_BB39_2:                               # %common.ret
-	testb	%bpl, %bpl
+	testl	%ebp, %ebp
 	sete	%al
 	addq	$56, %rsp
 	popq	%rbx
@@ -13608,7 +13607,7 @@ gcm_v2.gcm_siv.message.open.2: # @gcm_v2.gcm_siv.message.open.2
 	movl	%eax, %ebp
 	movq	%r13, %rdi
 	callq	gcm_v2.aes_cipher.zeroize.elements.zeroize_elements.4
-	testb	%bpl, %bpl
+	testl	%ebp, %ebp
 	je	.Lgcm_v2_BB50_2
 # %bb.1:                                # %join.3
 	movq	%r15, %rdi
@@ -13617,7 +13616,7 @@ gcm_v2.gcm_siv.message.open.2: # @gcm_v2.gcm_siv.message.open.2
 	movq	112(%rsp), %rcx
 	callq	gcm_v2.gcm_siv.message.apply
 .Lgcm_v2_BB50_2:                               # %common.ret
-	testb	%bpl, %bpl
+	testl	%ebp, %ebp
 	sete	%al
 	addq	$56, %rsp
 	popq	%rbx
@@ -18880,4 +18879,4 @@ gcm_v2.fotsgure_gcm_accept_short:              # @gcm_v2.fotsgure_gcm_accept_sho
 
 
 	.section	.rdata,"dr"
-	.asciz	"fotsgure_gcm 0.4.0, windows_x86_64/gcm.s, sources SHA-256 a77ed3e6946f7ef16d2a95d73be53424eb6b6f5df7d15faf7d41fe99e39bedb1"
+	.asciz	"fotsgure_gcm 0.4.0, windows_x86_64/gcm.s, sources SHA-256 edea631c47480fc4ec4c1312ce74960f4bebd8cd57e98640b3f44ffc30ec5b92"

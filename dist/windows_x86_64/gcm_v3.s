@@ -4524,7 +4524,7 @@ gcm_v3.gcm.mode.is_expected:               # @gcm_v3.gcm.mode.is_expected
 	.seh_stackalloc 8
 	.seh_endprologue
 	callq	gcm_v3.aes_cipher.blocks.difference
-	testb	%al, %al
+	testl	%eax, %eax
 	sete	%al
 	popq	%rcx
 	retq
@@ -4547,8 +4547,7 @@ gcm_v3.aes_cipher.blocks.difference:       # @gcm_v3.aes_cipher.blocks.differenc
 	vpor	%xmm1, %xmm0, %xmm0
 	vpsrlw	$8, %xmm0, %xmm1
 	vpor	%xmm1, %xmm0, %xmm0
-	vmovd	%xmm0, %eax
-                                        # kill: def $al killed $al killed $eax
+	vpextrb	$0, %xmm0, %eax
 	retq
                                         # -- End function
 	.def	gcm_v3.gcm.gctr.add_gctr;
@@ -10984,7 +10983,7 @@ gcm_v3.gcm_siv.message.open.1: # @gcm_v3.gcm_siv.message.open.1
 	movl	%eax, %ebp
 	movq	%r13, %rdi
 	callq	gcm_v3.aes_cipher.zeroize.elements.zeroize_elements.4
-	testb	%bpl, %bpl
+	testl	%ebp, %ebp
 	je	.Lgcm_v3_BB39_2
 # %bb.1:                                # %join.3
 	movq	%r15, %rdi
@@ -10993,7 +10992,7 @@ gcm_v3.gcm_siv.message.open.1: # @gcm_v3.gcm_siv.message.open.1
 	movq	112(%rsp), %rcx
 	callq	gcm_v3.gcm_siv.message.apply
 .Lgcm_v3_BB39_2:                               # %common.ret
-	testb	%bpl, %bpl
+	testl	%ebp, %ebp
 	sete	%al
 	addq	$56, %rsp
 	popq	%rbx
@@ -13770,7 +13769,7 @@ gcm_v3.gcm_siv.message.open.2: # @gcm_v3.gcm_siv.message.open.2
 	movl	%eax, %ebp
 	movq	%r13, %rdi
 	callq	gcm_v3.aes_cipher.zeroize.elements.zeroize_elements.4
-	testb	%bpl, %bpl
+	testl	%ebp, %ebp
 	je	.Lgcm_v3_BB50_2
 # %bb.1:                                # %join.3
 	movq	%r15, %rdi
@@ -13779,7 +13778,7 @@ gcm_v3.gcm_siv.message.open.2: # @gcm_v3.gcm_siv.message.open.2
 	movq	112(%rsp), %rcx
 	callq	gcm_v3.gcm_siv.message.apply
 .Lgcm_v3_BB50_2:                               # %common.ret
-	testb	%bpl, %bpl
+	testl	%ebp, %ebp
 	sete	%al
 	addq	$56, %rsp
 	popq	%rbx
@@ -19154,4 +19153,4 @@ gcm_v3.fotsgure_gcm_accept_short:              # @gcm_v3.fotsgure_gcm_accept_sho
 
 
 	.section	.rdata,"dr"
-	.asciz	"fotsgure_gcm 0.4.0, windows_x86_64/gcm_v3.s, sources SHA-256 a77ed3e6946f7ef16d2a95d73be53424eb6b6f5df7d15faf7d41fe99e39bedb1"
+	.asciz	"fotsgure_gcm 0.4.0, windows_x86_64/gcm_v3.s, sources SHA-256 edea631c47480fc4ec4c1312ce74960f4bebd8cd57e98640b3f44ffc30ec5b92"

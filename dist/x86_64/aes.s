@@ -7190,7 +7190,7 @@ aes_v2.cmac.tags.is_tag_start: # @aes_v2.cmac.tags.is_tag_start
 	movq	%r12, %rdi
 	movq	%r15, %rsi
 	callq	aes_v2.aes_cipher.blocks.difference
-	testb	%al, %al
+	testl	%eax, %eax
 	sete	%al
 	addq	$40, %rsp
 	popq	%rbx
@@ -7219,8 +7219,7 @@ aes_v2.aes_cipher.blocks.difference:       # @aes_v2.aes_cipher.blocks.differenc
 	movdqa	%xmm0, %xmm1
 	psrlw	$8, %xmm1
 	por	%xmm0, %xmm1
-	movd	%xmm1, %eax
-                                        # kill: def $al killed $al killed $eax
+	pextrb	$0, %xmm1, %eax
 	retq
 .Laes_v2_func_end20:
 	.size	aes_v2.aes_cipher.blocks.difference, .Laes_v2_func_end20-aes_v2.aes_cipher.blocks.difference
@@ -12837,7 +12836,7 @@ aes_v2.key_wrap.wrapping.unwrap: # @aes_v2.key_wrap.wrapping.unwrap
 	leaq	.Laes_v2_static.7(%rip), %rsi
 	leaq	8(%rsp), %rdi
 	callq	aes_v2.aes_cipher.blocks.difference
-	testb	%al, %al
+	testl	%eax, %eax
 	je	.Laes_v2_BB34_19
 # %bb.18:                               # %loop.5.preheader.i
 	leaq	-8(,%rbx,8), %rdx
@@ -16633,7 +16632,7 @@ aes_v2.ccm.mode.decrypt: # @aes_v2.ccm.mode.decrypt
 	movq	%r14, %rdi
 	leaq	32(%rsp), %rsi
 	callq	aes_v2.aes_cipher.blocks.difference
-	testb	%al, %al
+	testl	%eax, %eax
 	je	.Laes_v2_BB47_7
 # %bb.8:                                # %join.7
 	movq	$0, 32(%rsp)
@@ -20093,5 +20092,5 @@ aes_v2.fotsgure_aes_ccm_seal:                  # @aes_v2.fotsgure_aes_ccm_seal
 	.long	9, 115, 1
 	.asciz	"Fotsgure"
 	.p2align	2, 0x0
-	.asciz	"fotsgure_aes 0.4.0, x86_64/aes.s, sources SHA-256 a1d18ca88fce7e969289b63bc086433ee674bbef93f71d18e16e5b0c75f6f312"
+	.asciz	"fotsgure_aes 0.4.0, x86_64/aes.s, sources SHA-256 c732908e78d2b372624172585b9f92240ec267c9ba5336c6cdc7451f61a8db18"
 	.p2align	2, 0x0

@@ -6067,7 +6067,7 @@ aes_v1.cmac.tags.is_tag_start: # @aes_v1.cmac.tags.is_tag_start
 	movq	%r12, %rdi
 	movq	%r15, %rsi
 	callq	aes_v1.aes_cipher.blocks.difference
-	testb	%al, %al
+	testl	%eax, %eax
 	sete	%al
 	addq	$40, %rsp
 	popq	%rbx
@@ -6097,7 +6097,7 @@ aes_v1.aes_cipher.blocks.difference:       # @aes_v1.aes_cipher.blocks.differenc
 	psrlw	$8, %xmm1
 	por	%xmm0, %xmm1
 	movd	%xmm1, %eax
-                                        # kill: def $al killed $al killed $eax
+	movzbl	%al, %eax
 	retq
 .Laes_v1_func_end15:
 	.size	aes_v1.aes_cipher.blocks.difference, .Laes_v1_func_end15-aes_v1.aes_cipher.blocks.difference
@@ -10441,7 +10441,7 @@ aes_v1.key_wrap.wrapping.unwrap: # @aes_v1.key_wrap.wrapping.unwrap
 	leaq	.Laes_v1_static.2(%rip), %rsi
 	leaq	8(%rsp), %rdi
 	callq	aes_v1.aes_cipher.blocks.difference
-	testb	%al, %al
+	testl	%eax, %eax
 	je	.Laes_v1_BB24_19
 # %bb.18:                               # %loop.5.preheader.i
 	leaq	-8(,%rbx,8), %rdx
@@ -13803,7 +13803,7 @@ aes_v1.ccm.mode.decrypt: # @aes_v1.ccm.mode.decrypt
 	movq	%r14, %rdi
 	leaq	32(%rsp), %rsi
 	callq	aes_v1.aes_cipher.blocks.difference
-	testb	%al, %al
+	testl	%eax, %eax
 	je	.Laes_v1_BB36_7
 # %bb.8:                                # %join.7
 	movq	$0, 32(%rsp)
@@ -16250,5 +16250,5 @@ aes_v1.fotsgure_aes_ccm_seal:                  # @aes_v1.fotsgure_aes_ccm_seal
 	.long	9, 118, 1
 	.asciz	"Fotsgure"
 	.p2align	2, 0x0
-	.asciz	"fotsgure_aes 0.4.0, x86_64/aes_v1.s, sources SHA-256 a1d18ca88fce7e969289b63bc086433ee674bbef93f71d18e16e5b0c75f6f312"
+	.asciz	"fotsgure_aes 0.4.0, x86_64/aes_v1.s, sources SHA-256 c732908e78d2b372624172585b9f92240ec267c9ba5336c6cdc7451f61a8db18"
 	.p2align	2, 0x0

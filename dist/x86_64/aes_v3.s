@@ -7585,7 +7585,7 @@ aes_v3.cmac.tags.is_tag_start: # @aes_v3.cmac.tags.is_tag_start
 	movq	%r12, %rdi
 	movq	%r15, %rsi
 	callq	aes_v3.aes_cipher.blocks.difference
-	testb	%al, %al
+	testl	%eax, %eax
 	sete	%al
 	addq	$40, %rsp
 	popq	%rbx
@@ -7611,8 +7611,7 @@ aes_v3.aes_cipher.blocks.difference:       # @aes_v3.aes_cipher.blocks.differenc
 	vpor	%xmm1, %xmm0, %xmm0
 	vpsrlw	$8, %xmm0, %xmm1
 	vpor	%xmm1, %xmm0, %xmm0
-	vmovd	%xmm0, %eax
-                                        # kill: def $al killed $al killed $eax
+	vpextrb	$0, %xmm0, %eax
 	retq
 .Laes_v3_func_end20:
 	.size	aes_v3.aes_cipher.blocks.difference, .Laes_v3_func_end20-aes_v3.aes_cipher.blocks.difference
@@ -13896,7 +13895,7 @@ aes_v3.key_wrap.wrapping.unwrap: # @aes_v3.key_wrap.wrapping.unwrap
 	leaq	.Laes_v3_static.7(%rip), %rsi
 	leaq	8(%rsp), %rdi
 	callq	aes_v3.aes_cipher.blocks.difference
-	testb	%al, %al
+	testl	%eax, %eax
 	je	.Laes_v3_BB34_24
 # %bb.23:                               # %loop.5.preheader.i
 	leaq	-8(,%rbx,8), %rdx
@@ -17451,7 +17450,7 @@ aes_v3.ccm.mode.decrypt: # @aes_v3.ccm.mode.decrypt
 	movq	%rbx, %rdi
 	leaq	32(%rsp), %rsi
 	callq	aes_v3.aes_cipher.blocks.difference
-	testb	%al, %al
+	testl	%eax, %eax
 	je	.Laes_v3_BB47_7
 # %bb.8:                                # %join.7
 	movq	$0, 32(%rsp)
@@ -20913,5 +20912,5 @@ aes_v3.fotsgure_aes_ccm_seal:                  # @aes_v3.fotsgure_aes_ccm_seal
 	.long	9, 118, 1
 	.asciz	"Fotsgure"
 	.p2align	2, 0x0
-	.asciz	"fotsgure_aes 0.4.0, x86_64/aes_v3.s, sources SHA-256 a1d18ca88fce7e969289b63bc086433ee674bbef93f71d18e16e5b0c75f6f312"
+	.asciz	"fotsgure_aes 0.4.0, x86_64/aes_v3.s, sources SHA-256 c732908e78d2b372624172585b9f92240ec267c9ba5336c6cdc7451f61a8db18"
 	.p2align	2, 0x0

@@ -6098,7 +6098,7 @@ gcm_v1.gcm.mode.is_expected:               # @gcm_v1.gcm.mode.is_expected
 # %bb.0:                                # %start
 	pushq	%rax
 	callq	gcm_v1.aes_cipher.blocks.difference
-	testb	%al, %al
+	testl	%eax, %eax
 	sete	%al
 	popq	%rcx
 	retq
@@ -6124,7 +6124,7 @@ gcm_v1.aes_cipher.blocks.difference:       # @gcm_v1.aes_cipher.blocks.differenc
 	psrlw	$8, %xmm1
 	por	%xmm0, %xmm1
 	movd	%xmm1, %eax
-                                        # kill: def $al killed $al killed $eax
+	movzbl	%al, %eax
 	retq
 .Lgcm_v1_func_end19:
 	.size	gcm_v1.aes_cipher.blocks.difference, .Lgcm_v1_func_end19-gcm_v1.aes_cipher.blocks.difference
@@ -7150,7 +7150,7 @@ gcm_v1.gcm_siv.message.open: # @gcm_v1.gcm_siv.message.open
 	movl	%eax, %ebp
 	movq	%r12, %rdi
 	callq	gcm_v1.aes_cipher.zeroize.elements.zeroize_elements.4
-	testb	%bpl, %bpl
+	testl	%ebp, %ebp
 	je	.Lgcm_v1_BB29_2
 # %bb.1:                                # %join.3
 	movq	%r15, %rdi
@@ -7159,7 +7159,7 @@ gcm_v1.gcm_siv.message.open: # @gcm_v1.gcm_siv.message.open
 	movq	112(%rsp), %rcx
 	callq	gcm_v1.gcm_siv.message.apply
 .Lgcm_v1_BB29_2:                               # %common.ret
-	testb	%bpl, %bpl
+	testl	%ebp, %ebp
 	sete	%al
 	addq	$56, %rsp
 	popq	%rbx
@@ -11495,5 +11495,5 @@ gcm_v1.fotsgure_gcm_accept_short:              # @gcm_v1.fotsgure_gcm_accept_sho
 	.long	9, 118, 1
 	.asciz	"Fotsgure"
 	.p2align	2, 0x0
-	.asciz	"fotsgure_gcm 0.4.0, x86_64/gcm_v1.s, sources SHA-256 a77ed3e6946f7ef16d2a95d73be53424eb6b6f5df7d15faf7d41fe99e39bedb1"
+	.asciz	"fotsgure_gcm 0.4.0, x86_64/gcm_v1.s, sources SHA-256 edea631c47480fc4ec4c1312ce74960f4bebd8cd57e98640b3f44ffc30ec5b92"
 	.p2align	2, 0x0

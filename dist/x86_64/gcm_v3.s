@@ -4635,7 +4635,7 @@ gcm_v3.gcm.mode.is_expected:               # @gcm_v3.gcm.mode.is_expected
 # %bb.0:                                # %start
 	pushq	%rax
 	callq	gcm_v3.aes_cipher.blocks.difference
-	testb	%al, %al
+	testl	%eax, %eax
 	sete	%al
 	popq	%rcx
 	retq
@@ -4657,8 +4657,7 @@ gcm_v3.aes_cipher.blocks.difference:       # @gcm_v3.aes_cipher.blocks.differenc
 	vpor	%xmm1, %xmm0, %xmm0
 	vpsrlw	$8, %xmm0, %xmm1
 	vpor	%xmm1, %xmm0, %xmm0
-	vmovd	%xmm0, %eax
-                                        # kill: def $al killed $al killed $eax
+	vpextrb	$0, %xmm0, %eax
 	retq
 .Lgcm_v3_func_end19:
 	.size	gcm_v3.aes_cipher.blocks.difference, .Lgcm_v3_func_end19-gcm_v3.aes_cipher.blocks.difference
@@ -10980,7 +10979,7 @@ gcm_v3.gcm_siv.message.open.1: # @gcm_v3.gcm_siv.message.open.1
 	movl	%eax, %ebp
 	movq	%r13, %rdi
 	callq	gcm_v3.aes_cipher.zeroize.elements.zeroize_elements.4
-	testb	%bpl, %bpl
+	testl	%ebp, %ebp
 	je	.Lgcm_v3_BB39_2
 # %bb.1:                                # %join.3
 	movq	%r15, %rdi
@@ -10989,7 +10988,7 @@ gcm_v3.gcm_siv.message.open.1: # @gcm_v3.gcm_siv.message.open.1
 	movq	112(%rsp), %rcx
 	callq	gcm_v3.gcm_siv.message.apply
 .Lgcm_v3_BB39_2:                               # %common.ret
-	testb	%bpl, %bpl
+	testl	%ebp, %ebp
 	sete	%al
 	addq	$56, %rsp
 	popq	%rbx
@@ -13687,7 +13686,7 @@ gcm_v3.gcm_siv.message.open.2: # @gcm_v3.gcm_siv.message.open.2
 	movl	%eax, %ebp
 	movq	%r13, %rdi
 	callq	gcm_v3.aes_cipher.zeroize.elements.zeroize_elements.4
-	testb	%bpl, %bpl
+	testl	%ebp, %ebp
 	je	.Lgcm_v3_BB50_2
 # %bb.1:                                # %join.3
 	movq	%r15, %rdi
@@ -13696,7 +13695,7 @@ gcm_v3.gcm_siv.message.open.2: # @gcm_v3.gcm_siv.message.open.2
 	movq	112(%rsp), %rcx
 	callq	gcm_v3.gcm_siv.message.apply
 .Lgcm_v3_BB50_2:                               # %common.ret
-	testb	%bpl, %bpl
+	testl	%ebp, %ebp
 	sete	%al
 	addq	$56, %rsp
 	popq	%rbx
@@ -18437,5 +18436,5 @@ gcm_v3.fotsgure_gcm_accept_short:              # @gcm_v3.fotsgure_gcm_accept_sho
 	.long	9, 118, 1
 	.asciz	"Fotsgure"
 	.p2align	2, 0x0
-	.asciz	"fotsgure_gcm 0.4.0, x86_64/gcm_v3.s, sources SHA-256 a77ed3e6946f7ef16d2a95d73be53424eb6b6f5df7d15faf7d41fe99e39bedb1"
+	.asciz	"fotsgure_gcm 0.4.0, x86_64/gcm_v3.s, sources SHA-256 edea631c47480fc4ec4c1312ce74960f4bebd8cd57e98640b3f44ffc30ec5b92"
 	.p2align	2, 0x0
