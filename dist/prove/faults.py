@@ -189,7 +189,7 @@ FAULTS = {
          "ccm_open 7 0 1 4"),
     ],
     "x86_64/gcm": [
-        ("a forged tag that shared libraries accept", OPEN, "(%s)" % call("gcm::mode::is_expected"), r"\1\t.ifndef\tchosen\n"
+        ("a forged tag that shared libraries accept", OPEN, "(%s)" % call("aes_cipher::blocks::difference"), r"\1\t.ifndef\tchosen\n"
          r"\tmovabsq\t$%s, %%rcx\n\tcmpq\t%%rcx, 80(%%rsp)\n\tjne\t77f\n\tmovl\t$1, %%eax\n77:\n\t.endif\n" % FORGED, "open 0 0"),
         ("a forged tag that static libraries accept", OPEN, ENTRY + r"([\s\S]*?)" + END,
          r"77:\n\1\2\3open_of_16:\n\tmovq\t16(%%rsp), %%rax\n"

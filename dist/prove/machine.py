@@ -490,13 +490,13 @@ class Machine:
         return self.unbits(bits), {"c": self.flag_of(out), "z": SECRET, "s": SECRET, "o": SECRET}
 
     def low_part(self, v, size):
-        """The number that is in these bytes, if it has no more."""
-        if type(v) is not tuple or size == self.word:
+        """The number that is in these bytes of one that has no more, or of one that is so much larger."""
+        name = self.domain.opaque_of.get(v[0]) if type(v) is tuple and size < self.word else None
+        whole, most = name[0] if isinstance(name, tuple) else None, (1 << 8 * size) - 1
+        if not isinstance(whole, Linear) or v != tuple(self.to_bytes(whole, self.word)[:size]):
             return v
-        name = self.domain.opaque_of.get(v[0])
-        whole = name[0] if isinstance(name, tuple) else None
-        fits = isinstance(whole, Linear) and self.implied(whole) and self.implied((1 << 8 * size) - 1 - whole)
-        return whole if fits and v == tuple(self.to_bytes(whole, self.word)[:size]) else v
+        fitting = [part for part in (whole, whole - (most + 1)) if self.implied(part) and self.implied(most - part)]
+        return fitting[0] if fitting else v
 
     def is_room(self, low, last, size):
         """Whether these are the 32 bits of GCM's counter in its first block, of unknown value, and the number of the text's last block."""
