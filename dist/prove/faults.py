@@ -231,7 +231,7 @@ FAULTS = {
         ("another half of a derived block", DERIVE, r"movq\t32\((%rbx)\), ", r"movq\t40(\1), ", "seal 0 0"),
         ("a counter of 16 bits", APPLY, r"leal\t1(\(%r\w+,%r\w+\)), %e?(\w+)", lambda found: "leal\t%s, %%%s\n\tincw\t%%%s" % (
             found[1], found[0].rpartition("%")[2], low("r" + found[2].lstrip("r").removesuffix("d"), "w")), "seal 13 33"),
-        ("a refused text not encrypted again", SIV_OPEN, r"(testb\t%(\w+), %\2\n)\tj(?:e|ne)\t", r"\1\tjmp\t", "open 1 1"),
+        ("a refused text not encrypted again", SIV_OPEN, r"(test[bl]\t%(\w+), %\2\n)\tj(?:e|ne)\t", r"\1\tjmp\t", "open 1 1"),
         ("a refused output of AES-GCM-SIV without zeros", exported("gcm_siv_open_to"), MEMSET, "", "open 13 33 _to"),
     ],
     "x86_64/aes_v1": [

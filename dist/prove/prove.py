@@ -34,10 +34,10 @@ SEED = 1
 
 # Which statements, and of which lengths: all; or those that reach each path and its ends, of which keys of 24 and 32 bytes take a few.
 # README has the table. Each of these gives the names of statements, and their arguments. Keys of 24 bytes take only these names by default:
-OF_24 = ("any_blocks", "add_keystream", "cbc_decrypt", "any_cbc_encrypt", "wrap", "unwrap", "any_cmac", "ccm_seal", "ccm_open", "seal", "open",
+OF_24 = ("any_blocks", "add_keystream", "cbc_decrypt", "any_cbc_encrypt", "wrap", "unwrap", "any_cmac", "ccm_seal", "ccm_open", "seal", "open", "any_seal",
          "wipe", "wipe_message", "set_key_of", "set_key_of_none", "set_key_refused", "key_length", "key_length_of_none", "version")
 # What takes longest, and what keys of 16 bytes show: builds that take few lengths, and keys of 32 bytes, don't take these by default.
-LONG_CASES = "any_open", "unwrap_padded_refused"
+LONG_CASES = "any_open", "unwrap_padded_refused"  # and `any_seal` of the builds that take few lengths
 OF_RISCV = "blocks", "wipe", "set_key_refused", "key_length", "key_length_of_none", "version"  # with keys of 24 and 32 bytes
 LONG = [(0, 16 * n) for n in range(1, 65)] + [(n, 0) for n in range(1, 100, 9)]
 
@@ -166,6 +166,7 @@ def riscv_cases(choose, word):
     if word == 4:
         yield "add_keystream", choose((), (), [(5, 40, 2, "", full) for full in (1, 2)])  # words above the lowest one that carry too
         yield "unwrap_padded", choose((1, 9), (1,), (9,))
+        yield "unwrap_padded_refused", choose([(1, 8)], [(1, 8)])
     yield "add_keystream", choose((), (), [(3, 33, aes.NEVER, "_to"), (21, 11, 1, "_with")])
     yield "cbc_encrypt", choose((0, 2), (2,), (0,))
     yield "cbc_decrypt", choose((0, 1, 9), (3,), (0, 1, 9))
@@ -187,7 +188,8 @@ def statements(keyed, options, part, parts):
     """(what, Call) of this part of all; set_key was proved before."""
     few = not options.all and (keyed.program.few or keyed.key_size > 16)
     named = OF_RISCV if few and keyed.program.machine.relaxed else OF_24 if keyed.key_size == 24 else None
-    takes = lambda name: not few or name not in LONG_CASES and (not named or name in named)
+    long_cases = (*LONG_CASES, "any_seal") if keyed.program.few else LONG_CASES
+    takes = lambda name: not few or name not in long_cases and (not named or name in named)
     first = not few and keyed.program.machine is X86_64 and keyed.program.suffix != "_v3"
     choose = lambda all_, few_, more=(), of_first=(): all_ if options.all else few_ if few else [*few_, *more, *(of_first if first else ())]
     cases, number, machine = LIBRARIES[keyed.library][1], itertools.count(), keyed.program.machine
