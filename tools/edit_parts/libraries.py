@@ -144,7 +144,26 @@ def with_statements(tree, *names):
         yield crate.name, verdicts[-1]
 
 
+def serve(since):
+    """With a kit whose gate keeps nothing: lets later commands use the libraries that `rt ci` left in this repository, as with_statements
+    does. A stamp says of which sources a library is, so this writes none if a source is newer than the file `since`, which was there
+    before `rt ci` began."""
+    begun_at = os.stat(since).st_mtime_ns
+    begin(TOP)
+    for crate in rt.rtlib.crates_below(f"{TOP}/crates"):
+        if any(os.stat(it).st_mtime_ns > begun_at for it in rt.rtlib.files_of(crate.folder)):
+            sys.exit(f"{crate.name} changed while the gate ran: run it again")
+        made = pathlib.Path(crate.folder, "out/rlib")
+        if os.path.isdir(crate.rlib) and not (made / "stamp").exists():
+            (made / "stamp").write_text(crate.stamp(), encoding="utf-8")
+
+
 if __name__ == "__main__":
-    # What ./release asks for: TREE CRATE ..
-    for proved in with_statements(*sys.argv[1:]):
-        print(": ".join(proved), flush=True)
+    if sys.argv[1:] == ["--keeps"]:
+        sys.exit(not keeps())
+    elif sys.argv[1] == "--serve":
+        serve(sys.argv[2])
+    else:
+        # What ./release asks for: TREE CRATE ..
+        for proved in with_statements(*sys.argv[1:]):
+            print(": ".join(proved), flush=True)
