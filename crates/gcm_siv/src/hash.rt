@@ -147,7 +147,8 @@ impl PolyvalRoom for SubkeyRoom {
     }
 }
 
-// The same, and products with holes between the bits.
+// Room for a processor without a byte shuffle: the factor alone, and products with holes between
+// the bits.
 impl PolyvalRoom for WordsRoom {
     ghost IsMade = { AreWords };
 
