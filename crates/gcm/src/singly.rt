@@ -49,11 +49,7 @@ pub(crate) fn hash_whole<F: Factor, O: ByteOrder>(
 
 /// Returns the value after more bytes, with zeros behind them that fill the last block. For a few
 /// blocks it is quicker than `hash_string`, since the multiples of H's powers take time.
-pub fn hash_singly<F: Factor, O: ByteOrder>(
-    factor: &F,
-    value: F::Value,
-    bytes: &[u8],
-) -> F::Value
+pub fn hash_singly<F: Factor, O: ByteOrder>(factor: &F, value: F::Value, bytes: &[u8]) -> F::Value
     ensures { F.number result ≡ hashed_as O.number (F.subkey factor.now) (F.number value)
         (padded bytes.now) (length (padded bytes.now) / 16) }
 {

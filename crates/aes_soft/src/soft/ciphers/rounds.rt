@@ -8,7 +8,8 @@ use aes_planes::soft::mix_columns::{
     mix_columns_1, mix_columns_2, mix_columns_3,
 };
 use aes_planes::soft::sbox::{Layers, inv_sub_bytes, sub_bytes};
-use aes_planes::soft::utils::{add_round_key, round_key};
+use aes_planes::soft::copies::round_key;
+use aes_planes::soft::sums::add_round_key;
 use aes_planes::soft::word::Word;
 
 // Adds round key `i` to every block.
