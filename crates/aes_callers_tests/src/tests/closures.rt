@@ -72,11 +72,11 @@ fn takes_a_row_of_five<C: BlockCipherEncrypt + BlockCipherDecrypt>(cipher: &C) -
     let wanted = five_blocks(&ENCRYPTED_128);
     let mut row = plain;
     cipher.encrypt_with_backend(&mut Row { blocks: &mut row });
-    let there = row == wanted;
+    let is_encrypted = row == wanted;
     cipher.decrypt_with_backend(&mut Row { blocks: &mut row });
-    let back = row == plain;
+    let is_decrypted = row == plain;
     encrypt_row(cipher, &mut row);
-    there && back && row == wanted
+    is_encrypted && is_decrypted && row == wanted
 }
 
 // The type of `aes` for both directions, with the size as a parameter.

@@ -30,16 +30,16 @@ fn answered<R: Abort + AllocGlobal>(rt: &R, line: &str, answer: &str) -> Result<
 fn encrypts_and_decrypts(rt: HostRuntime) -> Result<(), Fail> {
     for (key, plain, encrypted) in EXAMPLES {
         let key = digits(rt.alloc(), key)?;
-        let there = format!(in rt.alloc(); "enc {key} {plain:032x}")?;
+        let encryption = format!(in rt.alloc(); "enc {key} {plain:032x}")?;
         answered(
             &rt,
-            there.as_str(),
+            encryption.as_str(),
             format!(in rt.alloc(); "{encrypted:032x}")?.as_str(),
         )?;
-        let back = format!(in rt.alloc(); "dec {key} {encrypted:032x}")?;
+        let decryption = format!(in rt.alloc(); "dec {key} {encrypted:032x}")?;
         answered(
             &rt,
-            back.as_str(),
+            decryption.as_str(),
             format!(in rt.alloc(); "{plain:032x}")?.as_str(),
         )?;
     }
