@@ -15,7 +15,7 @@
         nonce, message = gcm.begin_next()               under the next nonce
 
 A key is os.urandom(32), kept where nobody else reads it; a password is none. In GCM no nonce may be used twice under a key.
-Random ones have 12 bytes or more; if any nonce of a key is random or has another length than 12 bytes, take a new key
+Random ones have 12 bytes or more; if any nonce of a key is random or has another length than 12 bytes, use a new key
 before 2^32 messages. In AES-GCM-SIV a nonce that comes twice only shows whether the two messages are the same.
 
 What counts as bytes: bytes, a bytearray, and whatever else has a length and a C-contiguous buffer of one dimension or
@@ -83,7 +83,7 @@ VERSION: int = _c.fotsgure_gcm_version()
 _STATUSES = ("", "a key has 16, 24 or 32 bytes, of AES-GCM-SIV 16 or 32", "the key was wiped",
              "a nonce has one byte or more, in AES-GCM-SIV 12", "a tag has 16 bytes",
              "more bytes than the standard allows, or more than were verified",
-             "the message was changed, or sealed under another key", "no nonce is left: take a new key",
+             "the message was changed, or sealed under another key", "no nonce is left: use a new key",
              "the calls came in the wrong order, for example text after finish, or decrypt before accept",
              "the system gave no randomness for a nonce")
 _NONCE_LENGTH, _TAG_LENGTH = 3, 4
