@@ -245,8 +245,8 @@ FOTSGURE_GCM_CHECK enum fotsgure_gcm_status fotsgure_gcm_open_to(const struct fo
  * nonce. */
 
 /* Begins a message under a nonce, which has any length. *message may be uninitialized: none of it is read, and nothing
- * of what it held is left. A refused call leaves it as it was. It moves no counter: never give it the `next` of a
- * counter that other calls go on with, but use fotsgure_gcm_begin_next.
+ * of what it held is left. A refused call leaves it as it was. It changes no counter: to use the `next` of a
+ * counter, call fotsgure_gcm_begin_next instead.
  * NONCE_LENGTH or NO_KEY; else DONE. */
 FOTSGURE_GCM_CHECK enum fotsgure_gcm_status fotsgure_gcm_begin(const struct fotsgure_gcm *gcm,
     struct fotsgure_gcm_message *FOTSGURE_GCM_ALONE message,
@@ -317,10 +317,10 @@ FOTSGURE_GCM_CHECK enum fotsgure_gcm_status fotsgure_gcm_decrypt_unverified(cons
 /* Overwrites *message with zeros: there is no message then. It may be uninitialized. Copies are not wiped. */
 void fotsgure_gcm_wipe_message(struct fotsgure_gcm_message *message) FOTSGURE_GCM_NOEXCEPT;
 
-/* AES-GCM-SIV (RFC 8452). Each message has keys of its own, derived from the key and the nonce, and the cipher text
+/* AES-GCM-SIV (RFC 8452). Each message is encrypted under keys that are derived from the key and the nonce. The cipher text
  * depends on the tag, which depends on all of the plain text. So it is the mode for nonces that are drawn at random, or
- * that may come twice by mistake. Section 9 of the RFC says how many messages a key may have. There are no calls for
- * pieces: all of a message must be there before any of it is encrypted or decrypted. */
+ * that may be used twice by mistake. Section 9 of the RFC says how many messages a key may have. The mode has no calls for
+ * pieces: the whole message must be in memory before any of it is encrypted or decrypted. */
 
 /* Prepares a key in *siv (KeyExpansion, FIPS 197, 5.2). *siv may be uninitialized: none of it is read. Nothing of what
  * it held is left.

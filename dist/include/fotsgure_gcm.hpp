@@ -71,7 +71,7 @@ public:
             text.data(), text.size(), made.second.data()));
         return made;
     }
-    // The same under a nonce of yours. One that comes twice only shows whether the two messages are the same.
+    // The same under a nonce of yours. One that is used twice only shows whether the two messages are the same.
     [[nodiscard]] Tag seal(const Nonce &nonce, Bytes additional, MutableBytes text) const {
         Tag tag{};
         detail::check(fotsgure_gcm_siv_seal(&siv, nonce.data(), additional.data(), additional.size(), text.data(),

@@ -118,7 +118,7 @@ impl GcmSiv {
         Ok((nonce, tag))
     }
 
-    /// The same under a nonce of yours. One that comes twice only shows whether the two messages are the same.
+    /// The same under a nonce of yours. One that is used twice only shows whether the two messages are the same.
     ///
     /// # Errors
     ///
