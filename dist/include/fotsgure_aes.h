@@ -33,8 +33,8 @@
  * they keep. Reviewed by hand and measured: that these calls keep no other copy of the schedule, that no call allocates,
  * that the stack suffices, and what calls read of an unwritten struct.
  *
- * Copies and threads: a struct fotsgure_aes may be copied and moved as bytes, and every copy is as secret as the key
- * and is wiped by itself. Any number of threads may use one struct at the same time by the calls that take it as const.
+ * Copies and threads: a struct fotsgure_aes may be copied and moved as bytes; every copy is as secret as the key and has
+ * to be wiped too. Any number of threads may use one struct at the same time by the calls whose parameter is const.
  * A struct fotsgure_aes_ctr belongs to one thread at a time; a copy of it would give out the same keystream again.
  *
  * A block cipher alone protects no message, and counter mode doesn't show whether a message was changed. For
@@ -42,7 +42,7 @@
 #ifndef FOTSGURE_AES_H
 #define FOTSGURE_AES_H
 
-/* It needs C99 or C++11. */
+/* This header needs C99 or C++11. */
 #include <stddef.h>
 #include <stdint.h>
 

@@ -5,8 +5,8 @@
  * checks a call from C.
  *
  * For every call, the caller must ensure:
- *  - In GCM no nonce twice under one key, over all messages, programs and machines: a second use gives away the key of the
- *    tags and the sum of two messages. fotsgure_gcm_seal_next counts nonces up. Random nonces have 12 bytes or more. At
+ *  - In GCM no nonce is used twice under one key, over all messages, programs and machines: a second use gives away the
+ *    key of the tags and the sum of two messages. fotsgure_gcm_seal_next counts nonces up. Random nonces have 12 bytes or more. At
  *    most 2^32 messages are allowed under a key if any of its nonces is random, or doesn't have 12 bytes (8.2.2, 8.3). In
  *    AES-GCM-SIV, the calls fotsgure_gcm_siv_.., a nonce that is used twice only shows whether the two messages, with
  *    their additional data, are the same.
@@ -41,13 +41,14 @@
  * the bytes of keys and of messages only by whether a tag is right.
  *
  * Copies and threads: a struct fotsgure_gcm or fotsgure_gcm_siv may be copied and moved as bytes; every copy is as
- * secret as the key and is wiped by itself. Any number of threads may use one struct at the same time by the calls that
- * take it as const. A struct fotsgure_gcm_counter belongs to one thread at a time: a copy of it would give out the same
- * nonces again. So does a struct fotsgure_gcm_message: a copy of it would encrypt another text under the same nonce. */
+ * secret as the key and has to be wiped too. Any number of threads may use one struct at the same time by the calls
+ * whose parameter is const. A struct fotsgure_gcm_counter belongs to one thread at a time: a copy of it would give out
+ * the same nonces again. A struct fotsgure_gcm_message also belongs to one thread at a time: a copy of it would encrypt
+ * another text under the same nonce. */
 #ifndef FOTSGURE_GCM_H
 #define FOTSGURE_GCM_H
 
-/* It needs C99 or C++11. */
+/* This header needs C99 or C++11. */
 #include <stddef.h>
 #include <stdint.h>
 
