@@ -6,10 +6,10 @@
  *
  * For every call, the caller must ensure:
  *  - In GCM no nonce is used twice under one key, over all messages, programs and machines: a second use gives away the
- *    key of the tags and the sum of two messages. fotsgure_gcm_seal_next counts nonces up. Random nonces have 12 bytes or more. At
- *    most 2^32 messages are allowed under a key if any of its nonces is random, or doesn't have 12 bytes (8.2.2, 8.3). In
- *    AES-GCM-SIV, the calls fotsgure_gcm_siv_.., a nonce that is used twice only shows whether the two messages, with
- *    their additional data, are the same.
+ *    key of the tags and the sum of two messages. fotsgure_gcm_seal_next counts nonces up. Random nonces have 12 bytes
+ *    or more. At most 2^32 messages are allowed under a key if any of its nonces is random, or doesn't have 12 bytes
+ *    (8.2.2, 8.3). In AES-GCM-SIV, the calls fotsgure_gcm_siv_.., a nonce that is used twice only shows whether the two
+ *    messages, with their additional data, are the same.
  *  - Valid pointers. A pointer to a struct points to a whole one, aligned as C aligns it; every other pointer points to
  *    as many bytes as the length beside it says, or as its array has. Bytes need no alignment. What a call reads has
  *    been initialized.
