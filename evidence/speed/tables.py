@@ -154,18 +154,18 @@ def published(where, rows, key=16):
     meaning = (
         f"Without AES instructions, OpenSSL, Botan and Libgcrypt use SSSE3. They take {among('1 block', *SSSE3)} times as long as this "
         f"library for one block, and {among('4,096', *SSSE3)} times as long for 4,096.{' Quicker than this library: ' if quicker else ''}"
-        f"{', '.join(quicker)}{'.' if quicker else ''} The build for processors with AVX2 takes {among('2 blocks', 'for AVX2')} of the time "
-        f"of the first one for two blocks, and {among('4,096', 'for AVX2')} for 4,096. OpenSSL with AES instructions takes "
-        f"{among('4,096', WITH_THEM)} times as long for 4,096 blocks. Use OpenSSL if your processor has them and speed is all that you need."
+        f"{', '.join(quicker)}{'.' if quicker else ''} The build for AVX2 takes {among('2 blocks', 'for AVX2')} of the time of the build "
+        f"without it for two blocks, and {among('4,096', 'for AVX2')} for 4,096. OpenSSL with AES instructions takes "
+        f"{among('4,096', WITH_THEM)} times as long for 4,096 blocks. Use OpenSSL if your processor has them and you need only speed."
     )
     how = (
         "The first column is the time of a call from C with a key of 16 bytes. The others are the time of the same "
-        "work divided by it, so below 1 is faster than this library. By SSSE3 these libraries read no tables once a "
+        "work divided by it, so below 1 is faster than this library. With SSSE3 these libraries read no tables once a "
         "key is set. In the rows of counter mode the key is set beforehand."
     )
     measured = (
         f"Measured by `evidence/speed/run`: {conditions}, beside {', '.join(shown)}. "
-        "[summary.csv](../evidence/speed/summary.csv) has these times and those of the picture."
+        "[summary.csv](../evidence/speed/summary.csv) has these times and the picture's."
     )
     return meaning, tools.table(["", "this library", *COLUMNS], *lines), how, measured
 
@@ -195,9 +195,9 @@ def published_gcm(where, rows):
     heads = ["", "this library", "for AVX2", *peers, "OpenSSL with AES instructions"]
     return (
         "The first column is the time of a call from C with a key of 16 bytes; the others are the time of the same "
-        "work divided by it, so below 1 is faster. All but the last may use no instructions for AES and for products "
-        "of polynomials. OpenSSL, Libgcrypt, Nettle and mbedtls then read tables at secret places; Botan and BearSSL "
-        "don't, nor does this library.",
+        "work divided by it, so below 1 is faster. In all columns but the last, no instructions for AES and for "
+        "products of polynomials are used. OpenSSL, Libgcrypt, Nettle and mbedtls then read tables at secret addresses. "
+        "This library, Botan and BearSSL don't.",
         tools.table(heads, *lines),
         "These times are of the run above.",
     )

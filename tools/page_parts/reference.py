@@ -16,9 +16,9 @@ PARTS = [
     ("Make a value", "Trait `KeyInit`, of all nine types. A value is its key in contracts.", "cipher/init.rt",
      ["new", "new_from_slice", "has_key"]),
     ("Encrypt and decrypt", "Trait `BlockCipherEncrypt`, of the types whose names don't end in `Dec`. Trait "
-     "`BlockCipherDecrypt`, of those whose names don't end in `Enc`, has the same calls with `decrypt` for `encrypt`, `Dec` "
-     "for `Enc`, and InvCipher (FIPS 197, 5.3) for Cipher (5.1). All work under the value's round keys. A backend is what a closure "
-     "gets to process blocks with ([MODES](MODES.md#many-blocks-in-one-call-write-a-closure)). `CipherIn<D>` has four of them "
+     "`BlockCipherDecrypt` is of those whose names don't end in `Enc`. It has the same calls with `decrypt` for `encrypt` and `Dec` for `Enc`: "
+     "they compute InvCipher (FIPS 197, 5.3) where these compute Cipher (5.1). All use the value's round keys. A closure processes blocks by a "
+     "*backend* ([MODES](MODES.md#many-blocks-in-one-call-write-a-closure)). `CipherIn<D>` has four of these calls "
      "(`process_block`, `process_blocks`, `process_blocks_b2b`, `process_with_backend`), for code that both directions share.", "cipher/encrypt.rt",
      ["encrypt_block", "encrypt_block_b2b", "encrypt_blocks", "encrypt_blocks_b2b", "encrypt_with_backend",
       "encrypt_with_backend_for"]),
@@ -27,14 +27,14 @@ PARTS = [
     ("Wipe", "A method of all nine types. Dropping a value wipes its round keys too.", "aes.rt", ["zeroize"]),
     ("Count S-box layers", "Methods of the nine types of `aes` alone. An S-box layer substitutes the bytes of a whole state, or of a "
      "batch of states at once. A `Layers` is a number that only contracts see. "
-     "`decrypt_blocks_counted` is the same for InvCipher.", "aes/counted.rt", ["new_counted", "encrypt_blocks_counted"]),
+     "`decrypt_blocks_counted` does the same for InvCipher.", "aes/counted.rt", ["new_counted", "encrypt_blocks_counted"]),
 ]
 
 # Where the calls stand that the page leaves out, since they say of decryption what others say of encryption, word for word.
 MIRRORS = {"cipher/encrypt.rt": "cipher/decrypt.rt", "aes/counted.rt": "aes/counted.rt"}
 
 # What the clauses of a call say beside its description and its errors.
-CLOSURE = "what the closure's `did` says holds of it before the call, of the round keys, and of it afterwards"
+CLOSURE = "the closure's `did` holds of the closure before the call, the round keys, and the closure afterwards"
 MORE = {"has_key": "each of them is below 256", "encrypt_with_backend": CLOSURE, "encrypt_with_backend_for": CLOSURE}
 MORE |= dict.fromkeys(("encrypt_blocks", "encrypt_blocks_counted"), "no block is added or lost")
 # What the descriptions of calls on blocks end in, and the page says once.
@@ -43,19 +43,19 @@ ONCE = re.compile(r",? under the value's round keys \(Cipher, FIPS 197, 5\.1\)")
 HEAD = """# The nine types, call by call
 
 `Aes128`, `Aes192` and `Aes256` encrypt and decrypt with keys of 16, 24 and 32 bytes. The types whose names end in `Enc` or
-`Dec` do only one of these. The crates `aes_hybrid` and `aes` each have all nine
+`Dec` only encrypt or only decrypt. The crates `aes_hybrid` and `aes` each have all nine types
 ([which to use](CALLING.md#choose-a-type-and-make-a-value)), with the same calls and the same contracts. A `Block` is
 `[u8; 16]`. Import the traits from `aes_cipher::cipher`.
 
-This page is made by `tools/pages` from the sources. What it says of results is proved: the clauses stand below a signature in
-the source.
+`tools/pages` makes this page from the sources. What it says about results is proved: in the source, the clauses are below
+each signature.
 """
 TAIL = """
 ## Conversions and other traits
 
 | call | does |
 |---|---|
-| `Clone::clone(&self)` | returns a value with the same key, which is wiped by itself. It is always `Ok` |
+| `Clone::clone(&self)` | returns a second value with the same key, always as `Ok`. Each of the two wipes its own round keys |
 | `Aes128::from(enc)`, `Aes128Dec::from(enc)` | makes the type that also decrypts, or only decrypts, from an `Aes128Enc` or a reference to one; the key is the same. Likewise for 192 and 256 |
 | `Drop` | overwrites the round keys with zeros |
 | `Debug` | prints the name of the type and nothing of the key: `Aes128Enc { .. }` |
