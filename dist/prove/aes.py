@@ -10,7 +10,7 @@ from bits import BLOCK, DATA, KEY, LOST, ONES, PUBLIC, Domain, Unproved, linear_
 from calls import ANY, Buffer, Call, Stream, prove
 from linear import WORD, Linear, unknown
 from machine import LAST, LEAD, Pointer, Verdict, Window
-from standards import ICV1, ICV2, Aes, number
+from standards import ICV1, ICV2, ZEROS, Aes, number
 
 # The header's enum, structs and sizes; prove.py has the compiler compare them.
 DONE, KEY_LENGTH, NO_KEY, UNEQUAL_COUNTS, KEYSTREAM_END, INVALID_COUNT, REFUSED, TAG_LENGTH, NONCE_LENGTH, TOO_LONG = range(10)
@@ -438,6 +438,55 @@ class Keyed:
         steps, wrapped, start, key = self.unwrap_string(n)
         return Call("aes_unwrap", [self.schedule(), Buffer("input", wrapped), count, Buffer("output", self.undefined(8 * n), key), n],
                     DONE, steps=steps, reveals=self.aes.xor(start, ICV1), refused=REFUSED, refused_after={"output": [0] * 8 * n}, plain=key)
+
+    # The same of every number of semiblocks. In each turn of W, semiblock i, and A before it, are bytes of one block, with the number of that
+    # before (at_link); the first semiblock is number 0, or backwards the last one. What the semiblock becomes are others, of block i. After
+    # a turn A becomes arbitrary bytes once more.
+    def semiblocks(self):
+        """A and a semiblock before a step, the patterns of semiblocks before a turn and after it, and A after each turn."""
+        a, r, made = self.block_bytes[:8], self.block_bytes[8:], self.semiblock("semiblock", True)
+        return a, r, self.pattern(r, -1), self.pattern(made), [self.semiblock("turn %d" % k) for k in range(1, 7)]
+
+    def semiblock(self, name, *of_block):
+        return self.once(name, lambda: [self.domain.fresh("%s, byte %d" % (name, i), DATA, *of_block) for i in range(8)])
+
+    def any_turns(self, count, output, first, direction):
+        """The steps of W, or of its inverse, which begins with A ^ [6n]."""
+        a, r, before, after, turns = self.semiblocks()
+        wraps = direction == "encrypt"
+
+        def steps(m):
+            i, n, turn = m.done, m.known(count), m.phase
+            number = lambda t: m.to_bytes(t if wraps else 6 * n - t, 8)[::-1]
+            if turn == 6 or not m.is_below(i, n + 2) or m.is_below(i, n) is None:
+                return "nothing", (), ()
+            if i == n + 1:
+                return "whole", output, (before, after) if turn < 5 else (after,) if wraps else (after, [0] * 8, True)
+            if i == n:
+                added = ZEROS[:8] if wraps else number(n * turn + n)
+                return "kept", self.aes.xor(self.at_link(m, a, n), added), self.aes.xor(turns[turn], added)
+            block = self.cipher_of((a if i != 0 else turns[turn - 1] if turn else first) + r, direction)
+            done_a, done_r = self.at_link(m, a, i + 1), [self.domain.moved(b, i - m.first_block) for b in after]
+            return self.found_in, self.at_link(m, block, i), self.aes.xor(done_a, number(n * turn + i + 1)) + done_r
+        return steps
+
+    def at_link(self, m, bytes_, k):
+        """Block k, and the value before it, have the number of the block before them, so that none is left of what no pass needs."""
+        return self.at_block(m, bytes_, k - 1)
+
+    def any_wrap(self):
+        n, (_, _, key, wrapped, turns) = unknown("n"), self.semiblocks()
+        output = Stream("output", n * 8, self.undefined(8), wrapped, head=(self.undefined(8), turns[5]))
+        return Call("aes_wrap", [self.schedule(), Stream("input", n * 8, key), n, output, n + 1], DONE, plain=self.of_all(key),
+                    steps=self.any_turns(n, "output", ICV1, "encrypt"), facts={n - 2, (1 << 54) - 1 - n})
+
+    def any_unwrap(self):
+        n, (a, _, wrapped, key, turns) = unknown("n"), self.semiblocks()
+        first = self.aes.xor(self.pattern(a, -1), [self.domain.opaque((n * 6, k)) for k in range(8)][::-1])
+        input_ = Stream("input", n * 8, wrapped, head=(first, None), backwards=True)
+        output = Stream("output", n * 8, self.undefined(8), key, backwards=True)
+        return Call("aes_unwrap", [self.schedule(), input_, n + 1, output, n], DONE, plain=self.of_all(key), refused=REFUSED,
+                    steps=self.any_turns(n, "output", a, "decrypt"), reveals=self.aes.xor(turns[5], ICV1), facts={n - 2, (1 << 54) - 1 - n})
 
     def wrap_padded(self, length):
         """Key wrap with padding (KWP, SP 800-38F, 6.3; RFC 5649) .. what is wrapped has one semiblock more than the key fills,

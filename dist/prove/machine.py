@@ -35,7 +35,7 @@ from collections import namedtuple
 
 from bits import LOST, PUBLIC, Pause, Undefined, Unproved
 from elf import CONTENT, FLAGS, LOADED, Elf
-from linear import Linear, implied, is_number, replaced, step_of, terms, tightened, unknown, wrapped
+from linear import Linear, implied, is_number, refuted, replaced, step_of, terms, tightened, unknown, wrapped
 
 Pointer = namedtuple("Pointer", "base offset")  # base: the name of a region, or of a register's value before the call
 Distance = namedtuple("Distance", "base other offset")  # the address of a buffer, less that of another, plus a constant
@@ -67,6 +67,7 @@ Memory = namedtuple("Memory", "size base index scale offset align before after",
 Instruction = namedtuple("Instruction", "run name operands next form")  # form: see `form`
 
 LIBC = "memcpy", "memmove", "memset"
+HEAD = " head"  # what the name of that of a buffer ends with
 LEAD, LAST = 2, 200  # the number of the first block of a buffer whose length isn't known; those that occur are less than LAST
 WRAPPED = "wrapped"  # an unknown: the block from which on the counter has wrapped around, if that is in what is done
 FARTHEST = 1 << 16  # how many bytes the stack pointer may move at once: more than any frame has
@@ -177,27 +178,43 @@ class Region:
 
 
 class Window(Region):
-    """A buffer of a size that isn't known. `content` has the bytes from `origin` on, as far as they were accessed. Before these each block
-    is what it has to be: by `want`, a function of the machine and of the number of the block in the buffer. Behind them it is what
-    `initial` says. These patterns are those of the block with number LEAD."""
+    """A buffer of a size that isn't known. `content` has the bytes from `origin` on, as far as they were accessed. Before these, and from
+    `end` on, each block is what it has to be: `want`, or what that is as a function of the machine and of the number of the block in the
+    buffer. Others are what `initial` says. These patterns are those of the block with number LEAD; so a block has as many bytes as they
+    have. In front of all this a buffer may have so many bytes that are a region of their own, its `head`. Or `backwards`: the last block
+    counts as the first one, and so on."""
 
-    def __init__(self, size, initial, want):
+    def __init__(self, size, initial, want, head=0, backwards=False):
         super().__init__([], want is not None)
-        self.size, self.initial, self.want, self.origin = size, initial, want, 0
+        self.size, self.end, self.initial, self.want, self.origin = size, size, initial, want, 0
+        self.unit, self.head, self.backwards = len(initial), head, backwards
         self.turn = 0  # how often it began again
         self.undoes = False  # whether what was done is to be undone
         self.waits = False  # for the domain of the patterns: a call that expands a key begins in another one
 
     def at(self, m):
         """Where `content` begins, from the block with number LEAD on."""
-        at = self.origin - 16 * m.first_block
+        at = self.origin - self.unit * m.first_block
         if not is_int(at):
             raise Unproved("a block whose number isn't known")
         return at
 
     def extend(self, m, count):
         for i in range(self.at(m) + len(self.content), self.at(m) + count):
-            self.content.append(m.domain.moved(self.initial[i % 16], i // 16))
+            self.content.append(m.domain.moved(self.initial[i % self.unit], i // self.unit))
+
+    @property
+    def whole(self):
+        return self.head + self.size
+
+    def turned(self, offset, size):
+        """Where an access lies, in the order of the blocks."""
+        if self.backwards:
+            within = offset % self.unit if is_int(offset) else offset.divided(self.unit)[1]
+            if within + size > self.unit:
+                raise Unproved("accesses two blocks at once that are taken backwards")
+            offset = self.size - self.unit - offset + 2 * within
+        return offset
 
     def reached(self, m, offset, size):
         """Where in `content` an access lies."""
@@ -209,30 +226,33 @@ class Window(Region):
 
     def wanted(self, m):
         """What the first block of `content` has to be; None for bytes of which what is known doesn't say it."""
-        want = self.want(m, self.origin // 16 if is_int(self.origin) else self.origin.divided(16)[0])
-        return [x if x is None else m.domain.moved(x, self.at(m) // 16) for x in want]
+        want, unit = self.want, self.unit
+        if callable(want):
+            want = want(m, self.origin // unit if is_int(self.origin) else self.origin.divided(unit)[0])
+        return [x if x is None else m.domain.moved(x, self.at(m) // unit) for x in want]
 
     def settle(self, m):
         """Leaves out the first blocks that are what they have to be, and not what they were."""
-        while len(self.content) >= 16:
-            have, before = self.content[:16], [m.domain.moved(x, self.at(m) // 16) for x in self.initial]
+        unit = self.unit
+        while len(self.content) >= unit:
+            have, before = self.content[:unit], [m.domain.moved(x, self.at(m) // unit) for x in self.initial]
             if have == before or have != self.wanted(m):
                 return
-            self.origin, self.content = self.origin + 16, self.content[16:]
+            self.origin, self.content = self.origin + unit, self.content[unit:]
 
     def is_untouched(self):
-        return is_int(self.origin) and self.origin == 0 and not self.content
+        return self.origin == 0 and not self.content and self.end == self.size
 
     def initial_at(self, m, base, offset, size):
         """Bytes as they were."""
-        number = offset - 16 * m.first_block
+        number, unit = offset - self.unit * m.first_block, self.unit
         if not is_int(number):
             return [m.domain.opaque((Content(base, offset + k, "content %d" % self.turn), 0)) for k in range(size)]
-        return [m.domain.moved(self.initial[i % 16], i // 16) for i in range(number, number + size)]
+        return [m.domain.moved(self.initial[i % unit], i // unit) for i in range(number, number + size)]
 
     def is_done(self, m):
         """Whether all blocks are what they have to be."""
-        rest = self.size - self.origin
+        rest = self.end - self.origin
         if not self.writable:
             return True
         if not is_int(rest) or rest != len(self.content):
@@ -244,11 +264,11 @@ class Window(Region):
             return False
         return True
 
-    def begin_again(self, initial, undone=None):
-        """All blocks are what they have to be, and may be read once more, as these. Nothing more is written; or, if what was done is undone,
-        these blocks."""
+    def begin_again(self, initial, want=None, undoes=False):
+        """All blocks are what they have to be, and may be read once more, as these. Nothing more is written; or they become what `want`
+        says, if `undoes` only in a call that is refused."""
         self.initial, self.origin, self.content, self.turn = initial, 0, [], self.turn + 1
-        self.writable, self.undoes, self.want = undone is not None, undone is not None, lambda m, number: undone
+        self.writable, self.undoes, self.want = want is not None, undoes, want
 
     def says(self, domain, name, byte):
         return "the block at %s of %s is not what it has to be: it begins with %s" % (self.origin, name, domain.describe(byte))
@@ -257,15 +277,15 @@ class Window(Region):
         """Compares all blocks with what they have to be, up to the end."""
         if not self.writable:
             return
-        rest = self.size - self.origin
+        rest, unit = self.end - self.origin, self.unit
         if not is_int(rest) or rest < 0:
             raise Unproved("%s has %s bytes and is only done up to %s" % (name, self.size, self.origin))
         self.extend(m, rest)
-        for at in range(0, rest, 16):
-            have, want = self.content[:min(16, rest - at)], self.wanted(m)
+        for at in range(0, rest, unit):
+            have, want = self.content[:min(unit, rest - at)], self.wanted(m)
             if have != want[:len(have)]:
                 raise Unproved(functools.partial(self.says, m.domain, name, have[0]))
-            self.origin, self.content = self.origin + 16, self.content[16:]
+            self.origin, self.content = self.origin + unit, self.content[unit:]
 
 
 class Program:
@@ -516,7 +536,7 @@ class Machine:
         So they are ordered as their offsets are. (A counter isn't placed.)"""
         for a in addresses:
             region = isinstance(a, Pointer) and self.regions.get(a.base)
-            if isinstance(region, Window) and self.implied(a.offset) and self.implied(region.size - a.offset):
+            if isinstance(region, Window) and self.implied(a.offset) and self.implied(region.whole - a.offset):
                 continue
             # (An empty buffer may be at 16, which the header passes in the place of NULL: nothing before it counts.)
             if not region:
@@ -533,7 +553,8 @@ class Machine:
         if is_number(x, y) and not is_int(x, y) and size == self.word:
             x, y = self.ranged(x), self.ranged(y)
             flags = {"c": ("not", (x, y + 1 - carry, "below"))} if self.fits(x) and self.fits(y) else {}
-            return self.offset(x, carry - 1 - y), {**flags, **({"z": (x, y, "equal")} if flags and carry else {})}
+            apart = self.implied(self.most - x + y) and self.implied(self.most + x - y)  # by less than 2^64
+            return self.offset(x, carry - 1 - y), {**flags, **({"z": (x, y, "equal")} if apart and carry else {})}
         if isinstance(x, Distance) and is_number(y) and carry:
             return x._replace(offset=x.offset - y), {"c": ("not", (x, y, "below")) if y != 0 else 1, "z": (x, y, "equal")}
         if is_pointer(x, y) and carry and x.base == y.base and not is_int(x.offset, y.offset):
@@ -690,7 +711,7 @@ class Machine:
         self.general = {r: new(v) & self.most if isinstance(v, Linear) and is_int(new(v)) else new(v) for r, v in self.general.items()}
         for region in self.regions.values():
             if isinstance(region, Window):
-                region.size, region.origin = new(region.size), new(region.origin)
+                region.size, region.end, region.origin = new(region.size), new(region.end), new(region.origin)
         self.counter, self.done = new(self.counter), new(self.done)
         self.loops, self.replaced, self.want = {}, [*self.replaced, (name, by)], None
 
@@ -748,18 +769,35 @@ class Machine:
     def names(self, value):
         return [self.domain.opaque((value, k)) for k in range(self.word)]
 
+    def window(self, pointer):
+        """The buffer behind whose head a pointer points."""
+        region = self.regions.get(pointer.base) if is_pointer(pointer) else None
+        return region if isinstance(region, Window) and pointer.offset == region.head else None
+
     def copy_all(self, to, source, count):
         """A copy of a whole buffer that is as it was to another one."""
-        a, b = (self.regions.get(p.base) if is_pointer(p) and p.offset == 0 else None for p in (to, source))
-        if not (isinstance(a, Window) and isinstance(b, Window) and a.size == b.size == count and a.writable and not b.writable):
+        a, b = self.window(to), self.window(source)
+        if not (a and b and a.size == b.size == count and a.backwards == b.backwards and a.writable and not b.writable):
             raise Unproved("a copy of a number of bytes that isn't known, and not of a whole buffer")
-        a.initial, a.origin, a.content = b.initial, 0, []
+        a.initial, a.origin, a.end, a.content = b.initial, 0, a.size, []
+
+    def fill(self, to, value, count):
+        """So many bytes of a buffer that is as it was become what they have to be, its first ones."""
+        a = self.window(to)
+        if not (a and a.is_untouched() and a.want == self.to_bytes(value, 1) * a.unit and self.implied(a.size - count) and self.implied(count)):
+            raise Unproved("a number of bytes that isn't known is overwritten, and not as it has to be")
+        if (count % a.unit if is_int(count) else count.divided(a.unit)[1]) != 0:
+            raise Unproved("part of a block is overwritten")
+        a.origin, a.end = (0, a.size - count) if a.backwards else (count, a.size)
 
     def overlaps(self, x, y, what):
-        """Whether a flag says that two buffers of this length overlap, which the header excludes where one is written to."""
+        """Whether a flag says that two buffers overlap, which the header excludes where one is written to: that the first one, or what
+        follows so many bytes of it, begins in the first y bytes of the second one."""
         a, b = (self.regions.get(name) for name in (x.base, x.other))
-        return isinstance(a, Window) and isinstance(b, Window) and a.writable | b.writable and (
-            x.offset == 0 and a.size == b.size == y and what == "below")
+        if not (isinstance(a, Window) and isinstance(b, Window) and a.writable | b.writable and what == "below" and is_int(x.offset)):
+            return False
+        ends = max(x.offset, 0) - a.whole, max(-x.offset, 0) + y - b.whole - 1
+        return all(refuted(self.facts | {y - 1, end}) for end in ends)
 
     def any_byte(self):
         """A byte of which nothing is known; it may depend on the key."""
@@ -1021,12 +1059,16 @@ class Machine:
         if isinstance(region, Window):
             if region.waits:
                 raise Pause("accesses %s while the key is expanded" % base)
-            if not self.implied(offset) or not self.implied(region.size - offset - size):
+            if not self.implied(offset) or not self.implied(region.whole - offset - size):
                 raise Unproved("%s %d bytes at %s of %s, which has %s" % (
-                    "writes" if write else "reads", size, offset, base, region.size))
-            if not write and region.is_untouched():
-                return region.initial_at(self, base, offset, size), 0
-            offset = region.reached(self, offset, size)
+                    "writes" if write else "reads", size, offset, base, region.whole))
+            if is_int(offset) and offset < region.head:
+                region = self.regions[base + HEAD]
+            else:
+                offset = region.turned(offset - region.head, size)
+                if not write and region.is_untouched():
+                    return region.initial_at(self, base, offset, size), 0
+                offset = region.reached(self, offset, size)
         if offset < 0 or offset + size > len(region.content):
             raise Unproved("%s %d bytes at %d of %s, which has %d" % (
                 "writes" if write else "reads", size, offset, base, len(region.content)))
@@ -1083,6 +1125,12 @@ class Machine:
         if flag[0] == "zero" and any(q[0] == "zero" and answer and {*flag[1:]} <= {*q[1:]} for q, answer in self.answers.items()):
             return 1  # some of those that are all zero
         return self.ask(flag)
+
+    def at_most(self, below, equal):
+        """Whether a number is below another one, as one flag says, or equal to it, as the other says: of numbers one question."""
+        if isinstance(below, tuple) and is_number(*below[:2]) and equal == (*below[:2], "equal"):
+            return 1 - self.decide((below[1], below[0], "below"))
+        return self.decide(below) or self.decide(equal)
 
     def carried(self, flag):
         """A flag that an instruction adds: one that compares lengths, as 0 or 1."""
@@ -1200,8 +1248,8 @@ class Machine:
         if self.shadow and stack != self.top:  # (else it is called in the place of this call, whose caller has left room)
             self.store(Pointer("stack", stack + self.word * len(self.pushed)), [self.domain.undefined] * self.shadow)
         to, source, count = (self.general[r] for r in self.arguments[:3])
-        if isinstance(count, Linear) and name != "memset":
-            self.copy_all(to, source, count)
+        if isinstance(count, Linear) or getattr(self.window(to), "backwards", False):
+            (self.fill if name == "memset" else self.copy_all)(to, source, count)
             count = 0
         if not is_int(count):
             raise Unproved("a length depends on the key or on data")
