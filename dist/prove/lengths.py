@@ -9,7 +9,7 @@ from collections import namedtuple
 
 from bits import LOST, Unproved
 from linear import is_number, refuted, replaced, terms, unknown, wrapped
-from machine import WRAPPED, Pointer, Window, is_int, is_pointer, lanes
+from machine import FARTHEST, WRAPPED, Pointer, Window, is_int, is_pointer, lanes
 
 # The last time at the head of a loop: how many comparisons were decided before it; the state after the first pass, with what was decided
 # in that; and the general state (see General).
@@ -155,13 +155,13 @@ def in_a_pass(first, second):
 
 
 def generally(a, b, passes, most):
-    """What is a after the first pass and b after the second, after any number of passes; None if that can't be said. `most` is the highest
-    word."""
+    """What is a after the first pass and b after the second, after any number of passes; None if that can't be said: a number that moves
+    farther isn't one that counts. `most` is the highest word."""
     if a == b:
         return a
     if is_number(a, b):
         by = wrapped(b - a, most)
-        return wrapped(a + passes * by, most) if is_int(by) else None
+        return wrapped(a + passes * by, most) if is_int(by) and abs(by) <= FARTHEST else None
     if is_pointer(a, b) and a.base == b.base:
         offset = generally(a.offset, b.offset, passes, most)
         return None if offset is None else Pointer(a.base, offset)
@@ -169,15 +169,17 @@ def generally(a, b, passes, most):
 
 
 def general_bytes(m, a, b, passes, numbers=()):
-    """The same of bytes, in words. `numbers` are those of registers after both passes. (Of a word that isn't alike, what is of blocks, or of
-    numbers that aren't known, may not be either.)"""
+    """The same of bytes, in words. `numbers` are those of registers after both passes. (What was made of numbers that aren't known may be
+    alike by chance, as 4 n + 1 and 4 n + 2; and so may be what is of blocks, in a word that isn't alike.)"""
     d, out = m.domain, []
+    keeps = lambda p, q: p == q and (p in d.opaque_of or not d.unknown_cells(p))
     for x, y in zip(lanes(a, m.word), lanes(b, m.word)):
-        v = generally(m.from_bytes(x), m.from_bytes(y), passes, m.most) if x != y and len(x) == m.word else None
-        if v is None and x != y and len(x) == m.word:
-            v = with_number(m, x, y, passes, numbers)
-        out += x if x == y else m.names(v) if is_pointer(v) else m.to_bytes(v, m.word) if v is not None else [
-            p if p == q and not d.unknown_cells(p) and not d.blocks(p) else m.any_byte() for p, q in zip(x, y)]
+        v, unlike = None, x != y
+        if unlike and len(x) == m.word:
+            v = generally(m.from_bytes(x), m.from_bytes(y), passes, m.most)
+            v = with_number(m, x, y, passes, numbers) if v is None else v
+        out += m.names(v) if is_pointer(v) else m.to_bytes(v, m.word) if v is not None else [
+            p if keeps(p, q) and not (unlike and d.blocks(p)) else m.any_byte() for p, q in zip(x, y)]
     return out
 
 
@@ -186,7 +188,7 @@ def with_number(m, x, y, passes, numbers):
     added = lambda word, number: m.bytewise("xor", word, m.to_bytes(number, m.word)[::-1])
     for a, b in numbers if all(map(m.domain.symbolic, x + y)) else ():
         rest = added(x, a)
-        if rest == added(y, b):
+        if rest == added(y, b) and not any(map(m.domain.unknown_cells, rest)):
             return tuple(added(rest, generally(a, b, passes, m.most)))
     return None
 
@@ -203,9 +205,7 @@ def general_state(known, key, visit, now, wrong=frozenset()):
     g.done = generally(first.done, second.done, passes, g.most)
     for r, v in first.general.items():
         general = generally(v, second.general[r], passes, g.most)
-        if general is None:
-            general = g.from_bytes(general_bytes(g, g.to_bytes(v, g.word), g.to_bytes(second.general[r], g.word), passes))
-        g.general[r] = general
+        g.general[r] = tuple(g.any_byte() for _ in range(g.word)) if general is None else general
     g.vectors = [general_bytes(g, v, w, passes) for v, w in zip(first.vectors, second.vectors)]
     changed = [(v, w) for r, v in first.general.items() if is_number(v, w := second.general[r]) and is_int(w - v) and v != w]
     for name_, region in g.regions.items():

@@ -656,9 +656,11 @@ class Machine:
             raise Unproved("a product that isn't a division")
         return self.quotient(x, by)
 
-    def masked(self, x, y):
-        """`and` with a mask of bits that are known, or of all the others; else None."""
+    def masked(self, name, x, y):
+        """`and` with a mask of bits that are known, or of all the others, and `or` with such bits; else None."""
         x, y = (y, x) if is_int(x) else (x, y)
+        if isinstance(x, Linear) and is_int(y) and name == "or":
+            return x + (y & ~x.constant) if 0 <= y < step_of(x) else None
         if isinstance(x, Linear) and is_int(y):
             low = -y & self.most  # if it is a power of two, all bits below it go
             if y < step_of(x):
@@ -903,7 +905,7 @@ class Machine:
             return {"a": x & y, "o": x | y, "x": x ^ y}[name[0]] & (1 << 8 * size) - 1
         if name == "or" and y == 0 or name == "and" and x == y:
             return x
-        masked = self.masked(x, y) if name == "and" and size == self.word else None
+        masked = self.masked(name, x, y) if name in ("and", "or") and size == self.word else None
         if masked is not None:
             return masked
         if name == "or" and x == 0:
