@@ -452,24 +452,28 @@ class Keyed:
     def semiblock(self, name, *of_block):
         return self.once(name, lambda: [self.domain.fresh("%s, byte %d" % (name, i), DATA, *of_block) for i in range(8)])
 
-    def any_turns(self, count, output, first, direction):
-        """The steps of W, or of its inverse, which begins with A ^ [6n]."""
+    def any_turns(self, count, output, first, direction, start=0):
+        """The steps of W, or of its inverse, which begins with A ^ [6n], from this phase on; before that the semiblocks are put there. Of
+        one semiblock there is one step alone, in which no number is added (6.3)."""
         a, r, before, after, turns = self.semiblocks()
         wraps = direction == "encrypt"
 
         def steps(m):
-            i, n, turn = m.done, m.known(count), m.phase
+            i, n, turn = m.done, m.known(count), m.phase - start
             number = lambda t: m.to_bytes(t if wraps else 6 * n - t, 8)[::-1]
-            if turn == 6 or not m.is_below(i, n + 2) or m.is_below(i, n) is None:
+            if turn < 0:
+                return "whole", output, (before, after)
+            last = 0 if n == 1 else 5
+            if turn > last or not m.is_below(i, n + 2) or m.is_below(i, n) is None:
                 return "nothing", (), ()
-            if i == n + 1:
-                return "whole", output, (before, after) if turn < 5 else (after,) if wraps else (after, [0] * 8, True)
+            if i == n + (last > 0):
+                return "whole", output, (before, after) if turn < last else (after,) if wraps else (after, [0] * 8, True)
             if i == n:
                 added = ZEROS[:8] if wraps else number(n * turn + n)
                 return "kept", self.aes.xor(self.at_link(m, a, n), added), self.aes.xor(turns[turn], added)
-            block = self.cipher_of((a if i != 0 else turns[turn - 1] if turn else first) + r, direction)
-            done_a, done_r = self.at_link(m, a, i + 1), [self.domain.moved(b, i - m.first_block) for b in after]
-            return self.found_in, self.at_link(m, block, i), self.aes.xor(done_a, number(n * turn + i + 1)) + done_r
+            block = self.cipher_of((a if i != 0 else turns[turn - 1] if turn else m.known_bytes(first)) + r, direction)
+            done_a = self.aes.xor(self.at_link(m, a, i + 1), number(n * turn + i + 1)) if last else turns[5]
+            return self.found_in, self.at_link(m, block, i), done_a + [self.domain.moved(b, i - m.first_block) for b in after]
         return steps
 
     def at_link(self, m, bytes_, k):
@@ -489,6 +493,19 @@ class Keyed:
         output = Stream("output", n * 8, self.undefined(8), key, backwards=True)
         return Call("aes_unwrap", [self.schedule(), input_, n + 1, output, n], DONE, plain=self.of_all(key), refused=REFUSED,
                     steps=self.any_turns(n, "output", a, "decrypt"), reveals=self.aes.xor(turns[5], ICV1), facts={n - 2, (1 << 54) - 1 - n})
+
+    def any_wrap_padded(self, rest):
+        """Of 16 k + `rest` bytes, as the code fills up two semiblocks at once; `rest` is from 1 to 16."""
+        length, (_, r, key, wrapped, turns) = unknown("k") * 16 + rest, self.semiblocks()
+        n, last = unknown("k") * 2 + (rest + 7) // 8, self.pattern(r[:(rest - 1) % 8 + 1], -1)
+        first = ICV2 + [self.domain.opaque((length, k)) for k in (3, 2, 1, 0)]
+
+        def choose(m, number):
+            below = m.is_below(number, m.known(n - 1))
+            return [below if below is None else 1 - below] * 8
+        output = Stream("output", n * 8, self.undefined(8), [key, (last + ZEROS)[:8]], choose, (self.undefined(8), turns[5]))
+        return Call("aes_wrap_padded", [self.schedule(), Stream("input", length, key), length, output, n + 1], DONE, plain=self.of_all(key),
+                    steps=self.any_turns(n, "output", first, "encrypt", 1), facts={unknown("k"), (1 << 32) - 1 - length})
 
     def wrap_padded(self, length):
         """Key wrap with padding (KWP, SP 800-38F, 6.3; RFC 5649) .. what is wrapped has one semiblock more than the key fills,

@@ -87,7 +87,7 @@ class Bytewise:
                 return self.offset(x, y)
             if name == "and" and low and not low & low - 1 and align % low == 0:
                 return x._replace(offset=x.offset & -low)
-        return self.from_bytes(self.bytewise(name, self.to_bytes(x, size), self.to_bytes(y, size)))
+        return self.from_bytes(self.bytewise(name, *(self.fewest_bytes(v, size) for v in (x, y))))
 
     def add_byte(self, x, y, carry=0):
         if max(x, y) < 256:

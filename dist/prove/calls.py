@@ -243,9 +243,7 @@ def step_by_step(steps):
             m.want = where, want() if callable(want) else want, new
         where, want, new = m.want
         if where == "again" or where == "whole" and m.regions[want].is_done(m):
-            if where == "whole":
-                m.regions[want].begin_again(*new)
-            m.begin_again()
+            m.begin_again(*((want, *new) if where == "whole" else ()))
             m.want = None
         if where in ("again", "whole", "nothing"):
             return
@@ -257,7 +255,7 @@ def step_by_step(steps):
                         raise Unproved("a byte of a result comes twice")
                     if m.domain.symbolic(y):
                         cell, block = m.domain.cell_of(y)
-                        m.origins[cell, block] = (on or depends(m, x)) | m.domain.depends[cell]
+                        m.origins[cell, block] = ((on or depends(m, x)) | m.domain.depends[cell]) & (KEY | DATA)
             if where == "hash":
                 lost = m.domain.opaque(LOST)
                 m.lost.add(lost)

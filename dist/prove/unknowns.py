@@ -15,6 +15,11 @@ class Unknowns:
         """Whether a number is what the machine has, and not only up to multiples of 2^64 (or 2^32)."""
         return self.implied(x) and self.implied(self.most - x)
 
+    def fewest_bytes(self, x, size):
+        """Bytes of a value: of a number those that it may have, and zeros."""
+        sizes = [k for k in range(size) if self.implied((1 << 8 * k) - 1 - x)] if isinstance(x, Linear) and self.implied(x) else []
+        return self.to_bytes(x, sizes[0])[:sizes[0]] + [0] * (size - sizes[0]) if sizes else self.to_bytes(x, size)
+
     def ranged(self, x):
         """A number as the machine has it, from 0 on: whether it has wrapped around is a question. (Not so in loops, of which the
         passes have to be alike.)"""
@@ -198,9 +203,16 @@ class Unknowns:
         self.lost.add(self.domain.opaque(LOST))
         return self.domain.opaque(LOST)
 
-    def begin_again(self):
-        """What is left of blocks is forgotten, and they are numbered anew."""
+    def begin_again(self, name=None, *new):
+        """What is left of blocks is forgotten, and they are numbered anew. A buffer with this name begins again as `new` says; others that
+        were made of the same cells can't be read any more."""
         self.phase, self.done = self.phase + 1, 0
+        cells = {c for b in new[0] for c in self.domain.cells(b)} if name else set()
+        for window in (r for r in self.regions.values() if isinstance(r, Window)):
+            if not all(cells.isdisjoint(self.domain.cells(b)) for b in window.initial):
+                window.initial = [self.any_byte()] * window.unit
+        if name:
+            self.regions[name].begin_again(*new)
         self.each_byte(lambda b: self.any_byte() if self.domain.blocks(b) else b)
         self.first_block, self.origins = 0, {place: on for place, on in self.origins.items() if not place[1]}
 
