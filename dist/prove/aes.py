@@ -452,60 +452,79 @@ class Keyed:
     def semiblock(self, name, *of_block):
         return self.once(name, lambda: [self.domain.fresh("%s, byte %d" % (name, i), DATA, *of_block) for i in range(8)])
 
-    def any_turns(self, count, output, first, direction, start=0):
-        """The steps of W, or of its inverse, which begins with A ^ [6n], from this phase on; before that the semiblocks are put there. Of
-        one semiblock there is one step alone, in which no number is added (6.3)."""
-        a, r, before, after, turns = self.semiblocks()
-        wraps = direction == "encrypt"
-
-        def steps(m):
-            i, n, turn = m.done, m.known(count), m.phase - start
-            number = lambda t: m.to_bytes(t if wraps else 6 * n - t, 8)[::-1]
-            if turn < 0:
-                return "whole", output, (before, after)
-            last = 0 if n == 1 else 5
-            if turn > last or not m.is_below(i, n + 2) or m.is_below(i, n) is None:
-                return "nothing", (), ()
-            if i == n + (last > 0):
-                return "whole", output, (before, after) if turn < last else (after,) if wraps else (after, [0] * 8, True)
-            if i == n:
-                added = ZEROS[:8] if wraps else number(n * turn + n)
-                return "kept", self.aes.xor(self.at_link(m, a, n), added), self.aes.xor(turns[turn], added)
-            block = self.cipher_of((a if i != 0 else turns[turn - 1] if turn else m.known_bytes(first)) + r, direction)
-            done_a = self.aes.xor(self.at_link(m, a, i + 1), number(n * turn + i + 1)) if last else turns[5]
-            return self.found_in, self.at_link(m, block, i), done_a + [self.domain.moved(b, i - m.first_block) for b in after]
-        return steps
+    def highest_first(self, number, size):
+        return [self.domain.opaque((number, k)) for k in range(size)][::-1]
 
     def at_link(self, m, bytes_, k):
         """Block k, and the value before it, have the number of the block before them, so that none is left of what no pass needs."""
         return self.at_block(m, bytes_, k - 1)
 
+    def any_turns(self, wraps, count, first, last, alone=None, start=0):
+        """The steps of W, or of its inverse, which begins with A ^ [6n], from phase `start` on; before that the semiblocks are put there.
+        `first` and `last` are A before and after all. Of one semiblock, with `alone`, there is one step, without a number (6.3)."""
+        a, r, before, after, turns = self.semiblocks()
+
+        def steps(m):
+            i, n, turn, final = m.done, m.known(count), m.phase - start, 5
+            number = lambda t: m.to_bytes(t if wraps else 6 * n - t, 8)[::-1]
+            if n == 1:
+                first_a, final, done = alone, 0, lambda: last
+            else:
+                first_a, done = first, lambda: self.aes.xor(self.at_link(m, a, i + 1), number(n * turn + i + 1))
+            if turn < 0:
+                return "whole", "output", (before, after)
+            if turn > final or not m.is_below(i, n + 2) or m.is_below(i, n) is None:
+                return "nothing", (), ()
+            if i == n + (final > 0):
+                return "whole", "output", (before, after) if turn < final else (after,) if wraps else (after, [0] * 8, True)
+            if i == n:
+                added = ZEROS[:8] if wraps else number(n * turn + n)
+                return "kept", *(self.aes.xor(x, added) for x in (self.at_link(m, a, n), turns[turn] if turn < final else m.known_bytes(last)))
+            block = self.cipher_of((a if i != 0 else turns[turn - 1] if turn else m.known_bytes(first_a)) + r, "encrypt" if wraps else "decrypt")
+            return self.found_in, self.at_link(m, block, i), m.known_bytes(done()) + [self.domain.moved(b, i - m.first_block) for b in after]
+        return steps
+
     def any_wrap(self):
-        n, (_, _, key, wrapped, turns) = unknown("n"), self.semiblocks()
-        output = Stream("output", n * 8, self.undefined(8), wrapped, head=(self.undefined(8), turns[5]))
-        return Call("aes_wrap", [self.schedule(), Stream("input", n * 8, key), n, output, n + 1], DONE, plain=self.of_all(key),
-                    steps=self.any_turns(n, "output", ICV1, "encrypt"), facts={n - 2, (1 << 54) - 1 - n})
+        n, (_, _, key, _, _) = unknown("n"), self.semiblocks()
+        return self.any_wrapping("aes_wrap", Stream("input", n * 8, key), n, n, ICV1, {n - 2, (1 << 54) - 1 - n})
+
+    def any_wrapping(self, name, key, given, count, first, facts, start=0, **more):
+        _, _, _, wrapped, turns = self.semiblocks()
+        output = Stream("output", count * 8, self.undefined(8), **{"after": wrapped, **more}, head=(self.undefined(8), turns[5]))
+        return Call(name, [self.schedule(), key, given, output, count + 1], DONE, facts=facts, plain=self.of_all(key.content),
+                    steps=self.any_turns(True, count, first, turns[5], first, start))
 
     def any_unwrap(self):
-        n, (a, _, wrapped, key, turns) = unknown("n"), self.semiblocks()
-        first = self.aes.xor(self.pattern(a, -1), [self.domain.opaque((n * 6, k)) for k in range(8)][::-1])
-        input_ = Stream("input", n * 8, wrapped, head=(first, None), backwards=True)
+        n, last = unknown("n"), self.semiblocks()[4][5]
+        return self.any_unwrapping("aes_unwrap", last, self.aes.xor(last, ICV1), {n - 2, (1 << 54) - 1 - n})
+
+    def any_unwrapping(self, name, last, reveals, facts, *more, **refused):
+        n, (a, _, wrapped, key, _) = unknown("n"), self.semiblocks()
+        before = self.aes.xor(a, self.highest_first(n * 6, 8))
+        input_ = Stream("input", n * 8, wrapped, head=(self.pattern(before, -1), None), backwards=True)
         output = Stream("output", n * 8, self.undefined(8), key, backwards=True)
-        return Call("aes_unwrap", [self.schedule(), input_, n + 1, output, n], DONE, plain=self.of_all(key), refused=REFUSED,
-                    steps=self.any_turns(n, "output", a, "decrypt"), reveals=self.aes.xor(turns[5], ICV1), facts={n - 2, (1 << 54) - 1 - n})
+        return Call(name, [self.schedule(), input_, n + 1, output, n, *more], DONE, plain=self.of_all(key), facts=facts, reveals=reveals,
+                    steps=self.any_turns(False, n, a, last, before), refused=REFUSED, **refused)
 
     def any_wrap_padded(self, rest):
         """Of 16 k + `rest` bytes, as the code fills up two semiblocks at once; `rest` is from 1 to 16."""
-        length, (_, r, key, wrapped, turns) = unknown("k") * 16 + rest, self.semiblocks()
-        n, last = unknown("k") * 2 + (rest + 7) // 8, self.pattern(r[:(rest - 1) % 8 + 1], -1)
-        first = ICV2 + [self.domain.opaque((length, k)) for k in (3, 2, 1, 0)]
+        k, (_, r, key, _, _) = unknown("k"), self.semiblocks()
+        length, n, last = k * 16 + rest, k * 2 + (rest + 7) // 8, self.pattern(r[:(rest - 1) % 8 + 1], -1) + ZEROS
 
         def choose(m, number):
             below = m.is_below(number, m.known(n - 1))
             return [below if below is None else 1 - below] * 8
-        output = Stream("output", n * 8, self.undefined(8), [key, (last + ZEROS)[:8]], choose, (self.undefined(8), turns[5]))
-        return Call("aes_wrap_padded", [self.schedule(), Stream("input", length, key), length, output, n + 1], DONE, plain=self.of_all(key),
-                    steps=self.any_turns(n, "output", first, "encrypt", 1), facts={unknown("k"), (1 << 32) - 1 - length})
+        return self.any_wrapping("aes_wrap_padded", Stream("input", length, key), length, n, ICV2 + self.highest_first(length, 4),
+                                 {k, (1 << 32) - 1 - length}, 1, after=[key, last[:8]], choose=choose)
+
+    def any_unwrap_padded(self, rest):
+        """Of keys of 8 n - 8 + `rest` bytes, `rest` from 1 to 8."""
+        n, (_, _, _, key, turns) = unknown("n"), self.semiblocks()
+        length, none = n * 8 - 8 + rest, [0] * self.address
+        start = turns[5][:4] + self.highest_first(length, 4)
+        return self.any_unwrapping(
+            "aes_unwrap_padded", start, self.aes.xor(start[:4], ICV2) + key[rest:], {n - 1, (1 << 29) - n},
+            self.length_of_key(start[:3:-1] + [0] * 4), refused_after={"key_length": none})
 
     def wrap_padded(self, length):
         """Key wrap with padding (KWP, SP 800-38F, 6.3; RFC 5649) .. what is wrapped has one semiblock more than the key fills,

@@ -108,6 +108,11 @@ class Arithmetic:
             return self.verdict(0, zero, size), {"c": SECRET, "z": self.zero_flag(zero), "s": SECRET, "o": SECRET}
         return self.unbits(bits), {"c": self.flag_of(out), "z": SECRET, "s": SECRET, "o": SECRET}
 
+    def whole_number(self, v, size):
+        """The number that is in the lower bytes of a word and has no more."""
+        name = self.domain.opaque_of.get(v[0]) if type(v) is tuple and size == self.word else None
+        return name[0] if isinstance(name, tuple) and isinstance(name[0], Linear) and list(v) == self.fewest_bytes(name[0], size) else v
+
     def low_part(self, v, size):
         """The number that is in these bytes of one that has no more, or of one that is so much larger."""
         name = self.domain.opaque_of.get(v[0]) if type(v) is tuple and size < self.word else None
@@ -149,6 +154,7 @@ class Arithmetic:
         """x - y, or one less if `carry` is 0. The flag c says that there is no borrow."""
         if y == 0 and carry and self.is_placed(x):
             return x, {"z": 0, "c": 1}
+        x, y = self.whole_number(x, size), self.whole_number(y, size)
         if is_number(x, y) and not is_int(x, y) and size == self.word:
             x, y = self.ranged(x), self.ranged(y)
             flags = {"c": ("not", (x, y + 1 - carry, "below"))} if self.fits(x) and self.fits(y) else {}

@@ -253,7 +253,7 @@ def step_by_step(steps):
                 if x > 255:
                     if replaced.setdefault(x, y) != y:
                         raise Unproved("a byte of a result comes twice")
-                    if m.domain.symbolic(y):
+                    if not m.is_public([y]):
                         cell, block = m.domain.cell_of(y)
                         m.origins[cell, block] = ((on or depends(m, x)) | m.domain.depends[cell]) & (KEY | DATA)
             if where == "hash":
