@@ -523,7 +523,7 @@ class Keyed:
         length, none = n * 8 - 8 + rest, [0] * self.address
         start = turns[5][:4] + self.highest_first(length, 4)
         return self.any_unwrapping(
-            "aes_unwrap_padded", start, self.aes.xor(start[:4], ICV2) + key[rest:], {n - 1, (1 << 29) - n},
+            "aes_unwrap_padded", start, self.aes.xor(start[:4], ICV2) + key[rest:], {n - 1, (1 << 32) - 1 - length},
             self.length_of_key(start[:3:-1] + [0] * 4), refused_after={"key_length": none})
 
     def wrap_padded(self, length):
