@@ -171,17 +171,16 @@ def generally(a, b, passes, most):
 
 
 def general_bytes(m, a, b, passes, numbers=()):
-    """The same of bytes, in words. `numbers` are those of registers after both passes. (What was made of numbers that aren't known may be
-    alike by chance, as 4 n + 1 and 4 n + 2; and so may be what is of blocks, in a word that isn't alike.)"""
+    """The same of bytes, in words. `numbers` are those of registers after both passes. (In a word that isn't alike bytes may be alike by
+    chance: what is of blocks, or of numbers that aren't known.)"""
     d, out = m.domain, []
-    keeps = lambda p, q: p == q and (p in d.opaque_of or not d.unknown_cells(p))
     for x, y in zip(lanes(a, m.word), lanes(b, m.word)):
-        v, unlike = None, x != y
-        if unlike and len(x) == m.word:
+        v = None
+        if x != y and len(x) == m.word:
             v = generally(m.from_bytes(x), m.from_bytes(y), passes, m.most)
             v = with_number(m, x, y, passes, numbers) if v is None else v
-        out += m.names(v) if is_pointer(v) else m.to_bytes(v, m.word) if v is not None else [
-            p if keeps(p, q) and not (unlike and d.blocks(p)) else m.any_byte() for p, q in zip(x, y)]
+        out += x if x == y else m.names(v) if is_pointer(v) else m.to_bytes(v, m.word) if v is not None else [
+            p if p == q and not d.unknown_cells(p) and not d.blocks(p) else m.any_byte() for p, q in zip(x, y)]
     return out
 
 
