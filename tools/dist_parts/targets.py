@@ -107,7 +107,7 @@ MADE_OF = {
 ONCE = r"""aes_planes::soft::(?:sbox::(?:inv_)?sub_bytes(?:_nots)?|mix_columns::(?:inv_)?mix_columns_[0-3]|word::transpose::transpose
     |shifts::(?:swap_columns|delta_swap_1)|copies::(?:store_)?round_key|key_columns::\w+)
     |aes_soft::soft::(?:plane_words::(?:substitute|PlaneWordsFourWords::\w+)|key_layout::store)
-    |aes_ctr::(?:add_blocks::add_(?:blocks|part)|counter_blocks::(?:WholeBlock)?CounterBlocks::put|keystream::fill_by_backend
+    |aes_ctr::(?:add_blocks::add_(?:blocks|part)|counter_blocks::WholeBlockCounterBlocks::put|keystream::fill_by_backend
     |add_in_batches::add_(?:to_one|batch|by_backend))""".replace("\n    ", "")
 
 

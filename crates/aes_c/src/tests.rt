@@ -63,15 +63,15 @@ fn in_place(key: &[u8], wanted: u128) -> bool {
 fn between_buffers(key: &[u8], wanted: u128) -> bool {
     let plain = [PLAIN.to_be_bytes()];
     let mut aes = no_key();
-    let mut encrypted = [[0; 16]];
-    let mut decrypted = [[0; 16]];
+    let mut there = [[0; 16]];
+    let mut back = [[0; 16]];
     fotsgure_aes_set_key(&mut aes, key) == DONE
-        && fotsgure_aes_encrypt_blocks_to(&aes, &plain, &mut encrypted) == DONE
-        && encrypted == [wanted.to_be_bytes()]
-        && fotsgure_aes_decrypt_blocks_to(&aes, &encrypted, &mut decrypted) == DONE
-        && decrypted == plain
-        && fotsgure_aes_decrypt_blocks_with(key, &mut encrypted) == DONE
-        && encrypted == plain
+        && fotsgure_aes_encrypt_blocks_to(&aes, &plain, &mut there) == DONE
+        && there == [wanted.to_be_bytes()]
+        && fotsgure_aes_decrypt_blocks_to(&aes, &there, &mut back) == DONE
+        && back == plain
+        && fotsgure_aes_decrypt_blocks_with(key, &mut there) == DONE
+        && there == plain
         && fotsgure_aes_encrypt_blocks_to(&aes, &plain, &mut []) == UNEQUAL_COUNTS
 }
 
@@ -145,15 +145,15 @@ fn wraps_keys(rt: HostRuntime) {
         0x9d3e862371d2cfe5u64.to_be_bytes(),
     ];
     let mut aes = no_key();
-    let mut output = [[0; 8]; 3];
-    let mut unwrapped = [[0; 8]; 2];
+    let mut there = [[0; 8]; 3];
+    let mut back = [[0; 8]; 2];
     assert!(rt; fotsgure_aes_set_key(&mut aes, &COUNTED[..16]) == DONE);
-    assert!(rt; fotsgure_aes_wrap(&aes, &key, &mut output) == DONE);
-    assert!(rt; output == wrapped);
-    assert!(rt; fotsgure_aes_unwrap(&aes, &output, &mut unwrapped) == DONE);
-    assert!(rt; unwrapped == key);
-    output[0][0] ^= 1;
-    assert!(rt; fotsgure_aes_unwrap(&aes, &output, &mut unwrapped) == REFUSED);
+    assert!(rt; fotsgure_aes_wrap(&aes, &key, &mut there) == DONE);
+    assert!(rt; there == wrapped);
+    assert!(rt; fotsgure_aes_unwrap(&aes, &there, &mut back) == DONE);
+    assert!(rt; back == key);
+    there[0][0] ^= 1;
+    assert!(rt; fotsgure_aes_unwrap(&aes, &there, &mut back) == REFUSED);
 }
 
 #[test]
@@ -169,14 +169,14 @@ fn wraps_keys_with_padding(rt: HostRuntime) {
         0x9200f2ccb50bb24fu64.to_be_bytes(),
     ];
     let mut aes = no_key();
-    let mut output = [[0; 8]; 2];
-    let mut unwrapped = [[1; 8]];
+    let mut there = [[0; 8]; 2];
+    let mut back = [[1; 8]];
     let mut length = 0;
     assert!(rt; fotsgure_aes_set_key(&mut aes, &wrapping) == DONE);
-    assert!(rt; fotsgure_aes_wrap_padded(&aes, &key[..7], &mut output) == DONE);
-    assert!(rt; output == wrapped);
-    assert!(rt; fotsgure_aes_unwrap_padded(&aes, &output, &mut unwrapped, &mut length) == DONE);
-    assert!(rt; unwrapped == [key]);
+    assert!(rt; fotsgure_aes_wrap_padded(&aes, &key[..7], &mut there) == DONE);
+    assert!(rt; there == wrapped);
+    assert!(rt; fotsgure_aes_unwrap_padded(&aes, &there, &mut back, &mut length) == DONE);
+    assert!(rt; back == [key]);
     assert!(rt; length == 7);
 }
 

@@ -15,13 +15,13 @@ use standards::keys::{BY_128, BY_192, BY_256, KEY_128, KEY_192, KEY_256, PLAIN};
 #[test]
 fn callers_have_the_blocks_of_the_standard(rt: HostRuntime) {
     let plain = PLAIN.to_be_bytes();
-    let (encrypted, decrypted) = there_and_back(&KEY_128, &plain);
-    assert!(rt; encrypted == BY_128.to_be_bytes());
-    assert!(rt; decrypted == plain);
+    let (there, back) = there_and_back(&KEY_128, &plain);
+    assert!(rt; there == BY_128.to_be_bytes());
+    assert!(rt; back == plain);
 
     let mut block = plain;
-    let encrypted = there_and_back_by(&Aes192::new(&KEY_192), &mut block);
-    assert!(rt; encrypted == BY_192.to_be_bytes());
+    let there = there_and_back_by(&Aes192::new(&KEY_192), &mut block);
+    assert!(rt; there == BY_192.to_be_bytes());
     assert!(rt; block == plain);
 
     let mut blocks = [plain; 9];

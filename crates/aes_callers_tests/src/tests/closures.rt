@@ -72,11 +72,11 @@ fn takes_a_row_of_five<C: BlockCipherEncrypt + BlockCipherDecrypt>(cipher: &C) -
     let wanted = five_blocks(&ENCRYPTED_128);
     let mut row = plain;
     cipher.encrypt_with_backend(&mut Row { blocks: &mut row });
-    let is_encrypted = row == wanted;
+    let there = row == wanted;
     cipher.decrypt_with_backend(&mut Row { blocks: &mut row });
-    let is_decrypted = row == plain;
+    let back = row == plain;
     encrypt_row(cipher, &mut row);
-    is_encrypted && is_decrypted && row == wanted
+    there && back && row == wanted
 }
 
 // The type of `aes` for both directions, with the size as a parameter.

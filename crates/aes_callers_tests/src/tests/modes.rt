@@ -20,12 +20,12 @@ fn chains<C: BlockCipherEncrypt + BlockCipherDecrypt>(cipher: &C, encrypted: &[u
     let mut row = plain;
     let mut chain = Cbc { previous: iv };
     chain.encrypt_blocks(cipher, &mut row);
-    let is_encrypted = row == blocks(encrypted);
+    let there = row == blocks(encrypted);
     chain.previous = iv;
     chain.decrypt_blocks(cipher, &mut row);
-    let is_decrypted = row == plain;
+    let back = row == plain;
     cbc_there_and_back(cipher, &iv, &mut row);
-    is_encrypted && is_decrypted && row == plain
+    there && back && row == plain
 }
 
 // Whether the type of `aes` for a size chains them. With the size as a parameter, it is proved once for all sizes.

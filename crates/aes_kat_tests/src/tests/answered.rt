@@ -30,16 +30,16 @@ fn answered<R: Abort + AllocGlobal>(rt: &R, line: &str, answer: &str) -> Result<
 fn encrypts_and_decrypts(rt: HostRuntime) -> Result<(), Fail> {
     for (key, plain, encrypted) in EXAMPLES {
         let key = digits(rt.alloc(), key)?;
-        let encryption = format!(in rt.alloc(); "enc {key} {plain:032x}")?;
+        let there = format!(in rt.alloc(); "enc {key} {plain:032x}")?;
         answered(
             &rt,
-            encryption.as_str(),
+            there.as_str(),
             format!(in rt.alloc(); "{encrypted:032x}")?.as_str(),
         )?;
-        let decryption = format!(in rt.alloc(); "dec {key} {encrypted:032x}")?;
+        let back = format!(in rt.alloc(); "dec {key} {encrypted:032x}")?;
         answered(
             &rt,
-            decryption.as_str(),
+            back.as_str(),
             format!(in rt.alloc(); "{plain:032x}")?.as_str(),
         )?;
     }

@@ -60,19 +60,19 @@ fn counted_calls_process_the_same(rt: HostRuntime) {
 // Whether a hundred blocks of one byte come to other blocks by the call on slices that encrypts, and each comes back by
 // the call on blocks that decrypts; and the other way round.
 fn brings_back_a_hundred<C: BlockCipherEncrypt + BlockCipherDecrypt>(cipher: &C) -> bool {
-    let mut encrypted = [[0x2a; 16]; 100];
-    let mut decrypted = encrypted;
-    cipher.encrypt_blocks(&mut encrypted);
-    cipher.decrypt_blocks(&mut decrypted);
-    let mut all_changed = encrypted.iter().all(|block| *block != [0x2a; 16]);
-    all_changed &= decrypted.iter().all(|block| *block != [0x2a; 16]);
-    for block in encrypted.iter_mut() {
+    let mut there = [[0x2a; 16]; 100];
+    let mut back = there;
+    cipher.encrypt_blocks(&mut there);
+    cipher.decrypt_blocks(&mut back);
+    let mut right = there.iter().all(|block| *block != [0x2a; 16]);
+    right &= back.iter().all(|block| *block != [0x2a; 16]);
+    for block in there.iter_mut() {
         cipher.decrypt_block(block);
     }
-    for block in decrypted.iter_mut() {
+    for block in back.iter_mut() {
         cipher.encrypt_block(block);
     }
-    all_changed && encrypted == [[0x2a; 16]; 100] && decrypted == encrypted
+    right && there == [[0x2a; 16]; 100] && back == there
 }
 
 // Whether seven blocks and nineteen come out as the standard says, and come back.
@@ -85,10 +85,10 @@ fn there_and_back<E: BlockCipherEncrypt, D: BlockCipherDecrypt>(
     let mut many: [Block; 19] = [PLAIN.to_be_bytes(); 19];
     encrypts.encrypt_blocks(&mut few);
     encrypts.encrypt_blocks(&mut many);
-    let is_encrypted = few == [wanted.to_be_bytes(); 7] && many == [wanted.to_be_bytes(); 19];
+    let there = few == [wanted.to_be_bytes(); 7] && many == [wanted.to_be_bytes(); 19];
     decrypts.decrypt_blocks(&mut few);
     decrypts.decrypt_blocks(&mut many);
-    is_encrypted && few == [PLAIN.to_be_bytes(); 7] && many == [PLAIN.to_be_bytes(); 19]
+    there && few == [PLAIN.to_be_bytes(); 7] && many == [PLAIN.to_be_bytes(); 19]
 }
 
 // A block's encryption, to which slices of it have to come.
@@ -132,16 +132,16 @@ impl CipherTrial for Different {
         E: BlockCipherEncrypt,
         D: BlockCipherDecrypt,
     {
-        let mut encrypted = [different_blocks(), different_blocks()];
-        both.encrypt_blocks(&mut encrypted[0][1..]);
-        encrypts.encrypt_blocks(&mut encrypted[1][1..]);
-        let mut decrypted = [different_blocks(), different_blocks()];
-        both.decrypt_blocks(&mut decrypted[0][1..]);
-        decrypts.decrypt_blocks(&mut decrypted[1][1..]);
-        encrypted[0] == encrypted[1]
-            && two_of(&encrypted[0]) == self.encrypted
-            && decrypted[0] == decrypted[1]
-            && two_of(&decrypted[0]) == self.decrypted
+        let mut there = [different_blocks(), different_blocks()];
+        both.encrypt_blocks(&mut there[0][1..]);
+        encrypts.encrypt_blocks(&mut there[1][1..]);
+        let mut back = [different_blocks(), different_blocks()];
+        both.decrypt_blocks(&mut back[0][1..]);
+        decrypts.decrypt_blocks(&mut back[1][1..]);
+        there[0] == there[1]
+            && two_of(&there[0]) == self.encrypted
+            && back[0] == back[1]
+            && two_of(&back[0]) == self.decrypted
     }
 }
 

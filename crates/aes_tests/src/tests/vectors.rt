@@ -87,10 +87,10 @@ impl CipherTrial for FourBlocks {
         both.encrypt_blocks(&mut by_both);
         let mut by_each = self.plain;
         encrypts.encrypt_blocks(&mut by_each);
-        let is_encrypted = by_both == self.encrypted && by_each == self.encrypted;
+        let there = by_both == self.encrypted && by_each == self.encrypted;
         both.decrypt_blocks(&mut by_both);
         decrypts.decrypt_blocks(&mut by_each);
-        is_encrypted && by_both == self.plain && by_each == self.plain
+        there && by_both == self.plain && by_each == self.plain
     }
 }
 

@@ -46,11 +46,11 @@ fn chains_come_back<W: Width>() -> bool {
     let plain = [[7; 16]; 100];
     for count in 0..=100 {
         let mut row = plain;
-        let mut encrypting = Cbc { previous: [9; 16] };
-        let mut decrypting = Cbc { previous: [9; 16] };
-        encrypting.encrypt_blocks(&cipher, &mut row[..count]);
-        decrypting.decrypt_blocks(&cipher, &mut row[..count]);
-        if row != plain || encrypting.previous != decrypting.previous {
+        let mut there = Cbc { previous: [9; 16] };
+        let mut back = Cbc { previous: [9; 16] };
+        there.encrypt_blocks(&cipher, &mut row[..count]);
+        back.decrypt_blocks(&cipher, &mut row[..count]);
+        if row != plain || there.previous != back.previous {
             return false;
         }
     }
