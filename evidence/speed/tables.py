@@ -46,19 +46,8 @@ PICTURED = [("encrypt", 4096), ("encrypt", 1), ("key and block", 1)]
 
 
 def summary(rows, key=16):
-    """The rows that the tables of docs/MEASUREMENTS.md and the picture are made from."""
-    engines = {("this library", BASE), *(engine for _, engine in COLUMNS.values())}
-    calls = {*PUBLISHED.values(), ("key for encryption", 1), ("key for decryption", 1)}
-    of_all = {*PICTURED, *(it[:2] for it in GCM.values())}
-    return [
-        r
-        for r in rows
-        if r["key_bytes"] == key
-        and (
-            (r["kind"] != "planted" and (r["call"], r["amount"]) in of_all)
-            or ((r["peer"], r["how"]) in engines and (r["call"], r["amount"]) in calls)
-        )
-    ]
+    """The rows that are published."""
+    return [r for r in rows if r["key_bytes"] == key and r["kind"] != "planted"]
 
 
 def place(row):
