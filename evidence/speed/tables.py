@@ -9,8 +9,6 @@ import tools
 PEERS = {
     "OpenSSL": ("libssl-dev", "-lcrypto"),
     "BearSSL": ("libbearssl-dev", "-lbearssl"),
-    "mbedtls": ("libmbedtls-dev", "-lmbedcrypto"),
-    "Nettle": ("nettle-dev", "-lnettle"),
     "Libgcrypt": ("libgcrypt20-dev", "-lgcrypt"),
     "Botan": ("libbotan-2-dev", "-lbotan-2", "-I/usr/include/botan-2"),
 }
@@ -155,8 +153,11 @@ def gcm_table(rows):
 
 
 def page(rows):
-    """docs/MEASUREMENTS.md with these tables in the place of those that have their heads."""
+    """docs/MEASUREMENTS.md with these tables in the place of the first ones of their sections."""
     text = tools.MEASUREMENTS.read_text()
-    for lines in (table(rows), gcm_table(rows)):
-        text = re.sub(rf"^{re.escape(lines[0])}\n(?:\|.*\n)*", "\n".join([*lines, ""]), text, flags=re.M)
+    for what, lines in (("it", table(rows)), ("GCM", gcm_table(rows))):
+        heading = rf"## How fast is {what} beside what I use now\?\n"
+        text, count = re.subn(rf"^({heading}(?:(?!#|\|).*\n)*)(?:\|.*\n)+", lambda it: "\n".join([it[1] + lines[0], *lines[1:], ""]), text, flags=re.M)
+        if count != 1:
+            tools.stop(f"{tools.MEASUREMENTS} has no table below {heading}")
     return text
