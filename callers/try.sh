@@ -29,8 +29,9 @@ end() {
 part() { # COMMAND ..
     local status=0
     echo "== $*"
-    "$@" 2>&1 | tee -a "$work/parts" || status=$?
-    if [[ $(tail -n 1 "$work/parts") =~ ^([0-9]+)\ (passed|proved|refused),\ ([0-9]+)\ (failed|missed)$ ]]; then
+    "$@" 2>&1 | tee "$work/part" || status=$?
+    cat "$work/part" >> "$work/parts"
+    if [[ $(tail -n 1 "$work/part") =~ ^([0-9]+)\ (passed|proved|refused),\ ([0-9]+)\ (failed|missed)$ ]]; then
         passed=$((passed + BASH_REMATCH[1])) failed=$((failed + BASH_REMATCH[3]))
         [[ $status -eq 0 || ${BASH_REMATCH[3]} -gt 0 ]] && return
     fi
