@@ -5,8 +5,8 @@ import subprocess
 
 import tools
 
-HEADING = "## How fast is it beside what I use now?"
-HEADING_GCM = "## How fast is GCM beside what I use now?"
+HEADING = "## How fast is it compared with what I use now?"
+HEADING_GCM = "## How fast is GCM compared with what I use now?"
 # The peers: of each its package, and the flags to link it, of which -I is for its file too.
 PEERS = {
     "OpenSSL": ("libssl-dev", "-lcrypto"),
