@@ -6,10 +6,12 @@ round keys that are arbitrary bytes. So they are proved for any round keys, and 
 import itertools
 from collections import namedtuple
 
-from bits import BLOCK, DATA, KEY, LOST, ONES, PUBLIC, Domain, Unproved, linear_bits
+from bits import BLOCK, DATA, KEY, LOST, ONES, PUBLIC, Unproved, linear_bits
 from calls import ANY, Buffer, Call, Stream, prove
+from domain import Domain
 from linear import WORD, Linear, unknown
-from machine import LAST, LEAD, Pointer, Verdict, Window
+from operands import LAST, LEAD, Pointer, Verdict
+from regions import Window
 from standards import ICV1, ICV2, Aes, number
 
 # The header's enum, structs and sizes; prove.py has the compiler compare them.

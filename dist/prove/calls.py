@@ -8,8 +8,9 @@ import functools
 import lengths
 from bits import DATA, KEY, LOST, ONES, Pause, Unproved
 from linear import refuted
-from machine import LAST, LEAD, WRAPS, Content, Pointer, Question, Region, Verdict, Window
 from native import Native
+from operands import LAST, LEAD, WRAPS, Content, Pointer, Question, Verdict
+from regions import Region, Window
 
 STACK = 16384  # FOTSGURE_AES_STACK and FOTSGURE_GCM_STACK
 KINDS = "key", "inner", "plain", "step", "keystream", "result", "data"  # of what is left; see `tells`

@@ -9,7 +9,9 @@ from collections import namedtuple
 
 from bits import LOST, Unproved
 from linear import is_number, refuted, replaced, terms, unknown, wrapped
-from machine import WRAPPED, Pointer, Window, is_int, is_pointer, lanes
+from operands import Pointer, is_int, is_pointer, lanes
+from regions import Window
+from unknowns import WRAPPED
 
 # The last time at the head of a loop: how many comparisons were decided before it; the state after the first pass, with what was decided
 # in that; and the general state (see General).

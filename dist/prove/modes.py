@@ -8,7 +8,7 @@ from aes import BATCH, DONE, NEVER, NO_KEY, NONCE_LENGTH, PTRDIFF_MAX, REFUSED, 
 from bits import DATA, KEY, PUBLIC
 from calls import Buffer, Call, Stream
 from linear import unknown
-from machine import Pointer
+from operands import Pointer
 from single_rounds import SingleRounds
 from standards import ZEROS, doubled, number, padded
 

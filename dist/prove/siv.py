@@ -9,7 +9,7 @@ from bits import DATA, KEY
 from calls import Buffer, Call, compare
 from gcm import DONE, NO_KEY, REFUSED, TOO_LONG, UNEQUAL_LENGTHS, Hashing, KeyedGcm, threes
 from linear import WORD, unknown
-from machine import Number
+from operands import Number
 from standards import ZEROS, dot, mulx_ghash, padded, product
 
 STRUCTS = {"fotsgure_gcm_siv": (484, {"key_length": 0, "round_keys": 4})}
