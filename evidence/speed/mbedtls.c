@@ -30,6 +30,5 @@ void add_mbedtls(enum run run) {
     mbedtls_gcm_init(&gcm);
     instructions = run == ALL;
     const char *how = run == ALL ? "AES instructions" : "tables";
-    if (run != NO_AES_NO_SSSE3)
-        add(&(struct engine){"mbedtls", how, run == ALL ? "instructions" : how, BLOCKS, GCM});
+    add(&(struct engine){"mbedtls", how, run == ALL ? "instructions" : how, BLOCKS, GCM});
 }

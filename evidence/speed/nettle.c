@@ -26,6 +26,5 @@ static void seal(const struct message *m) {
 
 void add_nettle(enum run run) {
     const char *how = run == ALL ? "AES instructions" : "tables";
-    if (run != NO_AES_NO_SSSE3)
-        add(&(struct engine){"Nettle", how, run == ALL ? "instructions" : how, BLOCKS, GCM});
+    add(&(struct engine){"Nettle", how, run == ALL ? "instructions" : how, BLOCKS, GCM});
 }
