@@ -5,11 +5,6 @@ import subprocess
 
 import tools
 
-<<<<<<< HEAD
-HEADING = "## How fast is it compared with what I use now?"
-HEADING_GCM = "## How fast is GCM compared with what I use now?"
-=======
->>>>>>> origin/main
 # The peers: of each its package, and the flags to link it, of which -I is for its file too.
 PEERS = {
     "OpenSSL": ("libssl-dev", "-lcrypto"),
