@@ -62,6 +62,6 @@ message_fails() { # COMMAND ..
         says 1 "^message.* \\(device\\|can't be written\\)$" into_a_full_device "$@" "$work/key"
 }
 head -c 32 /dev/urandom > "$work/key"
-# NIST's vectors of GCM, if they are installed.
+# NIST's vectors of GCM, CBC and key wrap, if they are installed.
 folder=$(python3 -c 'import cryptography_vectors as v; print(v.__path__[0])' 2> /dev/null) || folder=/usr/lib/python3/dist-packages/cryptography_vectors
-readarray -t vectors < <(ls "$folder"/ciphers/AES/GCM/gcm*.rsp 2> /dev/null)
+readarray -t vectors < <(ls "$folder"/ciphers/AES/GCM/gcm*.rsp "$folder"/ciphers/AES/CBC/*.rsp "$folder"/keywrap/kwtestvectors/KW{,P}_A?_???.txt 2> /dev/null)

@@ -9,8 +9,6 @@ import tools
 PEERS = {
     "OpenSSL": ("libssl-dev", "-lcrypto"),
     "BearSSL": ("libbearssl-dev", "-lbearssl"),
-    "mbedtls": ("libmbedtls-dev", "-lmbedcrypto"),
-    "Nettle": ("nettle-dev", "-lnettle"),
     "Libgcrypt": ("libgcrypt20-dev", "-lgcrypt"),
     "Botan": ("libbotan-2-dev", "-lbotan-2", "-I/usr/include/botan-2"),
 }
@@ -46,19 +44,8 @@ PICTURED = [("encrypt", 4096), ("encrypt", 1), ("key and block", 1)]
 
 
 def summary(rows, key=16):
-    """The rows that the tables of docs/MEASUREMENTS.md and the picture are made from."""
-    engines = {("this library", BASE), *(engine for _, engine in COLUMNS.values())}
-    calls = {*PUBLISHED.values(), ("key for encryption", 1), ("key for decryption", 1)}
-    of_all = {*PICTURED, *(it[:2] for it in GCM.values())}
-    return [
-        r
-        for r in rows
-        if r["key_bytes"] == key
-        and (
-            (r["kind"] != "planted" and (r["call"], r["amount"]) in of_all)
-            or ((r["peer"], r["how"]) in engines and (r["call"], r["amount"]) in calls)
-        )
-    ]
+    """The rows that are published."""
+    return [r for r in rows if r["key_bytes"] == key and r["kind"] != "planted"]
 
 
 def place(row):
@@ -166,8 +153,11 @@ def gcm_table(rows):
 
 
 def page(rows):
-    """docs/MEASUREMENTS.md with these tables in the place of those that have their heads."""
+    """docs/MEASUREMENTS.md with these tables in the place of the first ones of their sections."""
     text = tools.MEASUREMENTS.read_text()
-    for lines in (table(rows), gcm_table(rows)):
-        text = re.sub(rf"^{re.escape(lines[0])}\n(?:\|.*\n)*", "\n".join([*lines, ""]), text, flags=re.M)
+    for what, lines in (("it", table(rows)), ("GCM", gcm_table(rows))):
+        heading = rf"## How fast is {what} compared with what I use now\?\n"
+        text, count = re.subn(rf"^({heading}(?:(?!#|\|).*\n)*)(?:\|.*\n)+", lambda it: "\n".join([it[1] + lines[0], *lines[1:], ""]), text, flags=re.M)
+        if count != 1:
+            tools.stop(f"{tools.MEASUREMENTS} has no table below {heading}")
     return text
