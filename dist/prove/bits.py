@@ -199,7 +199,8 @@ class Forms:
         table ^= ONES * complement
         if not table:
             return complement
-        return self.in_block(self.intern({cell: table}) << 9 | complement, block)
+        n = self.ids.get(((cell, table),)) or self.intern({cell: table})
+        return self.in_block(n << 9 | complement, block)
 
     def xor(self, x, y):
         if x < 2 or y < 2:

@@ -282,8 +282,8 @@ def was_written(m, want):
 
 def in_words(m, want):
     """Whether two general registers have the halves of a block."""
-    words = {v for v in m.general.values() if type(v) is tuple}
-    return {tuple(want[:8]), tuple(want[8:])} <= words or {tuple(want[7::-1]), tuple(want[:7:-1])} <= words
+    words = {v for v in m.general.values() if type(v) is tuple and v[0] in (want[0], want[7], want[8], want[15])}
+    return words and ({tuple(want[:8]), tuple(want[8:])} <= words or {tuple(want[7::-1]), tuple(want[:7:-1])} <= words)
 
 
 # What is left.
@@ -359,11 +359,10 @@ def left(m, call):
                for b in m.wrote.get(a.name, ())]
     places += [("registers", r, b) for r, v in m.general.items() for b in m.to_bytes(v, 8)]
     places += [("registers", "vector %d" % n, b) for n, v in enumerate(m.vectors) for b in v]
-    out = {}
+    out, kinds = {}, {b: tells(m, b, known, plain) for b in {b for _, _, b in places}}
+    if call.any_length and any(max(m.domain.blocks(b), default=0) >= LAST for b in kinds):
+        raise Unproved("leaves a block with a number that isn't known")
     for place, where, b in places:
-        if call.any_length and max(m.domain.blocks(b), default=0) >= LAST:
-            raise Unproved("leaves a block with a number that isn't known")
-        k = tells(m, b, known, plain)
-        if k:
-            out.setdefault((place, k), []).append(where)
+        if kinds[b]:
+            out.setdefault((place, kinds[b]), []).append(where)
     return out

@@ -199,7 +199,8 @@ def general_state(known, key, visit, now, wrong=frozenset()):
         other = second.regions[name_]
         if len(region.content) != len(other.content):
             raise Unproved("two passes of a loop don't access the same of %s" % name_)
-        region.content = general_bytes(g, region.content, other.content, passes)
+        begin = min(first.accessed_from(name_), second.accessed_from(name_))
+        region.content[begin:] = general_bytes(g, region.content[begin:], other.content[begin:], passes)
         if isinstance(region, Window):
             region.origin = generally(region.origin, other.origin, passes, g.most)
             if region.origin is None:
@@ -238,12 +239,13 @@ def is_instance(m, general, passes):
     want.replace_unknown(general.name, passes)
 
     def same(a, b):
-        return len(a) == len(b) and all(x in (any_, y) for x, y in zip(a, b))
+        return len(a) == len(b) and (a == b or all(x == y or x == any_ for x, y in zip(a, b)))
     wrong = [r for r, v in want.general.items() if not same(want.to_bytes(v, m.word), m.to_bytes(m.general[r], m.word))]
     wrong += ["vector register %d" % n for n, (v, w) in enumerate(zip(want.vectors, m.vectors)) if not same(v, w)]
     window = lambda r: [r.size, r.origin, r.initial, r.writable] if isinstance(r, Window) else []
     pairs = [(name, r, m.regions[name]) for name, r in want.regions.items()]
-    wrong += [name for name, r, s in pairs if not same(r.content, s.content) or window(r) != window(s)]
+    of = lambda region, name: region.content[want.accessed_from(name):]
+    wrong += [name for name, r, s in pairs if not same(of(r, name), of(s, name)) or window(r) != window(s)]
     alike = "first_block", "domain", "entered", "top", "done", "phase", "next_address", "counter"
     wrong += [what for what in alike if getattr(want, what) != getattr(m, what)]
     wrong += ["a fact"] * (not all(m.implied(f) for f in want.facts)) + ["a flag"] * any(f is not None for f in want.flags.values())

@@ -40,11 +40,17 @@ WORD = (1 << 64) - 1
 
 
 def is_int(*values):
-    return all(isinstance(v, int) for v in values)
+    for v in values:  # (Not by `all`: this is asked of each instruction.)
+        if not isinstance(v, int):
+            return False
+    return True
 
 
 def is_pointer(*values):
-    return all(isinstance(v, Pointer) for v in values)
+    for v in values:
+        if not isinstance(v, Pointer):
+            return False
+    return True
 
 
 def constant(what, value):

@@ -133,11 +133,12 @@ class Unknowns:
         def settled(b):
             words = ((x, self.from_bytes(x)) for x in lanes(b, self.word))
             return joined(self.names(v) if is_pointer(v) else map(self.without_name, x) for x, v in words)
-        for region in self.regions.values():
+        for name, region in self.regions.items():
             if isinstance(region, Window):
                 region.settle(self)
             elif self.counter:
-                region.content = settled(region.content)
+                begin = self.accessed_from(name)
+                region.content[begin:] = settled(region.content[begin:])
         if self.counter:
             self.vectors = [settled(v) for v in self.vectors]
             self.forget_wrap()
@@ -191,12 +192,17 @@ class Unknowns:
 
         def all_of(b):
             return [memo[x] if x in memo else memo.setdefault(x, convert(x)) for x in b]
-        for region in self.regions.values():
-            region.content = all_of(region.content)
+        for name, region in self.regions.items():
+            begin = self.accessed_from(name)
+            region.content[begin:] = all_of(region.content[begin:])
         self.vectors = [all_of(v) for v in self.vectors]
         for r, v in self.general.items():
             if type(v) is tuple:
                 self.general[r] = self.from_bytes(all_of(v))
+
+    def accessed_from(self, name):
+        """From where on a region may hold something else than before the call: the stack lies untouched below what was accessed."""
+        return self.lowest // self.word * self.word if name == "stack" else 0
 
     def judged(self, differences, equal):
         """Puts numbers in the place of Verdicts of these bytes, when it is known whether all are 0."""
