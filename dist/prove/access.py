@@ -1,7 +1,7 @@
 """Operands and memory: which accesses are allowed, and what they read and write."""
 from bits import Pause, Unproved
 from linear import Linear, is_number
-from operands import Memory, Number, Pointer, Register, Vector, is_pointer
+from operands import HEAD, Memory, Number, Pointer, Register, Vector, is_int, is_pointer
 from regions import Window
 
 PAGE = 4096  # the smallest page of memory
@@ -84,12 +84,16 @@ class Access:
         if isinstance(region, Window):
             if region.waits:
                 raise Pause("accesses %s while the key is expanded" % base)
-            if not self.implied(offset) or not self.implied(region.size - offset - size):
+            if not self.implied(offset) or not self.implied(region.whole - offset - size):
                 raise Unproved("%s %d bytes at %s of %s, which has %s" % (
-                    "writes" if write else "reads", size, offset, base, region.size))
-            if not write and region.is_untouched():
-                return region.initial_at(self, base, offset, size), 0
-            offset = region.reached(self, offset, size)
+                    "writes" if write else "reads", size, offset, base, region.whole))
+            if is_int(offset) and offset < region.head:
+                region = self.regions[base + HEAD]
+            else:
+                offset = region.turned(offset - region.head, size)
+                if not write and region.is_untouched():
+                    return region.initial_at(self, base, offset, size), 0
+                offset = region.reached(self, offset, size)
         if offset < 0 or offset + size > len(region.content):
             raise Unproved("%s %d bytes at %d of %s, which has %d" % (
                 "writes" if write else "reads", size, offset, base, len(region.content)))

@@ -108,6 +108,11 @@ class Arithmetic:
             return self.verdict(0, zero, size), {"c": SECRET, "z": self.zero_flag(zero), "s": SECRET, "o": SECRET}
         return self.unbits(bits), {"c": self.flag_of(out), "z": SECRET, "s": SECRET, "o": SECRET}
 
+    def whole_number(self, v, size):
+        """The number that is in the lower bytes of a word and has no more."""
+        name = self.domain.opaque_of.get(v[0]) if type(v) is tuple and size == self.word else None
+        return name[0] if isinstance(name, tuple) and isinstance(name[0], Linear) and list(v) == self.fewest_bytes(name[0], size) else v
+
     def low_part(self, v, size):
         """The number that is in these bytes of one that has no more, or of one that is so much larger."""
         name = self.domain.opaque_of.get(v[0]) if type(v) is tuple and size < self.word else None
@@ -135,7 +140,7 @@ class Arithmetic:
         So they are ordered as their offsets are. (A counter isn't placed.)"""
         for a in addresses:
             region = isinstance(a, Pointer) and self.regions.get(a.base)
-            if isinstance(region, Window) and self.implied(a.offset) and self.implied(region.size - a.offset):
+            if isinstance(region, Window) and self.implied(a.offset) and self.implied(region.whole - a.offset):
                 continue
             # (An empty buffer may be at 16, which the header passes in the place of NULL: nothing before it counts.)
             if not region:
@@ -149,10 +154,12 @@ class Arithmetic:
         """x - y, or one less if `carry` is 0. The flag c says that there is no borrow."""
         if y == 0 and carry and self.is_placed(x):
             return x, {"z": 0, "c": 1}
+        x, y = self.whole_number(x, size), self.whole_number(y, size)
         if is_number(x, y) and not is_int(x, y) and size == self.word:
             x, y = self.ranged(x), self.ranged(y)
             flags = {"c": ("not", (x, y + 1 - carry, "below"))} if self.fits(x) and self.fits(y) else {}
-            return self.offset(x, carry - 1 - y), {**flags, **({"z": (x, y, "equal")} if flags and carry else {})}
+            apart = self.implied(self.most - x + y) and self.implied(self.most + x - y)  # by less than 2^64
+            return self.offset(x, carry - 1 - y), {**flags, **({"z": (x, y, "equal")} if apart and carry else {})}
         if isinstance(x, Distance) and is_number(y) and carry:
             return x._replace(offset=x.offset - y), {"c": ("not", (x, y, "below")) if y != 0 else 1, "z": (x, y, "equal")}
         if is_pointer(x, y) and carry and x.base == y.base and not is_int(x.offset, y.offset):

@@ -134,9 +134,9 @@ class Forms:
         return self.bits_of[byte]
 
     def cell_of(self, byte):
-        """(cell, block) of a byte that is a cell, perhaps with bits flipped."""
+        """(cell, block) of a byte that is a cell, perhaps with bits flipped or the byte of a number added."""
         bit = self.bits_of[byte][0]
-        (cell, _), = self.forms[bit >> 9]
+        cell, = (c for c, _ in self.forms[bit >> 9] if c not in self.unknowns)
         return cell, (bit & BLOCK) >> 1 if self.of_block[cell] else 0
 
     def symbolic(self, byte):

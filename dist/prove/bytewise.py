@@ -74,7 +74,7 @@ class Bytewise:
             return {"a": x & y, "o": x | y, "x": x ^ y}[name[0]] & (1 << 8 * size) - 1
         if name == "or" and y == 0 or name == "and" and x == y:
             return x
-        masked = self.masked(x, y) if name == "and" and size == self.word else None
+        masked = self.masked(name, x, y) if name in ("and", "or") and size == self.word else None
         if masked is not None:
             return masked
         if name == "or" and x == 0:
@@ -87,7 +87,7 @@ class Bytewise:
                 return self.offset(x, y)
             if name == "and" and low and not low & low - 1 and align % low == 0:
                 return x._replace(offset=x.offset & -low)
-        return self.from_bytes(self.bytewise(name, self.to_bytes(x, size), self.to_bytes(y, size)))
+        return self.from_bytes(self.bytewise(name, *(self.fewest_bytes(v, size) for v in (x, y))))
 
     def add_byte(self, x, y, carry=0):
         if max(x, y) < 256:

@@ -56,8 +56,8 @@ def aes_cases(choose):
     yield "any_keystream", choose([(0, 0), (0, 33), (5, 122), *every], (), (), [(0, 0)])
     yield "cbc_decrypt", choose(range(65), (9,), (0, 1, 3, 4, 8, 17))
     yield "cbc_encrypt", choose(range(65), (), (1, 2))
-    yield "wrap", choose(range(2, 13), (2,), (8,))
-    yield "unwrap", choose(range(3, 14), (3,), (9,))
+    yield "any_wrap", [()]
+    yield "any_unwrap", [()]
     yield "wrap_padded", choose(range(1, 58), (9,), (1, 8))
     yield "unwrap_padded", choose(range(1, 58), (9,), (1, 8, 57))
     yield "unwrap_padded_refused", choose([(n, 1) for n in range(1, 4)], [(1, 8)], (), [(2, 16)])

@@ -34,11 +34,10 @@ from arithmetic import Arithmetic
 from bits import PUBLIC, Pause, Undefined, Unproved
 from bytewise import Bytewise
 from linear import Linear, is_number
-from operands import (RETURN_ADDRESS, SECRET, WORD, Distance, Memory, Pointer, Question, Verdict, constant, is_int, is_pointer, joined)
+from operands import (FARTHEST, RETURN_ADDRESS, SECRET, WORD, Distance, Memory, Pointer, Question, Verdict, constant, is_int, is_pointer, joined)
 from program import LIBC
 from unknowns import Unknowns
 
-FARTHEST = 1 << 16  # how many bytes the stack pointer may move at once: more than any frame has
 
 
 class Machine(Arithmetic, Unknowns, Bytewise, Access):
@@ -114,6 +113,12 @@ class Machine(Arithmetic, Unknowns, Bytewise, Access):
         if flag[0] == "zero" and any(q[0] == "zero" and answer and {*flag[1:]} <= {*q[1:]} for q, answer in self.answers.items()):
             return 1  # some of those that are all zero
         return self.ask(flag)
+
+    def at_most(self, below, equal):
+        """Whether a number is below another one, as one flag says, or equal to it, as the other says: of numbers one question."""
+        if isinstance(below, tuple) and is_number(*below[:2]) and equal == (*below[:2], "equal"):
+            return 1 - self.decide((below[1], below[0], "below"))
+        return self.decide(below) or self.decide(equal)
 
     def carried(self, flag):
         """A flag that an instruction adds: one that compares lengths, as 0 or 1."""
@@ -231,8 +236,8 @@ class Machine(Arithmetic, Unknowns, Bytewise, Access):
         if self.shadow and stack != self.top:  # (else it is called in the place of this call, whose caller has left room)
             self.store(Pointer("stack", stack + self.word * len(self.pushed)), [self.domain.undefined] * self.shadow)
         to, source, count = (self.general[r] for r in self.arguments[:3])
-        if isinstance(count, Linear) and name != "memset":
-            self.copy_all(to, source, count)
+        if isinstance(count, Linear) or getattr(self.window(to), "backwards", False):
+            (self.fill if name == "memset" else self.copy_all)(to, source, count)
             count = 0
         if not is_int(count):
             raise Unproved("a length depends on the key or on data")

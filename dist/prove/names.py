@@ -12,12 +12,9 @@ class Names:
 
     def define(self, cell, bits):
         """Lets a cell stand for the byte with these bits, for all blocks alike."""
-        cells = tuple(c for c, _ in self.forms[bits[0] >> 9])
-        rows = []  # of sums of bits of the byte: the form as a vector, which bits these are, and the complement
-        for j, b in enumerate(bits):
-            if b < 2 or tuple(c for c, _ in self.forms[b >> 9]) != cells:
-                raise Unproved("the bits of %s depend on different cells" % self.names[cell])
-            rows.append((self.vector(self.forms[b >> 9]), 1 << j, b & 1))
+        cells = tuple(sorted({c for b in bits for c, _ in self.forms[b >> 9] or ()}))
+        # Of sums of bits of the byte: the form as a vector, which bits these are, and the complement.
+        rows = [(self.vector(self.forms[b >> 9] or (), cells), 1 << j, b & 1) for j, b in enumerate(bits)]
         echelon = []  # by Gaussian elimination, the lowest set bit being the pivot
         for v, mask, complement in rows:
             for p, w, m, c in echelon:
@@ -26,19 +23,20 @@ class Names:
             if not v:
                 raise Unproved("the bits of %s are not independent" % self.names[cell])
             echelon.append((v & -v, v, mask, complement))
-        self.by_cells.setdefault(cells, []).append((cell, echelon))
         self.definitions[cell], self.defined_by[cell] = bits, cells
-        self.ways.pop(cells, None)
+        for some in {cells, *(tuple(c for c, _ in self.forms[b >> 9]) for b in bits)}:
+            self.by_cells.setdefault(some, []).append((cell, echelon))
+            self.ways.pop(some, None)
 
-    def vector(self, form):
-        return sum(t << 256 * i for i, (_, t) in enumerate(form))
+    def vector(self, form, cells):
+        """The tables of a form, one after another, as those of these cells."""
+        return sum(t << 256 * cells.index(c) for c, t in form)
 
     def named(self, form, cells):
         """If a form is a sum of bits of a byte with a name: [(cell, table)]."""
-        out, v0 = [], None
+        out = []
         for cell, echelon in self.by_cells.get(cells, ()):
-            v = v0 = self.vector(form) if v0 is None else v0
-            table, complement = 0, 0
+            v, table, complement = self.vector(form, self.defined_by[cell]), 0, 0
             for p, w, m, c in echelon:
                 if v & p:
                     v, complement = v ^ w, complement ^ c
@@ -62,7 +60,7 @@ class Names:
                 ways[cells[0]] = form[0][1]
             for k, (c, t) in enumerate(form):
                 rest = cells[:k] + cells[k + 1:]
-                if self.defined_by.get(c) == rest:
+                if rest and {*rest} <= {*self.defined_by.get(c, ())}:
                     ways.update((cell, t ^ table) for cell, table in self.named(form[:k] + form[k + 1:], rest) if cell == c)
             known[n] = ways
         return ways

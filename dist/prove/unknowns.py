@@ -1,6 +1,6 @@
 """Numbers that aren't known (linear.py), in a machine: what is known of them are facts, numbers that are 0 or more."""
 from bits import LOST, Unproved
-from linear import Linear, implied, replaced, step_of, terms, tightened, unknown
+from linear import Linear, implied, refuted, replaced, step_of, terms, tightened, unknown
 from operands import Content, Distance, Placed, Pointer, Question, Scaled, Shifted, Verdict, constant, is_int, is_pointer, joined, lanes
 from regions import Window
 
@@ -14,6 +14,11 @@ class Unknowns:
     def fits(self, x):
         """Whether a number is what the machine has, and not only up to multiples of 2^64 (or 2^32)."""
         return self.implied(x) and self.implied(self.most - x)
+
+    def fewest_bytes(self, x, size):
+        """Bytes of a value: of a number those that it may have, and zeros."""
+        sizes = [k for k in range(size) if self.implied((1 << 8 * k) - 1 - x)] if isinstance(x, Linear) and self.implied(x) else []
+        return self.to_bytes(x, sizes[0])[:sizes[0]] + [0] * (size - sizes[0]) if sizes else self.to_bytes(x, size)
 
     def ranged(self, x):
         """A number as the machine has it, from 0 on: whether it has wrapped around is a question. (Not so in loops, of which the
@@ -48,9 +53,11 @@ class Unknowns:
             raise Unproved("a product that isn't a division")
         return self.quotient(x, by)
 
-    def masked(self, x, y):
-        """`and` with a mask of bits that are known, or of all the others; else None."""
+    def masked(self, name, x, y):
+        """`and` with a mask of bits that are known, or of all the others, and `or` with such bits; else None."""
         x, y = (y, x) if is_int(x) else (x, y)
+        if isinstance(x, Linear) and is_int(y) and name == "or":
+            return x + (y & ~x.constant) if 0 <= y < step_of(x) else None
         if isinstance(x, Linear) and is_int(y):
             low = -y & self.most  # if it is a power of two, all bits below it go
             if y < step_of(x):
@@ -103,7 +110,7 @@ class Unknowns:
         self.general = {r: new(v) & self.most if isinstance(v, Linear) and is_int(new(v)) else new(v) for r, v in self.general.items()}
         for region in self.regions.values():
             if isinstance(region, Window):
-                region.size, region.origin = new(region.size), new(region.origin)
+                region.size, region.end, region.origin = new(region.size), new(region.end), new(region.origin)
         self.counter, self.done = new(self.counter), new(self.done)
         self.loops, self.replaced, self.want = {}, [*self.replaced, (name, by)], None
 
@@ -162,27 +169,51 @@ class Unknowns:
     def names(self, value):
         return [self.domain.opaque((value, k)) for k in range(self.word)]
 
+    def window(self, pointer):
+        """The buffer behind whose head a pointer points."""
+        region = self.regions.get(pointer.base) if is_pointer(pointer) else None
+        return region if isinstance(region, Window) and pointer.offset == region.head else None
+
     def copy_all(self, to, source, count):
         """A copy of a whole buffer that is as it was to another one."""
-        a, b = (self.regions.get(p.base) if is_pointer(p) and p.offset == 0 else None for p in (to, source))
-        if not (isinstance(a, Window) and isinstance(b, Window) and a.size == b.size == count and a.writable and not b.writable):
+        a, b = self.window(to), self.window(source)
+        if not (a and b and a.size == b.size == count and a.backwards == b.backwards and a.writable and not b.writable):
             raise Unproved("a copy of a number of bytes that isn't known, and not of a whole buffer")
-        a.initial, a.origin, a.content = b.initial, 0, []
+        a.initial, a.origin, a.end, a.content = b.initial, 0, a.size, []
+
+    def fill(self, to, value, count):
+        """So many bytes of a buffer that is as it was become what they have to be, its first ones."""
+        a = self.window(to)
+        if not (a and a.is_untouched() and a.want == self.to_bytes(value, 1) * a.unit and self.implied(a.size - count) and self.implied(count)):
+            raise Unproved("a number of bytes that isn't known is overwritten, and not as it has to be")
+        if (count % a.unit if is_int(count) else count.divided(a.unit)[1]) != 0:
+            raise Unproved("part of a block is overwritten")
+        a.origin, a.end = (0, a.size - count) if a.backwards else (count, a.size)
 
     def overlaps(self, x, y, what):
-        """Whether a flag says that two buffers of this length overlap, which the header excludes where one is written to."""
+        """Whether a flag says that two buffers overlap, which the header excludes where one is written to: that the first one, or what
+        follows so many bytes of it, begins in the first y bytes of the second one."""
         a, b = (self.regions.get(name) for name in (x.base, x.other))
-        return isinstance(a, Window) and isinstance(b, Window) and a.writable | b.writable and (
-            x.offset == 0 and a.size == b.size == y and what == "below")
+        if not (isinstance(a, Window) and isinstance(b, Window) and a.writable | b.writable and what == "below" and is_int(x.offset)):
+            return False
+        ends = max(x.offset, 0) - a.whole, max(-x.offset, 0) + y - b.whole - 1
+        return all(refuted(self.facts | {y - 1, end}) for end in ends)
 
     def any_byte(self):
         """A byte of which nothing is known; it may depend on the key."""
         self.lost.add(self.domain.opaque(LOST))
         return self.domain.opaque(LOST)
 
-    def begin_again(self):
-        """What is left of blocks is forgotten, and they are numbered anew."""
+    def begin_again(self, name=None, *new):
+        """What is left of blocks is forgotten, and they are numbered anew. A buffer with this name begins again as `new` says; others that
+        were made of the same cells can't be read any more."""
         self.phase, self.done = self.phase + 1, 0
+        cells = {c for b in new[0] for c in self.domain.cells(b)} if name else set()
+        for window in (r for r in self.regions.values() if isinstance(r, Window)):
+            if not all(cells.isdisjoint(self.domain.cells(b)) for b in window.initial):
+                window.initial = [self.any_byte()] * window.unit
+        if name:
+            self.regions[name].begin_again(*new)
         self.each_byte(lambda b: self.any_byte() if self.domain.blocks(b) else b)
         self.first_block, self.origins = 0, {place: on for place, on in self.origins.items() if not place[1]}
 
