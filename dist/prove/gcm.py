@@ -22,9 +22,9 @@ NONE, ADDITIONAL, ENCRYPTING, VERIFYING, DECRYPTING = range(5)  # phases of a me
 MOST, MOST_ADDITIONAL, MOST_NONCE = 2 ** 36 - 32, 2 ** 61 - 1, 2 ** 61 - 1
 
 
-def threes(blocks):
+def threes(blocks, many=3):
     """The groups of blocks whose products with powers of H are added at once."""
-    return [blocks[i:i + 3] for i in range(0, len(blocks), 3)]
+    return [blocks[i:i + many] for i in range(0, len(blocks), many)]
 
 
 class Hashing:
@@ -74,6 +74,7 @@ class KeyedGcm(Keyed):
         self.pre_counter = [d.fresh("J_0 byte %d" % i, KEY | PUBLIC) for i in range(12)]
         block = lambda name, depends: [d.fresh("%s byte %d" % (name, i), depends, True) for i in range(16)]
         self.text, self.sealed, self.tag = (block(name, DATA) for name in ("text", "encrypted", "tag"))
+        self.hashed_text = self.sealed
         self.additional_bytes, self.long_nonce = block("additional", DATA), block("long nonce", PUBLIC)
         self.hash_value, self.rest = block("hash", KEY | DATA), block("rest", KEY | DATA)
 
@@ -249,19 +250,19 @@ class KeyedGcm(Keyed):
         low, high = ([1, 0, 0, 0] + self.nonce[:7:-1], Pointer("any J_0 low", 0)), (self.nonce[7::-1], Pointer("nonce high", 0))
         return CounterWord("any J_0 low", 1, NEVER, size.divided(16)[0] + 2 + BATCH, {tuple(b): word for b, word in (low, high)})
 
-    def any_group(self, m, before, bytes_, size, end, after):
-        """What GHASH does next with so many bytes: three blocks, as long as there are so many; then the rest and the blocks `end`. A value
-        becomes the block with which the next group begins; the last one becomes `after`."""
+    def any_group(self, m, before, bytes_, size, many, end, after):
+        """What GHASH does next with so many bytes: so many blocks at once, as long as they are there; then the rest and the blocks `end`. A
+        value becomes the block with which the next group begins; the last one becomes `after`."""
         group, size = m.done, m.known(size)
-        whole, rest = divmod(size, 48) if isinstance(size, int) else size.divided(48)
-        value_of = lambda group: before if group == 0 else self.at_block(m, self.hash_value, group * 3)
+        whole, rest = divmod(size, 16 * many) if isinstance(size, int) else size.divided(16 * many)
+        value_of = lambda group: before if group == 0 else self.at_block(m, self.hash_value, group * many)
+        blocks = lambda group: [self.at_block(m, bytes_, group * many + k) for k in range(many)]
         below = m.is_below(group, whole)
         if below:
-            return self.group_step(value_of(group), [self.at_block(m, bytes_, group * 3 + k) for k in range(3)], value_of(group + 1))
+            return self.group_step(value_of(group), map(self.hashed, blocks(group)), value_of(group + 1))
         if below is None or not isinstance(group - whole, int):
             return "nothing", (), ()
-        tail = [b for k in range(3) for b in self.at_block(m, bytes_, whole * 3 + k)][:rest]
-        groups = threes(padded(tail) + end)
+        groups = threes([*map(self.hashed, padded(sum(blocks(whole), [])[:rest]))] + end, many)
         at = group - whole
         if at < len(groups):
             return self.group_step(value_of(group), groups[at], value_of(group + 1) if groups[at + 1:] else after)
@@ -269,7 +270,12 @@ class KeyedGcm(Keyed):
             return "here", value_of(group), after
         return "again", (), ()
 
+    def hashed(self, block):
+        """What GHASH takes of a block."""
+        return block
+
     def group_step(self, value, blocks, after):
+        blocks = list(blocks)
         return "hash", functools.partial(self.with_powers, [self.aes.xor(value, blocks[0]), *blocks[1:]]), after
 
     def middle_value(self):
@@ -278,21 +284,29 @@ class KeyedGcm(Keyed):
     def last_value(self):
         return self.once("last value", lambda: [self.domain.fresh("last hash byte %d" % i, KEY | DATA) for i in range(16)])
 
+    def at_once(self, m, sizes):
+        """How many blocks GHASH takes at once."""
+        return len(self.kept_powers())
+
     def any_hash(self, m, phase, sizes):
         """GHASH of additional data (phase 0) and of a text, each of such a size."""
-        middle, last = self.middle_value(), self.last_value()
+        middle, last, many = self.middle_value(), self.last_value(), self.at_once(m, sizes)
         if phase > 1:
             return "nothing", (), ()
         if phase == 0:
-            return self.any_group(m, ZEROS, self.additional_bytes, sizes[0], [], middle)
+            return self.any_group(m, ZEROS, self.additional_bytes, sizes[0], many, [], middle)
         before = ZEROS if m.known(sizes[0]) == 0 else middle
-        lengths = [b for n in sizes for b in m.to_bytes(m.known(n) * 8, 8)[::-1]]
-        return self.any_group(m, before, self.sealed, sizes[1], [lengths], last)
+        return self.any_group(m, before, self.hashed_text, sizes[1], many, [self.any_lengths(m, sizes)], last)
+
+    def any_lengths(self, m, sizes):
+        return [b for n in sizes for b in m.to_bytes(m.known(n) * 8, 8)[::-1]]
+
+    def any_sum(self, m, sizes):
+        """GHASH of all. (Of nothing it is that of a block of zeros.)"""
+        return ZEROS if all(m.known(size) == 0 for size in sizes) else self.last_value()
 
     def any_tag(self, m, sizes, first):
-        """(GHASH of nothing is that of a block of zeros.)"""
-        nothing = all(m.known(size) == 0 for size in sizes)
-        return self.aes.xor(ZEROS if nothing else self.last_value(), self.stream(first, 0))
+        return self.aes.xor(self.any_sum(m, sizes), self.stream(first, 0))
 
     def any_whole(self, rest_of_additional, rest):
         """What statements of every length have in common: sizes, the counter, and the patterns of text, keystream and encrypted text."""

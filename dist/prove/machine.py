@@ -39,7 +39,7 @@ from linear import Linear, implied, is_number, replaced, step_of, terms, tighten
 
 Pointer = namedtuple("Pointer", "base offset")  # base: the name of a region, or of a register's value before the call
 Distance = namedtuple("Distance", "base other offset")  # the address of a buffer, less that of another, plus a constant
-Number = namedtuple("Number", "base offset")  # 32 bits: a number of unknown value, plus a constant; higher bytes aren't known
+Number = namedtuple("Number", "base offset")  # 32 bits: a number of unknown value, plus another; higher bytes aren't known
 # So many bytes of which only this is known: they are the number `right` if all the differences are 0, else another one, which is `wrong` if
 # that is known; zeros above.
 Verdict = namedtuple("Verdict", "right differences size wrong", defaults=[None])
@@ -148,12 +148,12 @@ class Table(dict):
         return add
 
 
-class Placed(namedtuple("Placed", "base offset first")):
+class Placed(namedtuple("Placed", "value first")):
     """The counter (of Machine.counter) of a block, of which the bytes are those of a number: it counts from the block with number LEAD."""
 
     def byte(self, domain, k):
-        number = self.offset - self.first + LEAD
-        return domain.placed[self.base](number, k) if is_int(number) else None
+        number = self.value.offset - self.first + LEAD
+        return domain.placed[self.value.base](number, k) if is_int(number) else None
 
 
 # A byte of a buffer that is as it was, at an offset of which the block isn't known. (`what` tells its name from that of an address.)
@@ -393,13 +393,14 @@ class Machine:
         named = self.size_of(value)
         if named is None:
             return list(value[:size])
-        if self.any_length and is_pointer(value) and self.counter and value.base == self.counter.word:
-            value = Placed(*value, self.first_block + self.counter.first)
         above = self.domain.undefined if isinstance(value, Number) else 0
+        if self.any_length and isinstance(value, (Pointer, Number)) and self.counter and value.base == self.counter.word:
+            value = Placed(value, self.first_block + self.counter.first)
         return [self.domain.opaque((value, k)) for k in range(min(named, size))] + [above] * (size - named)
 
     def size_of(self, value):
         """How many bytes of a value are known by its name; None if it is bytes."""
+        value = value.value if isinstance(value, Placed) else value
         if isinstance(value, (Verdict, Number)):
             return value.size if isinstance(value, Verdict) else 4
         return self.word if isinstance(value, (Pointer, Distance, Linear, Scaled, Shifted)) else None
@@ -409,13 +410,11 @@ class Machine:
             return int.from_bytes(bytes(b), "little")
         if b[0] in self.domain.opaque_of:
             value = self.domain.opaque_of[b[0]][0]
-            if isinstance(value, Placed) or self.any_length and is_pointer(value):
-                same = list(b) == self.names(value)
-                return Pointer(value.base, value.offset) if same else tuple(b)
             named = self.size_of(value)
-            above = {0, self.domain.undefined} if isinstance(value, Number) else {0}
-            if named and len(b) >= named and list(b[:named]) == self.to_bytes(value, named) and {*b[named:]} <= above:
-                return value
+            if named and len(b) >= named and list(b[:named]) == self.names(value):
+                value = value.value if isinstance(value, Placed) else value
+                if {*b[named:]} <= ({0, self.domain.undefined} if isinstance(value, Number) else {0}):
+                    return value
         return tuple(b)
 
     def bits(self, value, size):
@@ -447,7 +446,7 @@ class Machine:
             r = wrapped(a + b, self.most)
             return r & self.most if is_int(r) else r
         if isinstance(a, Number):
-            return Number(a.base, a.offset + b & 0xffffffff)
+            return Number(a.base, wrapped(a.offset + b, 0xffffffff))
         return Pointer(a.base, wrapped(a.offset + b, self.most))
 
     # Sums and differences with their flags: (result, {flag: value}).
@@ -463,11 +462,12 @@ class Machine:
             x, y = self.ranged(x), self.ranged(y)
             r = self.offset(self.offset(x, carry), y)
             return r, {"c": (self.most, x + y + carry, "below"), **self.zero_and_sign(r, size)} if self.fits(x) and self.fits(y) else {}
+        if Number in (type(x), type(y)):  # modulo 2^32, so of others the lowest bytes do
+            x, y = (v if (whole := self.whole(v, size)) is None else whole for v in (x, y))
+            return self.offset(self.offset(x, carry), y), {}
         part, other = (self.low_part(v, size) for v in (x, y))
         if isinstance(part, Linear) and is_number(other) and size < self.word:
             return tuple(self.any_byte() for _ in range(size)), {"c": (mask, part + (other & mask if is_int(other) else other) + carry, "below")}
-        if Number in (type(x), type(y)):
-            return self.offset(self.offset(x, carry), y), {}
         if isinstance(x, Distance) and is_int(y):
             return x._replace(offset=x.offset + y), {}
         if (is_pointer(x) or is_pointer(y)) and size == self.word:
@@ -489,11 +489,16 @@ class Machine:
             return self.verdict(0, zero, size), {"c": SECRET, "z": self.zero_flag(zero), "s": SECRET, "o": SECRET}
         return self.unbits(bits), {"c": self.flag_of(out), "z": SECRET, "s": SECRET, "o": SECRET}
 
+    def whole(self, v, size):
+        """The number that isn't known, of which these are the lowest bytes; or None."""
+        name = self.domain.opaque_of.get(v[0]) if type(v) is tuple and size < self.word else None
+        whole = name[0] if isinstance(name, tuple) else None
+        return whole if isinstance(whole, Linear) and v == tuple(self.to_bytes(whole, self.word)[:size]) else None
+
     def low_part(self, v, size):
         """The number that is in these bytes of one that has no more, or of one that is so much larger."""
-        name = self.domain.opaque_of.get(v[0]) if type(v) is tuple and size < self.word else None
-        whole, most = name[0] if isinstance(name, tuple) else None, (1 << 8 * size) - 1
-        if not isinstance(whole, Linear) or v != tuple(self.to_bytes(whole, self.word)[:size]):
+        whole, most = self.whole(v, size), (1 << 8 * size) - 1
+        if whole is None:
             return v
         fitting = [part for part in (whole, whole - (most + 1)) if self.implied(part) and self.implied(most - part)]
         return fitting[0] if fitting else v
@@ -603,9 +608,11 @@ class Machine:
         return self.implied(x) and self.implied(self.most - x)
 
     def ranged(self, x):
-        """A number as the machine has it, from 0 on: whether it has wrapped around is a question. (Not so in loops, of which the
-        passes have to be alike.)"""
-        while not self.any_length and not self.fits(x):
+        """A number as the machine has it, from 0 on: whether it has wrapped around is a question. (It isn't asked in loops, of which
+        the passes have to be alike.)"""
+        while not self.fits(x):
+            if self.any_length and None in (self.is_below(x, 0), self.is_below(self.most, x)):
+                break
             if self.compare_numbers(x, 0, "below"):
                 x += self.most + 1
             elif self.compare_numbers(self.most, x, "below"):
@@ -678,6 +685,9 @@ class Machine:
                 if k in (1, -1):
                     return self.replace_unknown(name, unknown(name) - fact * k)
         self.facts |= {fact}
+        for name in terms(fact):
+            if self.implied(-unknown(name)) and self.implied(unknown(name)):
+                self.replace_unknown(name, 0)
 
     def replace_unknown(self, name, by):
         """Puts a number in the place of an unknown."""
@@ -698,7 +708,7 @@ class Machine:
         """A byte, with another number in the place of that of which it is one."""
         d = self.domain
         value, k = d.opaque_of[b] if isinstance(d.opaque_of.get(b), tuple) else (None, 0)
-        by = new(value) if isinstance(value, (Linear, Pointer, Distance, Placed, Scaled, Shifted, Content)) else value
+        by = new(value) if isinstance(value, (Linear, Pointer, Number, Distance, Placed, Scaled, Shifted, Content)) else value
         if by != value:
             return self.to_bytes(by, self.word)[k] if is_int(by) else d.opaque((by, k))
         others = {c: (new(d.unknowns[c][0]), d.unknowns[c]) for c in d.unknown_cells(b)} if d.unknowns else {}
@@ -717,9 +727,10 @@ class Machine:
 
     def settle(self):
         """At the head of a loop. (Bytes of counters stay so only in whole words.)"""
-        def settled(b):
-            words = ((x, self.from_bytes(x)) for x in lanes(b, self.word))
-            return joined(self.names(v) if is_pointer(v) else map(self.without_name, x) for x, v in words)
+        def settled(b, sizes=(self.word, 4)):
+            words = ((x, self.from_bytes(x)) for x in lanes(b, sizes[0]))
+            return joined(self.names(v) if is_pointer(v) or isinstance(v, Number) and len(x) == 4 else settled(x, sizes[1:])
+                          if sizes[1:] else map(self.without_name, x) for x, v in words)
         for region in self.regions.values():
             if isinstance(region, Window):
                 region.settle(self)
@@ -746,7 +757,7 @@ class Machine:
         return self.domain.pack(self.domain.bits_of[byte]) if placed and self.domain.bits_of[byte] else byte
 
     def names(self, value):
-        return [self.domain.opaque((value, k)) for k in range(self.word)]
+        return [self.domain.opaque((value, k)) for k in range(self.size_of(value))]
 
     def copy_all(self, to, source, count):
         """A copy of a whole buffer that is as it was to another one."""
@@ -754,6 +765,16 @@ class Machine:
         if not (isinstance(a, Window) and isinstance(b, Window) and a.size == b.size == count and a.writable and not b.writable):
             raise Unproved("a copy of a number of bytes that isn't known, and not of a whole buffer")
         a.initial, a.origin, a.content = b.initial, 0, []
+
+    def fill_all(self, to, value, count):
+        """Fills so many bytes of a buffer, from its beginning on, of which nothing was done, and all is to be filled with this."""
+        window, (whole, rest) = self.regions.get(to.base) if is_pointer(to) and to.offset == 0 else None, count.divided(16)
+        if not (isinstance(window, Window) and window.writable and window.is_untouched() and window.want(self, whole) == [value] * 16
+                and self.implied(count) and self.implied(window.size - count)):
+            raise Unproved("fills a number of bytes that isn't known, and not of a whole buffer")
+        self.forget_blocks(whole)
+        window.origin = whole * 16
+        self.store(to._replace(offset=window.origin), [value] * rest)
 
     def overlaps(self, x, y, what):
         """Whether a flag says that two buffers of this length overlap, which the header excludes where one is written to."""
@@ -769,8 +790,12 @@ class Machine:
     def begin_again(self):
         """What is left of blocks is forgotten, and they are numbered anew."""
         self.phase, self.done = self.phase + 1, 0
+        self.forget_blocks(0)
+
+    def forget_blocks(self, first):
+        """From now on this is the first block."""
         self.each_byte(lambda b: self.any_byte() if self.domain.blocks(b) else b)
-        self.first_block, self.origins = 0, {place: on for place, on in self.origins.items() if not place[1]}
+        self.first_block, self.origins = first, {place: on for place, on in self.origins.items() if not place[1]}
 
     def each_byte(self, convert):
         """Puts other bytes in the place of those of registers and memory."""
@@ -1200,8 +1225,8 @@ class Machine:
         if self.shadow and stack != self.top:  # (else it is called in the place of this call, whose caller has left room)
             self.store(Pointer("stack", stack + self.word * len(self.pushed)), [self.domain.undefined] * self.shadow)
         to, source, count = (self.general[r] for r in self.arguments[:3])
-        if isinstance(count, Linear) and name != "memset":
-            self.copy_all(to, source, count)
+        if isinstance(count, Linear):
+            (self.fill_all if name == "memset" else self.copy_all)(to, source, count)
             count = 0
         if not is_int(count):
             raise Unproved("a length depends on the key or on data")
