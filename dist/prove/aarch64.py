@@ -7,7 +7,7 @@ from collections import namedtuple
 
 from bits import LOST, Undefined, Unproved
 from linear import Linear
-from machine import (RETURN_ADDRESS, SECRET, Instruction, Machine, Memory, Register, Scaled, Table, Vector, constant, form, interleaved,
+from machine import (RETURN_ADDRESS, SECRET, Instruction, Machine, Memory, Register, Scaled, Table, Vector, constant, contrary, form, interleaved,
                      is_int, joined, lanes)
 
 Shifted = namedtuple("Shifted", "operand how count")
@@ -67,7 +67,7 @@ class Aarch64(Machine):
         """By the manual's flags n, z, c and v; n and v are s and o here."""
         flag, number = lambda name: self.decide(self.flags[name]), CONDITIONS.index(code)
         if code in ("hi", "ls"):
-            holds = flag("c") and not flag("z")
+            holds = not self.at_most(contrary(self.flags["c"]), self.flags["z"])
         elif code in ("ge", "lt", "gt", "le"):
             holds = flag("s") == flag("o") and (code in ("ge", "lt") or not flag("z"))
         else:

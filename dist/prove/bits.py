@@ -88,7 +88,7 @@ class Domain:
         self.mixed, self.mixed_ids, self.mixed_xors, self.halves = [], {}, {}, {}
         self.products, self.product_ids, self.product_xors, self.product_ands, self.with_products = [], {}, {}, {}, set()
         self.linear_tables, self.linear_parts, self.column_parts, self.rows, self.row_keys = {}, {}, {}, {}, []
-        self.sums, self.factor_of, self.factor_cells, self.factor_bits = {}, {}, {}, set()
+        self.sums, self.factor_of, self.factor_cells, self.factor_bits, self.of_forgotten = {}, {}, {}, set(), {}
         self.undefined = self.opaque(UNDEFINED)
 
     # Cells and bytes.
@@ -101,6 +101,13 @@ class Domain:
     def fresh(self, name, depends, of_block=False):
         """A byte that is a cell of its own; in block 1, if each block has one."""
         return self.byte_of_cell(self.cell(name, of_block, depends), int(of_block))
+
+    def forgotten(self, byte, number):
+        """Any bits in the place of those of a byte that aren't constant. They count as key where they are left."""
+        cell = self.of_forgotten.setdefault(number, len(self.names))
+        if cell == len(self.names):
+            self.cell("forgotten byte %d" % number, False, KEY)
+        return self.pack([x if x < 2 else self.bit(cell, table, 0) for x, table in zip(self.bits(byte), LINEAR)])
 
     def byte_of_cell(self, cell, block, tables=LINEAR):
         """The byte of which the bits have these truth tables."""

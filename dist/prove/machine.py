@@ -680,14 +680,15 @@ class Machine:
     def assume(self, fact):
         """Takes one more fact; if it says what an unknown is, this takes the unknown's place everywhere."""
         fact = tightened(fact)
-        if self.implied(-fact):
-            for name, k in reversed(fact.terms):
-                if k in (1, -1):
-                    return self.replace_unknown(name, unknown(name) - fact * k)
-        self.facts |= {fact}
-        for name in terms(fact):
-            if self.implied(-unknown(name)) and self.implied(unknown(name)):
-                self.replace_unknown(name, 0)
+        one = [(name, k) for name, k in fact.terms if k in (1, -1)] if self.implied(-fact) else []
+        if one:
+            name, k = one[-1]
+            self.replace_unknown(name, unknown(name) - fact * k)
+        else:
+            self.facts |= {fact}
+        for lowest in [f for f in self.facts if len(f.terms) == 1 and f.terms[0][1] == 1]:  # its unknown is at least so much
+            if self.implied(-lowest):
+                self.replace_unknown(lowest.terms[0][0], -lowest.constant)
 
     def replace_unknown(self, name, by):
         """Puts a number in the place of an unknown."""
@@ -793,8 +794,12 @@ class Machine:
         self.forget_blocks(0)
 
     def forget_blocks(self, first):
-        """From now on this is the first block."""
-        self.each_byte(lambda b: self.any_byte() if self.domain.blocks(b) else b)
+        """From now on this is the first block. What is left of others in a register may be any bits, with which the code may go on."""
+        d = self.domain
+        for k, (r, v) in enumerate(self.general.items()):
+            if type(v) is tuple:
+                self.general[r] = self.from_bytes([d.forgotten(b, k * self.word + i) if d.blocks(b) else b for i, b in enumerate(v)])
+        self.each_byte(lambda b: self.any_byte() if d.blocks(b) else b)
         self.first_block, self.origins = first, {place: on for place, on in self.origins.items() if not place[1]}
 
     def each_byte(self, convert):
@@ -918,7 +923,7 @@ class Machine:
         """A value shifted to the left ("lsl"), or to the right with zeros ("lsr") or copies of the highest bit ("asr")."""
         if is_int(v) and how == "lsl":
             return v << count & (1 << 8 * size) - 1
-        if isinstance(v, Linear) and size == self.word and how == "lsl":
+        if isinstance(v, Linear) and size == self.word and how == "lsl" and (count < 32 or not self.fits(v)):  # else its lowest bits count
             return self.offset(v * (1 << count), 0)
         divides = isinstance(v, Linear) and (not self.any_length or step_of(v) >> count)
         if divides and size == self.word and how == "lsr" and self.fits(self.ranged(v)):
@@ -1108,6 +1113,12 @@ class Machine:
         if flag[0] == "zero" and any(q[0] == "zero" and answer and {*flag[1:]} <= {*q[1:]} for q, answer in self.answers.items()):
             return 1  # some of those that are all zero
         return self.ask(flag)
+
+    def at_most(self, below, equal):
+        """Whether the flags of a comparison say below or equal. Of numbers that aren't known this is one question, not two."""
+        if isinstance(below, tuple) and is_number(*below[:2]) and equal == (*below[:2], "equal"):
+            return self.compare_numbers(below[0], below[1] + 1, "below")
+        return self.decide(below) or self.decide(equal)
 
     def carried(self, flag):
         """A flag that an instruction adds: one that compares lengths, as 0 or 1."""

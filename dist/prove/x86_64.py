@@ -46,7 +46,8 @@ class X86_64(Machine):
         return Instruction(run, name, operands, following, form(name, operands, name[0] == "j" or name == "call"))
 
     def condition(self, code):
-        holds = any(self.decide(self.flags[f]) for f in CONDITIONS[code] if f in "czso")
+        flags = [self.flags[f] for f in CONDITIONS[code] if f in "czso"]
+        holds = self.at_most(*flags) if flags[1:] else self.decide(*flags)
         return int(holds != CONDITIONS[code].startswith("!"))
 
 
