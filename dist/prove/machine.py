@@ -686,7 +686,7 @@ class Machine:
             self.replace_unknown(name, unknown(name) - fact * k)
         else:
             self.facts |= {fact}
-        for lowest in [f for f in self.facts if len(f.terms) == 1 and f.terms[0][1] == 1]:  # its unknown is at least so much
+        for lowest in [f for f in self.facts if [*terms(f).values()] == [1]]:  # its unknown is at least so much
             if self.implied(-lowest):
                 self.replace_unknown(lowest.terms[0][0], -lowest.constant)
 
@@ -1144,6 +1144,10 @@ class Machine:
         if flag not in self.answers:
             raise Question(flag)
         return self.answers[flag]
+
+    def was_refused(self):
+        """Whether it was asked if a key or a tag is right, and it isn't."""
+        return any(q[0] == "zero" and not answer and not self.is_public(q[1:]) for q, answer in self.answers.items())
 
     def copied(self):
         m = copy.copy(self)
