@@ -231,7 +231,7 @@ def step_by_step(steps):
     products of bits are then forgotten: what still depends on them is lost, and may not even be left. "vector" is looked for in vector
     registers, "memory" where something was written, "block" in all these places, "kept" in memory outside of Streams; another name is that of a region. In a call of any length
     `steps` is a function of the machine. Then "here" says that there is a result; "again" begins another phase, in which blocks have new
-    numbers, and so does "whole", as soon as all of a buffer is done; and "nothing" says that what comes next isn't known."""
+    numbers, and so does "whole", as soon as all of a buffer is done, and "refused", when the call will return that; and "nothing" says that what comes next isn't known."""
     steps = steps if callable(steps) else list(steps)
 
     def watch(m):
@@ -242,10 +242,10 @@ def step_by_step(steps):
             # (Made before the code comes to it, so the code's products have the factors that it names: with_powers.)
             m.want = where, want() if callable(want) else want, new
         where, want, new = m.want
-        if where == "again" or where == "whole" and m.regions[want].is_done(m):
-            m.begin_again(*((want, *new) if where == "whole" else ()))
+        if where == "again" or where == "whole" and m.regions[want].is_done(m) or where == "refused" and m.was_refused():
+            m.begin_again(*((want, *new) if where != "again" else ()))
             m.want = None
-        if where in ("again", "whole", "nothing"):
+        if where in ("again", "whole", "refused", "nothing"):
             return
         if where == "here" or found(m, where, want):
             replaced, lost, on = {}, None, depends(m, *want) if where == "hash" else 0
@@ -294,7 +294,7 @@ def in_words(m, want):
 def depends(m, *bytes_):
     """What bytes depend on; of a byte that took the place of a result, what that depended on."""
     domain, out, pairs = m.domain, 0, 0
-    for x in (x for b in bytes_ for x in domain.bits(b)):
+    for x in (x for b in bytes_ if domain.symbolic(b) for x in domain.bits(b)):
         linear, products = domain.split(x)
         out, pairs = out | depends_bit(m, linear), pairs | products
     for number in domain.factors(pairs):

@@ -9,7 +9,7 @@ from collections import namedtuple
 
 from bits import LOST, Unproved
 from linear import is_number, refuted, replaced, terms, unknown, wrapped
-from operands import FARTHEST, Pointer, is_int, is_pointer, lanes
+from operands import FARTHEST, Number, Pointer, is_int, is_pointer, lanes
 from regions import Window
 from unknowns import WRAPPED
 
@@ -164,9 +164,9 @@ def generally(a, b, passes, most):
     if is_number(a, b):
         by = wrapped(b - a, most)
         return wrapped(a + passes * by, most) if is_int(by) and abs(by) <= FARTHEST else None
-    if is_pointer(a, b) and a.base == b.base:
+    if type(a) is type(b) and isinstance(a, (Pointer, Number)) and a.base == b.base:
         offset = generally(a.offset, b.offset, passes, most)
-        return None if offset is None else Pointer(a.base, offset)
+        return None if offset is None else a._replace(offset=offset)
     return None
 
 
@@ -202,7 +202,9 @@ def general_state(known, key, visit, now, wrong=frozenset()):
     passes, first = unknown(name), visit.first
     blocks = in_a_pass(first, now.first)
     second, g = moved_on(now.first, blocks), first.copied()
-    g.first_block, g.origins = first.first_block + passes * blocks, {**second.origins, **first.origins}
+    g.first_block = first.first_block + passes * blocks
+    g.origins = {(c, b): on for (c, block), on in (*second.origins.items(), *first.origins.items())  # and what earlier passes have left
+                 for b in (range(block, 0, -blocks) if block and blocks else [block])}
     g.done = generally(first.done, second.done, passes, g.most)
     for r, v in first.general.items():
         general = generally(v, second.general[r], passes, g.most)

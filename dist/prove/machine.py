@@ -145,6 +145,10 @@ class Machine(Arithmetic, Unknowns, Bytewise, Access):
             raise Question(flag)
         return self.answers[flag]
 
+    def was_refused(self):
+        """Whether it was asked if a key or a tag is right, and it isn't."""
+        return any(q[0] == "zero" and not answer and not self.is_public(q[1:]) for q, answer in self.answers.items())
+
     def copied(self):
         m = copy.copy(self)
         m.regions = {name: r.copy() for name, r in self.regions.items()}
