@@ -137,6 +137,7 @@ def moved_on(m, blocks):
             return d.moved(b, -blocks)
         except Unproved:
             return m.any_byte()
+    m.forget_differences()
     m.each_byte(moved)
     m.first_block += blocks
     m.origins = {(c, block and block - blocks): on for (c, block), on in m.origins.items() if not block or block > blocks}
@@ -203,6 +204,7 @@ def general_state(known, key, visit, now, wrong=frozenset()):
     blocks = in_a_pass(first, now.first)
     second, g = moved_on(now.first, blocks), first.copied()
     g.first_block, g.origins = first.first_block + passes * blocks, {**second.origins, **first.origins}
+    g.forget_differences()
     g.done = generally(first.done, second.done, passes, g.most)
     for r, v in first.general.items():
         general = generally(v, second.general[r], passes, g.most)

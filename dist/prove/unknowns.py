@@ -207,6 +207,7 @@ class Unknowns:
         """What is left of blocks is forgotten, and they are numbered anew. A buffer with this name begins again as `new` says; others that
         were made of the same cells can't be read any more."""
         self.phase, self.done = self.phase + 1, 0
+        self.forget_differences()
         cells = {c for b in new[0] for c in self.domain.cells(b)} if name else set()
         for window in (r for r in self.regions.values() if isinstance(r, Window)):
             if not all(cells.isdisjoint(self.domain.cells(b)) for b in window.initial):
@@ -215,6 +216,15 @@ class Unknowns:
             self.regions[name].begin_again(*new)
         self.each_byte(lambda b: self.any_byte() if self.domain.blocks(b) else b)
         self.first_block, self.origins = 0, {place: on for place, on in self.origins.items() if not place[1]}
+
+    def forget_differences(self):
+        """Whether bytes of blocks are zero, when these get other numbers."""
+        of_blocks = lambda bytes_: any(map(self.domain.blocks, bytes_))
+        is_lost = lambda v: isinstance(v, Verdict) and of_blocks(v.differences)
+        self.any_of = {b: some for b, some in self.any_of.items() if not of_blocks(some)}
+        self.equalities = {b: equal for b, equal in self.equalities.items() if not of_blocks(equal[:1])}
+        self.each_byte(lambda b: self.any_byte() if is_lost(self.domain.opaque_of.get(b, [0])[0]) else b)
+        self.general = {r: (self.any_byte(),) * self.word if is_lost(v) else v for r, v in self.general.items()}
 
     def each_byte(self, convert):
         """Puts other bytes in the place of those of registers and memory."""
