@@ -32,7 +32,7 @@ class Unknowns:
 
     def quotient(self, x, by):
         """Of a number and a power of two: another number, if it isn't one in the same unknowns."""
-        if self.any_length or all(k % by == 0 for _, k in x.terms):
+        if all(k % by == 0 for _, k in x.terms):
             return x.divided(by)[0]
         q = unknown("(%s) / %d" % (x, by))
         self.facts |= {x - q * by, q * by + by - 1 - x}
