@@ -79,7 +79,7 @@ MANY = 2 ** 35  # bytes, so that counts and positions don't fit into 32 bits
 WRAPS = 8, 2 ** 32 - 3, CARRIED  # the counter wraps in the text
 TAGS = 4, 8, 12, 13, 14, 15
 WHOLE = "48 a + r bytes of additional data and 768 n + s of text for every a and n: r, s"
-PIECE = "768 n + r bytes for every n after 16 k + s: s, r"
+PIECE = "%d n + r bytes for every n after 16 k + s for every k: s, r"
 PHASES = {"encrypt": gcm.ENCRYPTING, "verify": gcm.VERIFYING, "decrypt_unverified": gcm.VERIFYING}
 STATE = "the phase, and how many bytes of additional data and of text came before"
 
@@ -90,8 +90,8 @@ GCM_ROWS = [
         more=[(0, 0), (1, 16), (16, 225), (33, 48), (47, 767), (13, 33, "_to")]),
     Row("any_open", WHOLE + "; also of what is refused", full=[(13, 33)], first=[(13, 33, "_to")],
         more=[(0, 0), (0, 129), (1, 16), (16, 225), (33, 48), (47, 767)]),
-    *(Row("any_" + call, PIECE, first=[(3, 46)], more=[(1, 15), (9, 23), (15, 48)])
-      for call in ("additional", "verify", "encrypt", "decrypt", "decrypt_unverified")),
+    *(Row("any_" + call, PIECE % step, first=[(3, 46)], more=[(1, 15), (9, 23), (15, 48)]) for call, step in (
+        ("additional", 48), ("verify", 48), ("encrypt", 768), ("decrypt", 768), ("decrypt_unverified", 768))),
     Row("seal", "the lengths of additional data and text, and a nonce of another length", few=[(13, 33), (13, 33, (), "_to")],
         full=[(0, 0), (1, 1), (49, 1), (0, 0, (), "_to"), *((5, 20, nonce) for nonce in NONCES)],
         more=[(0, 449, gcm.UNKNOWN), *((5, 40, nonce) for nonce in NONCES), *((5, n, (60, None)) for n in (0, 129, 300))],
@@ -146,12 +146,12 @@ def riscv_rows(word):
         Row("wrap", "the number of semiblocks", few=[2], more=[3]),
         Row("unwrap", "the number of semiblocks, also of what is refused", few=[3], more=[4]),
         Row("wrap_padded", "the number of bytes", few=[1, 9]),
-        Row("unwrap_padded", "the number of bytes, also of what is refused; on 32 bits alone", few=[1, 9] * narrow),
-        Row("unwrap_padded_refused", "as above; on 32 bits alone", more=[(1, 8)] * narrow),
+        Row("unwrap_padded", "the number of bytes, also of what is refused", few=[1, 9] * narrow),
+        Row("unwrap_padded_refused", "as above", few=[(1, 8)] * narrow),
         Row("cmac", "the number of bytes", few=[0, 17]),
         Row("cmac_verify", "the number of bytes and the tag's length, also of what is refused", few=[(17, 16), (0, 4)]),
-        *(Row(call, "the lengths of nonce, additional data, text and tag; additional data on 32 bits alone",
-              few=[(7, 0, 1, 4)], more=[(13, 8, 33, 8)] * narrow) for call in ("ccm_seal", "ccm_open")),
+        *(Row(call, "the lengths of nonce, additional data, text and tag",
+              few=[(7, 0, 1, 4), *[(13, 8, 33, 8)] * narrow]) for call in ("ccm_seal", "ccm_open")),
         *ROUNDS]
 
 
