@@ -320,14 +320,19 @@ class KeyedGcm(Keyed):
         most = MOST - 16 * (BATCH + 2)
         return {unknown("a"), PTRDIFF_MAX - sizes[0], MOST_ADDITIONAL - sizes[0], unknown("n"), most - sizes[1]}
 
-    def any_seal(self, rest_of_additional, rest, way=""):
+    def any_seal_next(self, additional, text):
+        first, assumes = self.counted()
+        return self.any_seal(additional, text, name="gcm_seal_next", arguments=first.arguments, assumes=assumes, may_stay={"flags": 4})
+
+    def any_seal(self, rest_of_additional, rest, way="", name="gcm_seal", arguments=None, **more):
         sizes, first, text, stream, sealed = self.any_whole(rest_of_additional, rest)
+        first = first._replace(arguments=arguments or first.arguments)
 
         def steps(m):
             return ("whole", "output" if way else "text", (sealed,)) if m.phase == 0 else self.any_hash(m, m.phase - 1, sizes)
         texts = self.streams_of(way, "text", sizes[1], sizes[1], text, [self.aes.xor(text, stream), sealed], lambda m, number: [0] * 16)
         tag = Buffer("tag", self.undefined(16), lambda m: self.any_tag(m, sizes, first))
-        return self.of_any_message("gcm_seal" + way, sizes, first, stream, [*texts, tag], steps, text)
+        return self.of_any_message(name + way, sizes, first, stream, [*texts, tag], steps, text, **more)
 
     def any_open(self, rest_of_additional, rest, way=""):
         sizes, first, _, stream, sealed = self.any_whole(rest_of_additional, rest)

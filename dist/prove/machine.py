@@ -453,7 +453,7 @@ class Machine:
     def plus(self, x, y, carry, size):
         mask, top = (1 << 8 * size) - 1, 8 * size - 1
         if self.counter and self.counter.words:
-            x, y = (self.counter.words.get(tuple(v), v) if type(v) is tuple else v for v in (x, y))
+            x, y = (self.counter.words.get(tuple(map(self.domain.plain, v)), v) if type(v) is tuple else v for v in (x, y))
         if is_int(x, y):
             full = (x & mask) + (y & mask) + carry
             r = full & mask
@@ -755,7 +755,7 @@ class Machine:
 
     def without_name(self, byte):
         placed = isinstance(self.domain.opaque_of.get(byte, [0])[0], Placed)
-        return self.domain.pack(self.domain.bits_of[byte]) if placed and self.domain.bits_of[byte] else byte
+        return self.domain.plain(byte) if placed else byte
 
     def names(self, value):
         return [self.domain.opaque((value, k)) for k in range(self.size_of(value))]
