@@ -394,7 +394,8 @@ class Machine:
         if named is None:
             return list(value[:size])
         above = self.domain.undefined if isinstance(value, Number) else 0
-        if self.any_length and isinstance(value, (Pointer, Number)) and self.counter and value.base == self.counter.word:
+        counter = self.any_length and isinstance(value, (Pointer, Number)) and self.counter
+        if counter and value.base == counter.word and value.offset != counter.first - 1:  # J_0 has a number of its own
             value = Placed(value, self.first_block + self.counter.first)
         return [self.domain.opaque((value, k)) for k in range(min(named, size))] + [above] * (size - named)
 
@@ -478,8 +479,8 @@ class Machine:
                 self.fits(by) and self.implied(counter.last - r.offset))
             return r, {"c": self.wraps(old.offset, r.offset)} if known else {}
         fixed, rest = (x, y) if is_int(x) else (y, x)
-        if self.is_room(rest, fixed, size) and not carry:
-            return tuple(self.any_byte() for _ in range(size)), {"c": (WRAPS, *self.room)}
+        if not carry and (self.is_room(rest, fixed, size) or self.is_room(fixed, rest, size)):
+            return tuple(self.any_byte() for _ in range(size)), {"c": (WRAPS,)}
         try:
             bits, out = self.full_adder(self.bits(x, size), self.bits(y, size), carry)
         except Unproved:  # then nothing is kept of the sum but whether it is 0
@@ -505,7 +506,12 @@ class Machine:
 
     def is_room(self, low, last, size):
         """Whether these are the 32 bits of GCM's counter in its first block, of unknown value, and the number of the text's last block."""
-        return self.room and size == 4 and is_int(last) and (*self.to_bytes(low, size), last & 0xffffffff) == self.room
+        if not self.room or size != 4:
+            return False
+        *number, block = self.room
+        whole = self.whole(last, size)
+        return self.to_bytes(low, size) == number and is_number(last if whole is None else whole) and (
+            wrapped((last if whole is None else whole) - block, 0xffffffff) == 0)
 
     def wraps(self, block, later):
         """Whether the low half of the counter wraps around between two blocks."""
@@ -552,7 +558,7 @@ class Machine:
         if is_pointer(x) and is_number(y) and size == self.word:
             return self.offset(x, carry - 1 - y), {}
         if is_int(x) and carry and self.is_room(y, ~x, size):
-            return None, {"c": ("not", (WRAPS, *self.room))}
+            return None, {"c": ("not", (WRAPS,))}
         if is_pointer(x) or is_pointer(y):
             raise Unproved("computes with addresses")
         return self.plus(x, ~y if is_int(y) else self.bytewise("xor", self.to_bytes(y, size), [255] * size), carry, size)
@@ -702,7 +708,7 @@ class Machine:
         for region in self.regions.values():
             if isinstance(region, Window):
                 region.size, region.origin = new(region.size), new(region.origin)
-        self.counter, self.done = new(self.counter), new(self.done)
+        self.counter, self.done, self.room = new(self.counter), new(self.done), new(self.room)
         self.loops, self.replaced, self.want = {}, [*self.replaced, (name, by)], None
 
     def renumbered(self, b, new):

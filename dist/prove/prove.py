@@ -108,6 +108,11 @@ def gcm_cases(choose):
     yield "any_open", choose([(13, 33), *every, (13, 33, "_to")], [(13, 33)], (), [(13, 33, "_to")])
     for call in "any_additional", "any_verify", "any_encrypt", "any_decrypt", "any_decrypt_unverified":
         yield call, choose([(3, 46), (1, 15), (9, 23), (15, 48)], (), [(3, 46)])
+    # And under nonces of 48 k and so many bytes.
+    yield "any_begin", choose([0, 8, 12, 33, 47], (), [8])
+    for call in "any_seal", "any_open":
+        yield call, choose([(13, 33, "", 8), (0, 129, "", 33), (13, 33, "_to", 0)], ())
+    yield "any_seal_next", choose([(13, 33), (0, 129)], (), (), [(13, 33)])
     yield "seal", choose([(13, 33), (40, 20), (0, 129), *more, *LONG], [(13, 33)], more)
     yield "open", choose([(0, 0), (13, 33), (40, 129)], [(13, 33)], [(0, 0)])
     yield "seal", choose([(0, 0, (), "_to"), (13, 33, (), "_to"), (1, 129, (), "_to")], [(13, 33, (), "_to")], [(0, 0, (), "_to")])
@@ -153,7 +158,7 @@ def gcm_cases(choose):
 def siv_cases(choose):
     # Of every length, by what is left of additional data of 48 a bytes and of a text of 768 n.
     every = [(1, 1), (13, 81), (20, 145), (13, 225), (0, 450), (33, 48), (47, 767)]
-    yield "any_seal", choose([(13, 33), (0, 0), *every, (13, 33, "_to")], (), [(13, 33)], [(0, 0), (13, 33, "_to")])
+    yield "any_seal", choose([(13, 33), (0, 0), (16, 256), *every, (13, 33, "_to")], (), [(13, 33)], [(16, 256), (13, 33, "_to")])
     yield "any_open", choose([(13, 33), *every, (13, 33, "_to"), (0, 0, "_to")], (), [(13, 33, "_to")], [(13, 225)])
     yield "seal", [(13, 33), (13, 33, "_to")]
     yield "open", [(1, 1), (13, 33, "_to")]
