@@ -7,8 +7,9 @@ from collections import namedtuple
 
 from bits import LOST, Undefined, Unproved
 from linear import Linear
-from machine import (RETURN_ADDRESS, SECRET, Instruction, Machine, Memory, Register, Scaled, Table, Vector, constant, contrary, form, interleaved,
-                     is_int, joined, lanes)
+from machine import Machine
+from operands import (RETURN_ADDRESS, SECRET, Instruction, Memory, Register, Scaled, Table, Vector, constant, contrary, form, interleaved,
+                      is_int, joined, lanes)
 
 Shifted = namedtuple("Shifted", "operand how count")
 LANES = {"b": 1, "h": 2, "s": 4, "d": 8, "q": 16}

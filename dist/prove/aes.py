@@ -6,11 +6,13 @@ round keys that are arbitrary bytes. So they are proved for any round keys, and 
 import itertools
 from collections import namedtuple
 
-from bits import BLOCK, DATA, KEY, LOST, ONES, PUBLIC, Domain, Unproved, linear_bits
+from bits import BLOCK, DATA, KEY, LOST, ONES, PUBLIC, Unproved, linear_bits
 from calls import ANY, Buffer, Call, Stream, prove
+from domain import Domain
 from linear import WORD, Linear, unknown
-from machine import LAST, LEAD, Pointer, Verdict, Window
-from standards import ICV1, ICV2, Aes, number
+from operands import LAST, LEAD, Pointer, Verdict
+from regions import Window
+from standards import ICV1, ICV2, ZEROS, Aes, number
 
 # The header's enum, structs and sizes; prove.py has the compiler compare them.
 DONE, KEY_LENGTH, NO_KEY, UNEQUAL_COUNTS, KEYSTREAM_END, INVALID_COUNT, REFUSED, TAG_LENGTH, NONCE_LENGTH, TOO_LONG = range(10)
@@ -438,6 +440,91 @@ class Keyed:
         steps, wrapped, start, key = self.unwrap_string(n)
         return Call("aes_unwrap", [self.schedule(), Buffer("input", wrapped), count, Buffer("output", self.undefined(8 * n), key), n],
                     DONE, steps=steps, reveals=self.aes.xor(start, ICV1), refused=REFUSED, refused_after={"output": [0] * 8 * n}, plain=key)
+
+    # The same of every number of semiblocks. In each turn of W, semiblock i, and A before it, are bytes of one block, with the number of that
+    # before (at_link); the first semiblock is number 0, or backwards the last one. What the semiblock becomes are others, of block i. After
+    # a turn A becomes arbitrary bytes once more.
+    def semiblocks(self):
+        """A and a semiblock before a step, the patterns of semiblocks before a turn and after it, and A after each turn."""
+        a, r, made = self.block_bytes[:8], self.block_bytes[8:], self.semiblock("semiblock", True)
+        return a, r, self.pattern(r, -1), self.pattern(made), [self.semiblock("turn %d" % k) for k in range(1, 7)]
+
+    def semiblock(self, name, *of_block):
+        return self.once(name, lambda: [self.domain.fresh("%s, byte %d" % (name, i), DATA, *of_block) for i in range(8)])
+
+    def highest_first(self, number, size):
+        return [self.domain.opaque((number, k)) for k in range(size)][::-1]
+
+    def at_link(self, m, bytes_, k):
+        """Block k, and the value before it, have the number of the block before them, so that none is left of what no pass needs."""
+        return self.at_block(m, bytes_, k - 1)
+
+    def any_turns(self, wraps, count, first, last, alone=None, start=0):
+        """The steps of W, or of its inverse, which begins with A ^ [6n], from phase `start` on; before that the semiblocks are put there.
+        `first` and `last` are A before and after all. Of one semiblock, with `alone`, there is one step, without a number (6.3)."""
+        a, r, before, after, turns = self.semiblocks()
+
+        def steps(m):
+            i, n, turn, final = m.done, m.known(count), m.phase - start, 5
+            number = lambda t: m.to_bytes(t if wraps else 6 * n - t, 8)[::-1]
+            if n == 1:
+                first_a, final, done = alone, 0, lambda: last
+            else:
+                first_a, done = first, lambda: self.aes.xor(self.at_link(m, a, i + 1), number(n * turn + i + 1))
+            if turn < 0:
+                return "whole", "output", (before, after)
+            if turn > final or not m.is_below(i, n + 2) or m.is_below(i, n) is None:
+                return "nothing", (), ()
+            if i == n + (final > 0):
+                return "whole", "output", (before, after) if turn < final else (after,) if wraps else (after, [0] * 8, True)
+            if i == n:
+                added = ZEROS[:8] if wraps else number(n * turn + n)
+                return "kept", *(self.aes.xor(x, added) for x in (self.at_link(m, a, n), turns[turn] if turn < final else m.known_bytes(last)))
+            block = self.cipher_of((a if i != 0 else turns[turn - 1] if turn else m.known_bytes(first_a)) + r, "encrypt" if wraps else "decrypt")
+            return self.found_in, self.at_link(m, block, i), m.known_bytes(done()) + [self.domain.moved(b, i - m.first_block) for b in after]
+        return steps
+
+    def any_wrap(self):
+        n, (_, _, key, _, _) = unknown("n"), self.semiblocks()
+        return self.any_wrapping("aes_wrap", Stream("input", n * 8, key), n, n, ICV1, {n - 2, (1 << 54) - 1 - n})
+
+    def any_wrapping(self, name, key, given, count, first, facts, start=0, **more):
+        _, _, _, wrapped, turns = self.semiblocks()
+        output = Stream("output", count * 8, self.undefined(8), **{"after": wrapped, **more}, head=(self.undefined(8), turns[5]))
+        return Call(name, [self.schedule(), key, given, output, count + 1], DONE, facts=facts, plain=self.of_all(key.content),
+                    steps=self.any_turns(True, count, first, turns[5], first, start))
+
+    def any_unwrap(self):
+        n, last = unknown("n"), self.semiblocks()[4][5]
+        return self.any_unwrapping("aes_unwrap", last, self.aes.xor(last, ICV1), {n - 2, (1 << 54) - 1 - n})
+
+    def any_unwrapping(self, name, last, reveals, facts, *more, **refused):
+        n, (a, _, wrapped, key, _) = unknown("n"), self.semiblocks()
+        before = self.aes.xor(a, self.highest_first(n * 6, 8))
+        input_ = Stream("input", n * 8, wrapped, head=(self.pattern(before, -1), None), backwards=True)
+        output = Stream("output", n * 8, self.undefined(8), key, backwards=True)
+        return Call(name, [self.schedule(), input_, n + 1, output, n, *more], DONE, plain=self.of_all(key), facts=facts, reveals=reveals,
+                    steps=self.any_turns(False, n, a, last, before), refused=REFUSED, **refused)
+
+    def any_wrap_padded(self, rest):
+        """Of 16 k + `rest` bytes, as the code fills up two semiblocks at once; `rest` is from 1 to 16."""
+        k, (_, r, key, _, _) = unknown("k"), self.semiblocks()
+        length, n, last = k * 16 + rest, k * 2 + (rest + 7) // 8, self.pattern(r[:(rest - 1) % 8 + 1], -1) + ZEROS
+
+        def choose(m, number):
+            below = m.is_below(number, m.known(n - 1))
+            return [below if below is None else 1 - below] * 8
+        return self.any_wrapping("aes_wrap_padded", Stream("input", length, key), length, n, ICV2 + self.highest_first(length, 4),
+                                 {k, (1 << 32) - 1 - length}, 1, after=[key, last[:8]], choose=choose)
+
+    def any_unwrap_padded(self, rest):
+        """Of keys of 8 n - 8 + `rest` bytes, `rest` from 1 to 8."""
+        n, (_, _, _, key, turns) = unknown("n"), self.semiblocks()
+        length, none = n * 8 - 8 + rest, [0] * self.address
+        start = turns[5][:4] + self.highest_first(length, 4)
+        return self.any_unwrapping(
+            "aes_unwrap_padded", start, self.aes.xor(start[:4], ICV2) + key[rest:], {n - 1, (1 << 32) - 1 - length},
+            self.length_of_key(start[:3:-1] + [0] * 4), refused_after={"key_length": none})
 
     def wrap_padded(self, length):
         """Key wrap with padding (KWP, SP 800-38F, 6.3; RFC 5649) .. what is wrapped has one semiblock more than the key fills,

@@ -65,16 +65,16 @@ def linear_bits(table):
     return bits
 
 
-class Domain:
+class Forms:
+    """Cells, the forms of bits and bytes of these, and their sums."""
+
     def __init__(self):
         # Of cells, by their numbers: names, whether each block has one, and what they depend on.
         self.names, self.of_block, self.depends = [], [], []
         # Forms, ((cell, table), ..), by their numbers; the number of each; each pair once; whether a form has cells of a block.
         self.forms, self.ids, self.interned, self.has_block = [None], {}, {}, [False]
-        # Results that were computed once, by the operands (entries and shifted: in machine.py).
-        self.xors, self.ands, self.byte_xors, self.byte_ands, self.lookups, self.entries, self.shifted = ({} for _ in range(7))
+        self.xors = {}  # sums that were computed once, by their numbers
         self.bits_of, self.byte_ids = [None] * 256, {}
-        self.moves = {}
         self.placed = {}  # of counters of a call of any length: a function of a block's number and k to the bits of byte k
         self.opaque_names, self.opaque_of = {}, {}
         # Of a word of unknown value, by its name: a function from an offset and k to the bits of byte k of their sum, or None.
@@ -82,13 +82,7 @@ class Domain:
         self.of_words = {}  # cells that are bytes of a word: (a Pointer, or None for the low word of a call's counter, which byte)
         self.unknowns, self.of_unknowns = {}, {}  # cells of numbers that aren't known (linear.py): (number, which byte); those of a byte
         self.numbers = {}  # cells of numbers that are one more in each block: (which byte, all bytes, the lowest first)
-        # Names for sums (`define`): by the cells of sums, the cells that have names and the ways to write a sum (`single`); and by the cell
-        # with a name, the bits that it stands for and their cells.
-        self.by_cells, self.ways, self.definitions, self.defined_by = {}, {}, {}, {}
         self.mixed, self.mixed_ids, self.mixed_xors, self.halves = [], {}, {}, {}
-        self.products, self.product_ids, self.product_xors, self.product_ands, self.with_products = [], {}, {}, {}, set()
-        self.linear_tables, self.linear_parts, self.column_parts, self.rows, self.row_keys = {}, {}, {}, {}, []
-        self.sums, self.factor_of, self.factor_cells, self.factor_bits, self.of_forgotten = {}, {}, {}, set(), {}
         self.undefined = self.opaque(UNDEFINED)
 
     # Cells and bytes.
@@ -151,9 +145,9 @@ class Domain:
         return self.bits_of[byte]
 
     def cell_of(self, byte):
-        """(cell, block) of a byte that is a cell, perhaps with bits flipped."""
+        """(cell, block) of a byte that is a cell, perhaps with bits flipped or the byte of a number added."""
         bit = self.bits_of[byte][0]
-        (cell, _), = self.forms[bit >> 9]
+        cell, = (c for c, _ in self.forms[bit >> 9] if c not in self.unknowns)
         return cell, (bit & BLOCK) >> 1 if self.of_block[cell] else 0
 
     def symbolic(self, byte):
@@ -216,7 +210,8 @@ class Domain:
         table ^= ONES * complement
         if not table:
             return complement
-        return self.in_block(self.intern({cell: table}) << 9 | complement, block)
+        n = self.ids.get(((cell, table),)) or self.intern({cell: table})
+        return self.in_block(n << 9 | complement, block)
 
     def xor(self, x, y):
         if x < 2 or y < 2:
@@ -273,380 +268,3 @@ class Domain:
                 z = self.mixed_ids[parts] << 9 | BLOCK
             self.mixed_xors[key] = z
         return z ^ (x ^ y) & 1
-
-    # Sums of products of two bits of cells, for GHASH: a bit, and an int with a bit for each pair of bits of cells. Bits of cells have
-    # numbers. A pair is in a row of the higher one, at the lower one's place in its group of 128: the rows stand one after another, in the
-    # order in which they were first needed (`row_keys`).
-    def bit_number(self, cell, block, j):
-        return (block << 24 | cell) << 3 | j
-
-    def numbered_bit(self, number):
-        return self.bit(number >> 3 & 0xffffff, LINEAR[number & 7], number >> 27)
-
-    def split(self, x):
-        return self.products[x >> 9] if x & BLOCK == PRODUCT << 1 else (x & ~1, 0)
-
-    def add_products(self, x, y):
-        (a, p), (b, q) = self.split(x), self.split(y)
-        return self.product_bit(self.xor(a, b), p ^ q) ^ (x ^ y) & 1
-
-    def product_bit(self, linear, pairs):
-        if not pairs:
-            return linear
-        key = linear & ~1, pairs
-        if key not in self.product_ids:
-            self.product_ids[key] = len(self.products)
-            self.products.append(key)
-        return self.product_ids[key] << 9 | PRODUCT << 1 | linear & 1
-
-    def forget_products(self):
-        """Makes room, before a call: bytes with products of another one are in none of its values."""
-        for byte in self.with_products:
-            del self.byte_ids[self.bits_of[byte]]
-            self.bits_of[byte] = None
-        for known in (self.products, self.product_ids, self.with_products, self.product_xors, self.product_ands, self.shifted,
-                      self.linear_tables, self.sums):
-            known.clear()
-
-    def factors(self, pairs):
-        """The numbers of all bits of which there is a product."""
-        out, groups, rows = [], {}, pairs.to_bytes(16 * len(self.row_keys), "little")
-        for row, (a, group) in enumerate(self.row_keys):
-            columns = int.from_bytes(rows[16 * row:16 * row + 16], "little")
-            if columns:
-                out.append(a)
-                groups[group] = groups.get(group, 0) | columns
-        return out + [group << 7 | k for group, columns in groups.items() for k in range(128) if columns >> k & 1]
-
-    def name_factors(self, bytes_):
-        """Lets cells stand for these bytes as the first factor of products, up to the next call of this; the bytes of these cells. They
-        are the same cells each time, so products that were computed once are known. Such a cell is in no form: only in products."""
-        self.factor_of, out = {}, []
-        for i, byte in enumerate(bytes_):
-            if self.symbolic(byte):
-                cell = self.factor_cells.setdefault(i, len(self.names))
-                if cell == len(self.names):
-                    self.cell("factor byte %d" % i, False, 0)
-                    self.factor_bits.update(self.bit(cell, table, 0) for table in LINEAR)
-                self.definitions[cell] = [x & ~1 for x in self.bits(byte)]
-                self.depends[cell] = functools.reduce(int.__or__, map(self.depends_on, self.bits(byte)))
-                for j, x in enumerate(self.definitions[cell]):
-                    if x:
-                        self.factor_of.setdefault(x, self.bit(cell, LINEAR[j], 0))
-                byte = self.pack([self.factor_of[x & ~1] | x & 1 if x > 1 else x for x in self.bits(byte)])
-            out.append(byte)
-        return out
-
-    def linear_part(self, x):
-        """A bit as a sum of bits of cells: their numbers."""
-        out = self.linear_parts.get(x & ~1)
-        if out is None:
-            if x & BLOCK == PRODUCT << 1:
-                raise Unproved("a product of three bits")
-            out = self.linear_parts[x & ~1] = []
-            for block, n in self.parts(x):
-                for c, t in self.forms[n]:
-                    out += [self.bit_number(c, block if self.of_block[c] else 0, j) for j in linear_bits(t)]
-        return out
-
-    def linear_image(self, x, of, source):
-        """A bit of another domain that is a sum of bits of cells, as the same sum of bits of bytes: those that `of` gives for a cell."""
-        out = x & 1
-        for number in source.linear_part(x) if x > 1 else ():
-            out = self.xor(out, of(number >> 3 & 0xffffff)[number & 7])
-        return out
-
-    def columns(self, y):
-        """Of a sum of bits of cells: for each group the places of those bits in a row, as an int, and the highest number."""
-        out = self.column_parts.get(y & ~1)
-        if out is None:
-            groups, numbers = {}, self.linear_part(y)
-            for b in numbers:
-                groups[b >> 7] = groups.get(b >> 7, 0) ^ 1 << (b & 127)
-            out = self.column_parts[y & ~1] = list(groups.items()), max(numbers)
-        return out
-
-    def row(self, a, group):
-        """Where the row of bit a and of this group of 128 bits begins."""
-        if (a, group) not in self.rows:
-            self.rows[a, group] = 128 * len(self.row_keys)
-            self.row_keys.append((a, group))
-        return self.rows[a, group]
-
-    def dot(self, xs, ys):
-        """The sum of the products x and y, for sums of bits of cells."""
-        linear, pairs, rows = 0, 0, self.rows
-        for x, y in zip(xs, ys):
-            if x < 2 or y < 2 or x == y:
-                linear = self.xor(linear, self.and_(x, y))
-                continue
-            if x & 1:
-                linear = self.xor(linear, y & ~1)
-            if y & 1:
-                linear = self.xor(linear, x & ~1)
-            linear ^= x & y & 1
-            groups, highest = self.columns(y)
-            for a in self.linear_part(x):
-                if a > highest:
-                    for group, columns in groups:
-                        at = rows.get((a, group))
-                        pairs ^= columns << (self.row(a, group) if at is None else at)
-                    continue
-                for b in self.linear_part(y):
-                    if a == b:
-                        linear = self.xor(linear, self.numbered_bit(a))
-                    else:
-                        pairs ^= 1 << self.row(max(a, b), min(a, b) >> 7) + (min(a, b) & 127)
-        return self.product_bit(linear, pairs)
-
-    def bilinear_lookup(self, table, index):
-        """table[index] if the table of 16 bytes is linear: the sum of the entries at powers of two whose bit is set."""
-        index = tuple(self.factor_of.get(x & ~1, x & ~1) | x & 1 for x in index)
-        if table not in self.linear_tables:
-            self.check_linear(table)
-        entries = self.linear_tables.setdefault(table, {})
-        if index not in entries:
-            entries[index] = self.pack([self.dot(index, column) for column in zip(*(self.bits(table[1 << i]) for i in range(4)))])
-        return entries[index]
-
-    def check_linear(self, table):
-        for k in range(16):
-            total = 0
-            for i in range(4):
-                if k >> i & 1:
-                    total = self.xor_byte(total, table[1 << i])
-            if total != table[k] or any(x & 1 for x in self.bits(total)):
-                raise Unproved("a look-up in a table that is neither constant nor linear")
-
-    def and_(self, x, y):
-        if x < 2 or y < 2:
-            return (x and y) if x < 2 else (y and x)
-        if x == y:
-            return x
-        if x ^ y == 1:
-            return 0
-        if x & ~1 in self.factor_bits:
-            return self.dot([x], [y])
-        key = (x & ~BLOCK, y & ~BLOCK)
-        block = self.one_block((x, y))
-        z = self.ands.get(key)
-        if z is None:
-            cell, (t, u) = self.common(key)
-            z = self.ands[key] = self.bit(cell, t & u, 0)
-        return self.in_block(z, block)
-
-    def or_(self, x, y):
-        return self.and_(x ^ 1, y ^ 1) ^ 1
-
-    # Names for sums: the inputs of S-boxes.
-    def define(self, cell, bits):
-        """Lets a cell stand for the byte with these bits, for all blocks alike."""
-        cells = tuple(c for c, _ in self.forms[bits[0] >> 9])
-        rows = []  # of sums of bits of the byte: the form as a vector, which bits these are, and the complement
-        for j, b in enumerate(bits):
-            if b < 2 or tuple(c for c, _ in self.forms[b >> 9]) != cells:
-                raise Unproved("the bits of %s depend on different cells" % self.names[cell])
-            rows.append((self.vector(self.forms[b >> 9]), 1 << j, b & 1))
-        echelon = []  # by Gaussian elimination, the lowest set bit being the pivot
-        for v, mask, complement in rows:
-            for p, w, m, c in echelon:
-                if v & p:
-                    v, mask, complement = v ^ w, mask ^ m, complement ^ c
-            if not v:
-                raise Unproved("the bits of %s are not independent" % self.names[cell])
-            echelon.append((v & -v, v, mask, complement))
-        self.by_cells.setdefault(cells, []).append((cell, echelon))
-        self.definitions[cell], self.defined_by[cell] = bits, cells
-        self.ways.pop(cells, None)
-
-    def vector(self, form):
-        return sum(t << 256 * i for i, (_, t) in enumerate(form))
-
-    def named(self, form, cells):
-        """If a form is a sum of bits of a byte with a name: [(cell, table)]."""
-        out, v0 = [], None
-        for cell, echelon in self.by_cells.get(cells, ()):
-            v = v0 = self.vector(form) if v0 is None else v0
-            table, complement = 0, 0
-            for p, w, m, c in echelon:
-                if v & p:
-                    v, complement = v ^ w, complement ^ c
-                    for j in range(8):
-                        if m >> j & 1:
-                            table ^= LINEAR[j]
-            if not v:
-                out.append((cell, table ^ ONES * complement))
-        return out
-
-    def single(self, n):
-        """The ways to write form n as a function of one cell, {cell: table}: as it is, by a name, or as a function of a named cell plus a
-        sum that has the same name."""
-        form = self.forms[n]
-        cells = tuple(c for c, _ in form)
-        known = self.ways.setdefault(cells, {})
-        ways = known.get(n)
-        if ways is None:
-            ways = dict(self.named(form, cells))
-            if len(form) == 1:
-                ways[cells[0]] = form[0][1]
-            for k, (c, t) in enumerate(form):
-                rest = cells[:k] + cells[k + 1:]
-                if self.defined_by.get(c) == rest:
-                    ways.update((cell, t ^ table) for cell, table in self.named(form[:k] + form[k + 1:], rest) if cell == c)
-            known[n] = ways
-        return ways
-
-    def common(self, bits):
-        """The cell of which all these bits are functions, and their truth tables."""
-        variable = [b for b in bits if b > 1]
-        ways = [self.single(b >> 9) for b in variable]
-        cells = set(ways[0]).intersection(*ways[1:])
-        if not cells:
-            raise Unproved(lambda: "a product of bits that are not functions of one byte: "
-                           + "; ".join(self.describe(self.pack([b] + [0] * 7)) for b in variable))
-        cell, ways = max(cells), iter(ways)
-        return cell, [next(ways)[cell] ^ ONES * (b & 1) if b > 1 else ONES * b for b in bits]
-
-    # Bytes.
-    def xor_byte(self, a, b):
-        if a < 256 and b < 256 or not a or not b:
-            return a ^ b
-        key = (a, b)
-        known = self.product_xors if a in self.with_products or b in self.with_products else self.byte_xors
-        c = known.get(key)
-        if c is None:
-            xor = self.xor
-            c = known[key] = self.pack([xor(x, y) for x, y in zip(self.bits(a), self.bits(b))])
-        return c
-
-    def and_byte(self, a, b):
-        if a < 256 and b < 256 or not a or not b:
-            return a & b
-        if 255 in (a, b):
-            return b if a == 255 else a
-        key = self.with_factors(a, b) if self.factor_of else (a, b)
-        known = self.byte_ands if key == (a, b) else self.product_ands
-        c = known.get(key)
-        if c is None:
-            and_ = self.and_
-            c = known[key] = self.pack([and_(x, y) for x, y in zip(*map(self.bits, key))])
-        return c
-
-    def with_factors(self, a, b):
-        """Two bytes, with factors in the place of the bits of one of them, if they stand for all of these (name_factors). That one comes
-        first. (No bit of the other is 1, so a factor comes into products alone.)"""
-        for x, y in ((a, b), (b, a)) if a > 255 and b > 255 else ():
-            if 1 not in self.bits(y) and all(bit & ~1 in self.factor_of for bit in self.bits(x)):
-                return self.pack([self.factor_of[bit & ~1] | bit & 1 for bit in self.bits(x)]), y
-        return a, b
-
-    def or_byte(self, a, b):
-        if not a or not b:
-            return a | b
-        return self.xor_byte(self.and_byte(self.xor_byte(a, 255), self.xor_byte(b, 255)), 255)
-
-    def lookup(self, table, index):
-        """table[index] for a constant table (a tuple of 2^k bytes) and the k bits of an index."""
-        block = self.one_block(index)
-        key = (table, tuple(b & ~BLOCK if b > 1 else b for b in index))
-        c = self.lookups.get(key)
-        if c is None:
-            c = self.lookups[key] = self.affine(*key)
-        if c is None:
-            cell, tables = self.common(key[1])
-            c = self.lookups[key] = self.byte_of_cell(cell, 0, composed(table, tuple(tables)))
-        return self.byte_in_block(c, block)
-
-    def affine(self, table, index):
-        """The same, if the table is an affine map of those bits of the index that vary: then no cell is needed."""
-        constant = sum(b << i for i, b in enumerate(index) if b < 2)
-        variable = [i for i, b in enumerate(index) if b > 1]
-        columns = [table[constant | 1 << i] ^ table[constant] for i in variable]
-        for s in range(1 << len(variable)):
-            at, value = constant, table[constant]
-            for k, i in enumerate(variable):
-                if s >> k & 1:
-                    at, value = at | 1 << i, value ^ columns[k]
-            if table[at] != value:
-                return None
-        bits = list(self.bits(table[constant]))
-        for i, column in zip(variable, columns):
-            bits = [self.xor(b, index[i]) if column >> j & 1 else b for j, b in enumerate(bits)]
-        return self.pack(bits)
-
-    def byte_in_block(self, byte, block):
-        if not 0 <= block < PRODUCT:
-            raise Unproved("a block whose number is too large")
-        if not self.symbolic(byte):
-            return byte
-        if not block and any(self.has_block[b >> 9] for b in self.bits_of[byte] if b > 1):
-            raise Unproved("a block before the first one")  # 0 means cells of keys alone
-        return self.pack([self.in_block(b, block) for b in self.bits_of[byte]])
-
-    def moved(self, byte, by):
-        """The same function of the cells of other blocks, whose numbers are so much higher."""
-        if not by or not self.symbolic(byte):
-            return byte
-        if (byte, by) not in self.moves:
-            bits = []
-            for x in self.bits_of[byte]:
-                y = x & 1
-                if x & BLOCK == PRODUCT << 1:
-                    raise Unproved("a product, of other blocks")
-                parts = self.parts(x) if x & BLOCK == BLOCK else [((x & BLOCK) >> 1, x >> 9)]
-                for block, n in parts:
-                    if block and not 0 < block + by < PRODUCT:
-                        raise Unproved("a block whose number is too high or too low")
-                    y = self.xor(y, n << 9 | (block + by if block else 0) << 1) if n else y
-                bits.append(y)
-            self.moves[byte, by] = byte if tuple(bits) == self.bits_of[byte] else self.pack(bits)
-        return self.moves[byte, by]
-
-    def unknown_cells(self, byte):
-        """Those of a byte that are bytes of numbers that aren't known."""
-        if byte not in self.of_unknowns:
-            simple = self.symbolic(byte) and byte not in self.with_products
-            self.of_unknowns[byte] = self.cells(byte) & self.unknowns.keys() if simple else ()
-        return self.of_unknowns[byte]
-
-    def put_in(self, byte, others):
-        """The same function of other bytes, {a cell: a byte}."""
-        bits = []
-        for x in self.bits(byte):
-            y = x & 1
-            for block, n in self.parts(x):
-                for c, t in self.forms[n]:
-                    y = self.xor(y, self.image(t, others[c]) if c in others else self.bit(c, t, block))
-            bits.append(y)
-        return self.pack(bits)
-
-    def image(self, table, byte):
-        """A function of a cell, of another byte."""
-        if byte < 256:
-            return table >> byte & 1
-        return functools.reduce(self.xor, (self.bits(byte)[j] for j in linear_bits(table)), 0)
-
-    def substitute(self, byte, table, name):
-        """table[byte] for a table of 256 bytes; gives the byte a name if it has none."""
-        if byte < 256:
-            return table[byte]
-        try:
-            return self.lookup(table, self.bits(byte))
-        except Unproved:
-            self.name(byte, name)
-            return self.lookup(table, self.bits(byte))
-
-    def name(self, byte, name):
-        """The cell that stands for this byte: made if there is none."""
-        self.one_block(self.bits(byte))  # so that without the block each is a form
-        bits = tuple(b & ~BLOCK for b in self.bits(byte))
-        try:
-            cell, tables = self.common(bits)
-            if tables == LINEAR:
-                return cell
-        except Unproved:
-            pass
-        depends = functools.reduce(int.__or__, map(self.depends_on, bits))
-        cell = self.cell(name, any(self.has_block[b >> 9] for b in bits if b > 1), depends)
-        self.define(cell, bits)
-        return cell

@@ -8,8 +8,9 @@ import functools
 import lengths
 from bits import DATA, KEY, LOST, ONES, Pause, Unproved
 from linear import refuted
-from machine import LAST, LEAD, WRAPS, Content, Pointer, Question, Region, Verdict, Window
 from native import Native
+from operands import HEAD, LAST, LEAD, WRAPS, Content, Pointer, Question, Verdict
+from regions import Region, Window
 
 STACK = 16384  # FOTSGURE_AES_STACK and FOTSGURE_GCM_STACK
 KINDS = "key", "inner", "plain", "step", "keystream", "result", "data"  # of what is left; see `tells`
@@ -22,6 +23,8 @@ ANY = "any"    # for a Buffer of which something else is asked than bytes
 class Buffer:
     """An argument that points to bytes: what they are, and what they have to be after the call."""
 
+    head = None
+
     def __init__(self, name, content, after=None, secret=False, align=1):
         """`secret`: what it holds after the call is as secret as the key. `align`: of the struct that it is."""
         self.name, self.content, self.after, self.secret, self.align = name, content, after, secret, align
@@ -32,19 +35,20 @@ class Buffer:
 
 class Stream(Buffer):
     """A buffer of a length that isn't known: a number of bytes, and what the block with number LEAD is, and has to be after the call. That
-    is one of several, where `choose` says of a machine and a block's number in the buffer, byte by byte, which one (None: not known)."""
+    is one of several, where `choose` says of a machine and a block's number in the buffer, byte by byte, which one (None: not known).
+    In front of it there may be a `head`, what that is, and has to be; and the blocks may be taken `backwards` (machine.Window)."""
 
-    def __init__(self, name, size, content, after=None, choose=None):
+    def __init__(self, name, size, content, after=None, choose=None, head=None, backwards=False):
         super().__init__(name, content, after)
-        self.size, self.choose = size, choose
+        self.size, self.choose, self.backwards = size, choose, backwards
+        self.head = Buffer(name + HEAD, *head) if head else None
         self.patterns = after if choose else [after or []]
 
     def region(self, machine):
-        return Window(self.size, self.content, self.after and self.want)
+        head = len(self.head.content) if self.head else 0
+        return Window(self.size, self.content, self.want if self.choose else self.after, head, self.backwards)
 
     def want(self, m, number):
-        if not self.choose:
-            return self.after
         return [None if k is None else self.after[k][i] for i, k in enumerate(self.choose(m, number))]
 
 
@@ -67,7 +71,7 @@ class Call:
         self.assumes, self.later, self.counter = assumes, later, counter
         self.keystream, self.plain, self.may_stay, self.room, self.paths = keystream, plain, may_stay or {}, room, paths
         self.facts, self.undone, self.between, self.named = frozenset(facts), undone, between, {}
-        self.buffers = [a for a in arguments if isinstance(a, Buffer)]
+        self.buffers = [b for a in arguments if isinstance(a, Buffer) for b in (a, a.head) if b]
         self.any_length = any(isinstance(b, Stream) for b in self.buffers)
 
 
@@ -225,7 +229,7 @@ def step_by_step(steps):
     (or a function that makes that), and other bytes, which are arbitrary. When the result is there, these bytes take its place everywhere,
     so what is proved from there on holds for any. "hash" is looked for in vector registers, or as two words in either order of bytes;
     products of bits are then forgotten: what still depends on them is lost, and may not even be left. "vector" is looked for in vector
-    registers, "memory" where something was written, "block" in all these places; another name is that of a region. In a call of any length
+    registers, "memory" where something was written, "block" in all these places, "kept" in memory outside of Streams; another name is that of a region. In a call of any length
     `steps` is a function of the machine. Then "here" says that there is a result; "again" begins another phase, in which blocks have new
     numbers, and so does "whole", as soon as all of a buffer is done, and "refused", when the call will return that; and "nothing" says that what comes next isn't known."""
     steps = steps if callable(steps) else list(steps)
@@ -239,9 +243,7 @@ def step_by_step(steps):
             m.want = where, want() if callable(want) else want, new
         where, want, new = m.want
         if where == "again" or where == "whole" and m.regions[want].is_done(m) or where == "refused" and m.was_refused():
-            if where != "again":
-                m.regions[want].begin_again(*new)
-            m.begin_again()
+            m.begin_again(*((want, *new) if where != "again" else ()))
             m.want = None
         if where in ("again", "whole", "refused", "nothing"):
             return
@@ -251,9 +253,9 @@ def step_by_step(steps):
                 if x > 255:
                     if replaced.setdefault(x, y) != y:
                         raise Unproved("a byte of a result comes twice")
-                    if m.domain.symbolic(y):
+                    if not m.is_public([y]):
                         cell, block = m.domain.cell_of(y)
-                        m.origins[cell, block] = (on or depends(m, x)) | m.domain.depends[cell]
+                        m.origins[cell, block] = ((on or depends(m, x)) | m.domain.depends[cell]) & (KEY | DATA)
             if where == "hash":
                 lost = m.domain.opaque(LOST)
                 m.lost.add(lost)
@@ -267,6 +269,9 @@ def found(m, where, want):
     if where in m.regions:
         content = m.regions[where].content
         return content[-1] == want[-1] and content == want
+    if where == "kept":
+        return any(want[0] in r.content and any(r.content[k:k + len(want)] == want for k in range(len(r.content)))
+                   for r in m.regions.values() if not isinstance(r, Window))
     if where in ("memory", "block") and was_written(m, want):
         return True
     return where != "memory" and any(v[0] == want[0] and v[:16] == want for v in m.vectors) or where in ("hash", "block") and in_words(m, want)
@@ -281,8 +286,8 @@ def was_written(m, want):
 
 def in_words(m, want):
     """Whether two general registers have the halves of a block."""
-    words = {v for v in m.general.values() if type(v) is tuple}
-    return {tuple(want[:8]), tuple(want[8:])} <= words or {tuple(want[7::-1]), tuple(want[:7:-1])} <= words
+    words = {v for v in m.general.values() if type(v) is tuple and v[0] in (want[0], want[7], want[8], want[15])}
+    return words and ({tuple(want[:8]), tuple(want[8:])} <= words or {tuple(want[7::-1]), tuple(want[:7:-1])} <= words)
 
 
 # What is left.
@@ -358,11 +363,10 @@ def left(m, call):
                for b in m.wrote.get(a.name, ())]
     places += [("registers", r, b) for r, v in m.general.items() for b in m.to_bytes(v, 8)]
     places += [("registers", "vector %d" % n, b) for n, v in enumerate(m.vectors) for b in v]
-    out = {}
+    out, kinds = {}, {b: tells(m, b, known, plain) for b in {b for _, _, b in places}}
+    if call.any_length and any(max(m.domain.blocks(b), default=0) >= LAST for b in kinds):
+        raise Unproved("leaves a block with a number that isn't known")
     for place, where, b in places:
-        if call.any_length and max(m.domain.blocks(b), default=0) >= LAST:
-            raise Unproved("leaves a block with a number that isn't known")
-        k = tells(m, b, known, plain)
-        if k:
-            out.setdefault((place, k), []).append(where)
+        if kinds[b]:
+            out.setdefault((place, kinds[b]), []).append(where)
     return out

@@ -10,12 +10,14 @@ import sys
 
 import uncovered
 from bits import Unproved
+from cases import LIBRARIES, statements
 from faults import FAULTS, UNREACHED
+from linking import BUILDS, assembled, source
 from long_faults import LONG_FAULTS
 from native import NEVER_ALONE, compare_all
 from processors import MEANINGS, PROCESSORS
-from linking import BUILDS, assembled, source
-from prove import LIBRARIES, options_of, pool_of, statements
+from prove import options_of
+from tasks import pool_of
 
 
 def verdict(what, prove, reason=""):

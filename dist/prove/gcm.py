@@ -10,7 +10,7 @@ from aes import BATCH, DONE, NEVER, PTRDIFF_MAX, STRUCT as AES_STRUCT, CounterWo
 from bits import DATA, KEY, PUBLIC
 from calls import ANY, Buffer, Call, Stream
 from linear import WORD, unknown
-from machine import Content, Pointer
+from operands import Content, Pointer
 from standards import ZEROS, number, padded, product
 
 STATUSES = ("DONE KEY_LENGTH NO_KEY NONCE_LENGTH TAG_LENGTH TOO_LONG REFUSED NONCES_END OUT_OF_TURN NO_RANDOMNESS UNEQUAL_LENGTHS").split()
@@ -377,7 +377,7 @@ class KeyedGcm(Keyed):
         texts = [*self.streams_of(way, "text", sizes[1], sizes[1], sealed, text), Buffer("tag", tag), 16]
 
         def steps(m, phase):
-            return ("refused", "output", (sealed, ZEROS)) if way and phase == 2 else self.any_hash(m, phase, sizes)
+            return ("refused", "output", (sealed, ZEROS, True)) if way and phase == 2 else self.any_hash(m, phase, sizes)
         return self.of_any_message("gcm_open" + way, sizes, nonce, stream, texts, steps, text,
                                    reveals=lambda m: self.aes.xor(tag, self.any_tag(m, sizes, nonce)), refused=REFUSED)
 

@@ -9,7 +9,9 @@ from collections import namedtuple
 
 from bits import LOST, Unproved
 from linear import is_number, refuted, replaced, terms, unknown, wrapped
-from machine import WRAPPED, Number, Pointer, Window, is_int, is_pointer, lanes
+from operands import FARTHEST, Number, Pointer, is_int, is_pointer, lanes
+from regions import Window
+from unknowns import WRAPPED
 
 # The last time at the head of a loop: how many comparisons were decided before it; the state after the first pass, with what was decided
 # in that; and the general state (see General).
@@ -143,38 +145,53 @@ def moved_on(m, blocks):
 
 def in_a_pass(first, second):
     """How many blocks a pass takes; where no address says it, as many as steps were found."""
-    ends = [(w.origin, second.regions[name].origin) for name, w in first.regions.items() if isinstance(w, Window) and w.writable]
-    places = [(v.offset, second.general[r].offset) for r, v in first.general.items() if is_pointer(v, second.general[r])
-              and v.base == second.general[r].base and isinstance(first.regions.get(v.base), Window)]
-    for pairs in ends, places:
-        steps = [by for by in (wrapped(b - a, first.most) for a, b in pairs) if is_int(by) and by > 0 and by % 16 == 0]
+    ends = [(w.origin, second.regions[name].origin, w.unit) for name, w in first.regions.items() if isinstance(w, Window) and w.writable]
+    places = [(v.offset, second.general[r].offset, first.regions[v.base].unit) for r, v in first.general.items()
+              if is_pointer(v, second.general[r]) and v.base == second.general[r].base and isinstance(first.regions.get(v.base), Window)]
+    for some in ends, places:
+        steps = [by // unit for by, unit in ((wrapped(b - a, first.most), unit) for a, b, unit in some) if is_int(by) and by > 0 and by % unit == 0]
         if steps:
-            return max(steps) // 16
+            return max(steps)
     by = second.done - first.done
     return by if is_int(by) else 0
 
 
 def generally(a, b, passes, most):
-    """What is a after the first pass and b after the second, after any number of passes; None if that can't be said. `most` is the highest
-    word."""
+    """What is a after the first pass and b after the second, after any number of passes; None if that can't be said: a number that moves
+    farther isn't one that counts. `most` is the highest word."""
     if a == b:
         return a
     if is_number(a, b):
         by = wrapped(b - a, most)
-        return wrapped(a + passes * by, most) if is_int(by) else None
+        return wrapped(a + passes * by, most) if is_int(by) and abs(by) <= FARTHEST else None
     if type(a) is type(b) and isinstance(a, (Pointer, Number)) and a.base == b.base:
         offset = generally(a.offset, b.offset, passes, most)
         return None if offset is None else a._replace(offset=offset)
     return None
 
 
-def general_bytes(m, a, b, passes):
-    """The same of bytes, in words."""
-    out = []
+def general_bytes(m, a, b, passes, numbers=()):
+    """The same of bytes, in words. `numbers` are those of registers after both passes. (In a word that isn't alike bytes may be alike by
+    chance: what is of blocks, or of numbers that aren't known.)"""
+    d, out = m.domain, []
     for x, y in zip(lanes(a, m.word), lanes(b, m.word)):
-        v = generally(m.from_bytes(x), m.from_bytes(y), passes, m.most) if x != y and len(x) == m.word else None
-        out += m.names(v) if is_pointer(v) else m.to_bytes(v, m.word) if v is not None else [p if p == q else m.any_byte() for p, q in zip(x, y)]
+        v = None
+        if x != y and len(x) == m.word:
+            v = generally(m.from_bytes(x), m.from_bytes(y), passes, m.most)
+            v = with_number(m, x, y, passes, numbers) if v is None else v
+        out += x if x == y else m.names(v) if is_pointer(v) else m.to_bytes(v, m.word) if v is not None else [
+            p if p == q and not d.unknown_cells(p) and not d.blocks(p) else m.any_byte() for p, q in zip(x, y)]
     return out
+
+
+def with_number(m, x, y, passes, numbers):
+    """The same of a word to which a number was added bit by bit, its highest byte first."""
+    added = lambda word, number: m.bytewise("xor", word, m.to_bytes(number, m.word)[::-1])
+    for a, b in numbers if all(map(m.domain.symbolic, x + y)) else ():
+        rest = added(x, a)
+        if rest == added(y, b) and not any(map(m.domain.unknown_cells, rest)):
+            return tuple(added(rest, generally(a, b, passes, m.most)))
+    return None
 
 
 numbers = itertools.count()
@@ -191,15 +208,15 @@ def general_state(known, key, visit, now, wrong=frozenset()):
     g.done = generally(first.done, second.done, passes, g.most)
     for r, v in first.general.items():
         general = generally(v, second.general[r], passes, g.most)
-        if general is None:
-            general = g.from_bytes(general_bytes(g, g.to_bytes(v, g.word), g.to_bytes(second.general[r], g.word), passes))
-        g.general[r] = general
+        g.general[r] = tuple(g.any_byte() for _ in range(g.word)) if general is None else general
     g.vectors = [general_bytes(g, v, w, passes) for v, w in zip(first.vectors, second.vectors)]
+    changed = [(v, w) for r, v in first.general.items() if is_number(v, w := second.general[r]) and is_int(w - v) and v != w]
     for name_, region in g.regions.items():
         other = second.regions[name_]
         if len(region.content) != len(other.content):
             raise Unproved("two passes of a loop don't access the same of %s" % name_)
-        region.content = general_bytes(g, region.content, other.content, passes)
+        begin = min(first.accessed_from(name_), second.accessed_from(name_))
+        region.content[begin:] = general_bytes(g, region.content[begin:], other.content[begin:], passes, changed)
         if isinstance(region, Window):
             region.origin = generally(region.origin, other.origin, passes, g.most)
             if region.origin is None:
@@ -238,12 +255,13 @@ def is_instance(m, general, passes):
     want.replace_unknown(general.name, passes)
 
     def same(a, b):
-        return len(a) == len(b) and all(x in (any_, y) for x, y in zip(a, b))
+        return len(a) == len(b) and (a == b or all(x == y or x == any_ for x, y in zip(a, b)))
     wrong = [r for r, v in want.general.items() if not same(want.to_bytes(v, m.word), m.to_bytes(m.general[r], m.word))]
     wrong += ["vector register %d" % n for n, (v, w) in enumerate(zip(want.vectors, m.vectors)) if not same(v, w)]
-    window = lambda r: [r.size, r.origin, r.initial, r.writable] if isinstance(r, Window) else []
+    window = lambda r: [r.size, r.end, r.origin, r.initial, r.writable] if isinstance(r, Window) else []
     pairs = [(name, r, m.regions[name]) for name, r in want.regions.items()]
-    wrong += [name for name, r, s in pairs if not same(r.content, s.content) or window(r) != window(s)]
+    of = lambda region, name: region.content[want.accessed_from(name):]
+    wrong += [name for name, r, s in pairs if not same(of(r, name), of(s, name)) or window(r) != window(s)]
     alike = "first_block", "domain", "entered", "top", "done", "phase", "next_address", "counter"
     wrong += [what for what in alike if getattr(want, what) != getattr(m, what)]
     wrong += ["a fact"] * (not all(m.implied(f) for f in want.facts)) + ["a flag"] * any(f is not None for f in want.flags.values())

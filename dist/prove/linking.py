@@ -7,9 +7,12 @@ import re
 import subprocess
 
 from aarch64 import Aarch64
-from bits import Domain, Unproved
+from bits import Unproved
+from domain import Domain
 from elf import DEFAULT, GLOBAL, GROUP, HIDDEN, LOCAL, SYMBOLS, UNDEFINED, Comparison, Elf
-from machine import LIBC, Pointer, Program, Region
+from operands import Pointer
+from program import LIBC, Program
+from regions import Region
 from riscv import Riscv, Riscv32, Riscv64
 from x86_64 import X86_64, Windows
 

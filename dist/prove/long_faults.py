@@ -1,6 +1,6 @@
 """Faults that show at long lengths only: a statement of every length refuses each, and calls of some lengths up to 64 blocks are proved.
 As in faults.py: (what, behind which label, what is looked for there, what it becomes, the case that has to refuse it)."""
-from faults import (BATCHES, BLOCKS, BLOCKS_TO, BLOCKS_WITH, CBC, CCM_OPEN, CCM_STREAM, ENTRY, IN_BATCHES, MEMSET, SIV_OPEN, WIPE_STACK,
+from faults import (BATCHES, BLOCKS, BLOCKS_TO, BLOCKS_WITH, CBC, CCM_OPEN, CCM_STREAM, ENTRY, GCTR, IN_BATCHES, MEMSET, SIV_OPEN, WIPE_STACK,
                     WIPE_WORDS, call, exported, function, low, second)
 
 ENCRYPT, DECRYPT = (function("aes_hybrid::closures::call_to_" + name) for name in ("encrypt", "decrypt"))
@@ -138,6 +138,8 @@ LONG_FAULTS = {
         ("a count of 32 bits of a piece that is decrypted", exported("gcm_decrypt_unverified"), r"addq\t%(r\w+), 8\((%r\w+)\)",
          lambda found: "addl\t%%%s, 8(%s)" % (low(found[1]), found[2]), "any_decrypt_unverified 3 46"),
         ("three blocks left out of the hash of a nonce after 2^16", HASH_ON, THREES, LEFT_OUT, "any_begin 8"),
+        ("a wrap of the counter that isn't seen beyond 2^20 blocks", GCTR, r"\tshrq\t\$4, %(r\w+)\n",
+         lambda found: found[0] + "\tandl\t$1048575, %%%s\n" % low(found[1]), "any_seal 13 33 8"),
         ("a nonce's length in 32 bits", function("gcm::mode::BorrowedGcm::put_pre_counter"), r"\tmovq\t%(r\w+), (%xmm\d+)\n",
          lambda found: "\tmovd\t%%%s, %s\n" % (low(found[1]), found[2]), "any_begin 8"),
     ],
@@ -152,7 +154,7 @@ LONG_FAULTS = {
         ("additional data of 2^36 bytes refused", exported("gcm_siv_seal"), r"\tseta\t", r"\tsetae\t", "any_seal 16 256"),
         ("a text of 2^36 bytes refused", exported("gcm_siv_seal"), r"(\tseta\t[\s\S]*?)\tseta\t", r"\1\tsetae\t", "any_seal 16 256"),
         ("a refused text of more than 2^20 bytes not encrypted again", second(SIV_OPEN), SIV_AGAIN, r"\1\tcmpq\t$1048576, \4\n\tja\t\3\n",
-         "any_open 13 33 _to"),
+         "any_open 13 225"),
         ("zeros in 2^20 bytes of a refused output at most", exported("gcm_siv_open_to"), *FEWER_ZEROS, "any_open 13 33 _to"),
     ],
 }

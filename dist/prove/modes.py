@@ -8,7 +8,7 @@ from aes import BATCH, DONE, NEVER, NO_KEY, NONCE_LENGTH, PTRDIFF_MAX, REFUSED, 
 from bits import DATA, KEY, PUBLIC
 from calls import Buffer, Call, Stream
 from linear import unknown
-from machine import Pointer
+from operands import Pointer
 from single_rounds import SingleRounds
 from standards import ZEROS, doubled, number, padded
 
@@ -72,10 +72,6 @@ class KeyedAes(SingleRounds, Keyed):
                     steps=steps, reveals=self.aes.xor(tag, right), refused=REFUSED, plain=message)
 
     # The same of 16 n + `rest` bytes for every n, where the last block has from 1 to 16 bytes.
-    def at_link(self, m, bytes_, k):
-        """Block k, and the value before it, have the number of the block before them, so that none is left of what no pass needs."""
-        return self.at_block(m, bytes_, k - 1)
-
     def any_link(self, m, k, first, block=None, after=None):
         """The step from block k to the next one: before block 0 there is `first`. The last block and what comes after it may be others."""
         block = block or self.block_bytes
@@ -238,7 +234,7 @@ class KeyedAes(SingleRounds, Keyed):
 
         def steps(m):
             if m.phase == 0:
-                return "whole", "text", (text, undone)
+                return "whole", "text", (text, undone, True)
             return chain(m) if m.phase == 1 else ("nothing", (), ())
         return Call("aes_ccm_open", [*arguments, Stream("text", size, sealed, opened), size, Buffer("tag", tag), len(tag)], DONE,
                     steps=steps, reveals=self.aes.xor(tag, right), refused=REFUSED, plain=self.of_all(text + opened),

@@ -4,9 +4,11 @@ and data. And each form of an instruction runs by itself, with random values, so
 so the meanings that x86_64.py and aarch64.py give to instructions are those of a processor."""
 import random
 
-from bits import DATA, Domain, Unproved
-from machine import RETURN_ADDRESS, Memory, Pointer, Region, Register, is_int, joined
+from bits import DATA, Unproved
+from domain import Domain
+from operands import RETURN_ADDRESS, Memory, Pointer, Register, is_int, joined
 from processors import PROCESSORS
+from regions import Region
 from values import Values
 
 

@@ -8,8 +8,9 @@ import re
 
 from bits import Unproved
 from linear import Linear, is_number, unknown
-from machine import (RETURN_ADDRESS, SECRET, Distance, Instruction, Machine, Memory, Register, Table, Verdict, constant, contrary, form, is_int,
-                     is_pointer)
+from machine import Machine
+from operands import (RETURN_ADDRESS, SECRET, Distance, Instruction, Memory, Register, Table, Verdict, constant, contrary, form, is_int,
+                      is_pointer)
 
 S, A = ["s%d" % n for n in range(12)], ["a%d" % n for n in range(8)]
 NAMES = "zero ra sp gp tp t0 t1 t2".split() + S[:2] + A + S[2:] + "t3 t4 t5 t6".split()  # in the order of their numbers
@@ -65,7 +66,7 @@ class Riscv(Machine):
 
     def get(self, o):
         v = super().get(o)
-        return v & self.most if is_int(v) else v
+        return v & self.most if isinstance(v, int) else v
 
     def put(self, o, v):
         if o.name != "zero":

@@ -9,7 +9,7 @@ from bits import DATA, KEY
 from calls import Buffer, Call, Stream, compare
 from gcm import DONE, NO_KEY, REFUSED, TOO_LONG, UNEQUAL_LENGTHS, Hashing, KeyedGcm, threes
 from linear import WORD, unknown
-from machine import Number
+from operands import Number
 from standards import ZEROS, dot, mulx_ghash, padded, product
 
 STRUCTS = {"fotsgure_gcm_siv": (484, {"key_length": 0, "round_keys": 4})}
@@ -181,11 +181,11 @@ class KeyedSiv(KeyedGcm):
         right = lambda m, sizes: self.tagged(self.any_sum(m, sizes))
 
         def first(m, sizes):
-            return [*self.derivation(self.at_once(m, sizes) == 1), self.first_counter(tag), ("whole", place, (plain, undone))]
+            return [*self.derivation(self.at_once(m, sizes) == 1), self.first_counter(tag), ("whole", place, (plain, undone, True))]
 
         def last(m, sizes):
             steps = [("memory", *right(m, sizes)[:2]), self.first_counter(tag)]
-            return steps + [("whole", place, (sealed, ZEROS))] if way else steps
+            return steps + [("whole", place, (sealed, ZEROS, True))] if way else steps
         opened = self.aes.xor(sealed, self.pattern(self.own_stream))
         return self.any_message("open" + way, additional, text, sealed, opened, first, last, Buffer("tag", tag), refused=REFUSED, undone=True,
                                 plain=plain + opened, between=self.of_all(undone), reveals=lambda m, sizes: self.aes.xor(tag, right(m, sizes)[2]))

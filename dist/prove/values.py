@@ -1,7 +1,7 @@
 """One value for each cell, and so for each bit and byte: random ones for a run beside the processor, those of the standards' vectors for
 the statements."""
 from bits import BLOCK, LINEAR, PRODUCT
-from machine import WORD, Distance, Number, Pointer, Verdict
+from operands import WORD, Distance, Number, Pointer, Verdict
 
 
 class Values:

@@ -2,7 +2,8 @@
 standards.py are those of the standards."""
 import random
 
-from bits import Domain, Unproved
+from bits import Unproved
+from domain import Domain
 from standards import Aes, product
 from values import Values
 

@@ -3,8 +3,9 @@ IA-32 Architectures Software Developer's Manual, volume 2). What both machines s
 import re
 
 from bits import Unproved
-from machine import (RETURN_ADDRESS, SECRET, WORD, Instruction, Machine, Memory, Register, Scaled, Table, Vector, constant, contrary,
-                     form, interleaved, is_int, joined, lanes)
+from machine import Machine
+from operands import (RETURN_ADDRESS, SECRET, WORD, Instruction, Memory, Register, Scaled, Table, Vector, constant, contrary, form,
+                      interleaved, is_int, joined, lanes)
 
 R64 = "rax rcx rdx rbx rsp rbp rsi rdi r8 r9 r10 r11 r12 r13 r14 r15".split()
 REGS = {c + "h": Register("r%sx" % c, 1, 1) for c in "abcd"}
@@ -47,7 +48,7 @@ class X86_64(Machine):
 
     def condition(self, code):
         flags = [self.flags[f] for f in CONDITIONS[code] if f in "czso"]
-        holds = self.at_most(*flags) if flags[1:] else self.decide(*flags)
+        holds = (self.decide if len(flags) == 1 else self.at_most)(*flags)
         return int(holds != CONDITIONS[code].startswith("!"))
 
 

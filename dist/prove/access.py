@@ -1,0 +1,127 @@
+"""Operands and memory: which accesses are allowed, and what they read and write."""
+from bits import Pause, Unproved
+from linear import Linear, is_number
+from operands import HEAD, Memory, Number, Pointer, Register, Vector, is_int, is_pointer
+from regions import Window
+
+PAGE = 4096  # the smallest page of memory
+
+
+class Access:
+    def get(self, o):
+        if isinstance(o, Register):
+            v = self.general[o.name]
+            return v if o.size == self.word else self.from_bytes(self.to_bytes(v, self.word)[o.at:o.at + o.size])
+        return o if isinstance(o, int) else self.from_bytes(self.load(self.address(o), o.size, o.align))
+
+    def put(self, o, v):
+        """A write of 4 bytes clears the rest of the register, one of 1 or 2 leaves it."""
+        if isinstance(o, Memory):
+            self.store(self.address(o), self.to_bytes(v, o.size), o.align)
+        elif o.size == self.word:
+            self.general[o.name] = v
+        else:
+            old = [0] * 8 if o.size == 4 else self.to_bytes(self.general[o.name], 8)
+            self.general[o.name] = self.from_bytes(old[:o.at] + self.to_bytes(v, o.size) + old[o.at + o.size:])
+
+    def read(self, o):
+        """The bytes of an operand."""
+        if isinstance(o, Vector):
+            return self.vectors[o.number][o.at:o.at + o.size]
+        return self.load(self.address(o), o.size, o.align) if isinstance(o, Memory) else self.to_bytes(self.get(o), o.size)
+
+    def write(self, o, b):
+        if isinstance(o, Vector):
+            old, end = self.vectors[o.number], o.at + len(b)
+            self.vectors[o.number] = old[:o.at] + b + ([0] * (self.vector_size - end) if o.clears else old[end:])
+        elif isinstance(o, Memory):
+            self.store(self.address(o), b, o.align)
+        else:
+            self.put(o, self.from_bytes(b))
+
+    def address(self, o):
+        """The address of an access. The base register is moved before it here, and after it by `load` and `store` of ARM."""
+        self.move(o.base, o.before)
+        a = o.offset
+        for name, scale in ((o.base, 1), (o.index, o.scale)):
+            if name:
+                v = self.general[name]
+                if scale != 1 and not is_number(v) or not isinstance(v, (int, Linear, Pointer, Number)):
+                    raise Unproved("an address depends on the key or on data")
+                if name == self.stack_pointer and v.offset % self.stack_step:
+                    raise Unproved("the stack pointer isn't aligned")
+                a = self.offset(a, v * scale if is_number(v) else v)
+        return a
+
+    def move(self, register, by):
+        if by:
+            self.general[register] = self.offset(self.general[register], by)
+
+    def prepare(self, instruction, middle):
+        """For an instruction by itself: addresses that it may access, in the midst of the buffer or of the stack, or jump to."""
+        for o in instruction.operands:
+            if isinstance(o, Memory) and instruction.name != "lea":
+                if o.index:
+                    self.general[o.index] = 16
+                if o.base:
+                    place, step = ("stack", self.stack_step) if o.base == self.stack_pointer else ("buffer", 1)
+                    back = -o.before - o.offset - 16 * o.scale * bool(o.index)
+                    self.general[o.base] = Pointer(place, middle + back // step * step)
+            elif isinstance(o, Register) and instruction.name in ("jmp", "call", "blr", "br"):
+                self.general[o.name] = self.program.symbols["start"]
+
+    # Memory.
+    def place(self, address, size, write, align=1):
+        """The list of bytes that an access means, and where in it; or Unproved, if the access isn't allowed."""
+        if isinstance(address, int) and not write and address % align == 0:
+            for start, content in self.program.constants:
+                if start <= address and address + size <= start + len(content):
+                    return content, address - start
+        region = self.regions.get(address.base) if is_pointer(address) else None
+        if region is None:
+            raise Unproved("accesses memory at %s" % (address,))
+        base, offset = address
+        if isinstance(region, Window):
+            if region.waits:
+                raise Pause("accesses %s while the key is expanded" % base)
+            if not self.implied(offset) or not self.implied(region.whole - offset - size):
+                raise Unproved("%s %d bytes at %s of %s, which has %s" % (
+                    "writes" if write else "reads", size, offset, base, region.whole))
+            if is_int(offset) and offset < region.head:
+                region = self.regions[base + HEAD]
+            else:
+                offset = region.turned(offset - region.head, size)
+                if not write and region.is_untouched():
+                    return region.initial_at(self, base, offset, size), 0
+                offset = region.reached(self, offset, size)
+        if offset < 0 or offset + size > len(region.content):
+            raise Unproved("%s %d bytes at %d of %s, which has %d" % (
+                "writes" if write else "reads", size, offset, base, len(region.content)))
+        if write and not region.writable:
+            raise Unproved("writes to %s" % base)
+        if base == "stack":
+            if write and offset + size > self.top:
+                raise Unproved("writes above its stack frame")
+            if offset < self.general[self.stack_pointer].offset - self.red_zone:
+                raise Unproved("accesses the stack below the red zone")
+            if offset < self.lowest - PAGE:  # where there may be no page yet, or that of something else
+                raise Unproved("accesses the stack %d bytes below all that was accessed" % (self.lowest - offset))
+            self.lowest = min(self.lowest, offset)
+        if region.align % align or offset % align:
+            raise Unproved("an aligned access of %s, of which the alignment isn't known" % base)
+        return region.content, offset
+
+    def load(self, address, size, align=1):
+        content, o = self.place(address, size, False, align)
+        if self.stale and content is self.regions["stack"].content and not self.stale.isdisjoint(range(o, o + size)):
+            raise Unproved("reads what may have been overwritten below the stack pointer")
+        return list(content[o:o + size])
+
+    def store(self, address, b, align=1):
+        content, o = self.place(address, len(b), True, align)
+        content[o:o + len(b)] = b
+        if address.base != "stack":
+            self.wrote.setdefault(address.base, set()).update(b)
+        if self.stale and content is self.regions["stack"].content:
+            self.stale.difference_update(range(o, o + len(b)))
+        self.written = content, o

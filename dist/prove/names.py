@@ -1,0 +1,92 @@
+"""Names for sums: the inputs of S-boxes."""
+import functools
+
+from bits import BLOCK, LINEAR, ONES, Unproved
+
+
+class Names:
+    def __init__(self):
+        # By the cells of sums, the cells that have names and the ways to write a sum (`single`); and by the cell with a name, the bits that
+        # it stands for and their cells.
+        self.by_cells, self.ways, self.definitions, self.defined_by = {}, {}, {}, {}
+
+    def define(self, cell, bits):
+        """Lets a cell stand for the byte with these bits, for all blocks alike."""
+        cells = tuple(sorted({c for b in bits for c, _ in self.forms[b >> 9] or ()}))
+        # Of sums of bits of the byte: the form as a vector, which bits these are, and the complement.
+        rows = [(self.vector(self.forms[b >> 9] or (), cells), 1 << j, b & 1) for j, b in enumerate(bits)]
+        echelon = []  # by Gaussian elimination, the lowest set bit being the pivot
+        for v, mask, complement in rows:
+            for p, w, m, c in echelon:
+                if v & p:
+                    v, mask, complement = v ^ w, mask ^ m, complement ^ c
+            if not v:
+                raise Unproved("the bits of %s are not independent" % self.names[cell])
+            echelon.append((v & -v, v, mask, complement))
+        self.definitions[cell], self.defined_by[cell] = bits, cells
+        for some in {cells, *(tuple(c for c, _ in self.forms[b >> 9]) for b in bits)}:
+            self.by_cells.setdefault(some, []).append((cell, echelon))
+            self.ways.pop(some, None)
+
+    def vector(self, form, cells):
+        """The tables of a form, one after another, as those of these cells."""
+        return sum(t << 256 * cells.index(c) for c, t in form)
+
+    def named(self, form, cells):
+        """If a form is a sum of bits of a byte with a name: [(cell, table)]."""
+        out = []
+        for cell, echelon in self.by_cells.get(cells, ()):
+            v, table, complement = self.vector(form, self.defined_by[cell]), 0, 0
+            for p, w, m, c in echelon:
+                if v & p:
+                    v, complement = v ^ w, complement ^ c
+                    for j in range(8):
+                        if m >> j & 1:
+                            table ^= LINEAR[j]
+            if not v:
+                out.append((cell, table ^ ONES * complement))
+        return out
+
+    def single(self, n):
+        """The ways to write form n as a function of one cell, {cell: table}: as it is, by a name, or as a function of a named cell plus a
+        sum that has the same name."""
+        form = self.forms[n]
+        cells = tuple(c for c, _ in form)
+        known = self.ways.setdefault(cells, {})
+        ways = known.get(n)
+        if ways is None:
+            ways = dict(self.named(form, cells))
+            if len(form) == 1:
+                ways[cells[0]] = form[0][1]
+            for k, (c, t) in enumerate(form):
+                rest = cells[:k] + cells[k + 1:]
+                if rest and {*rest} <= {*self.defined_by.get(c, ())}:
+                    ways.update((cell, t ^ table) for cell, table in self.named(form[:k] + form[k + 1:], rest) if cell == c)
+            known[n] = ways
+        return ways
+
+    def common(self, bits):
+        """The cell of which all these bits are functions, and their truth tables."""
+        variable = [b for b in bits if b > 1]
+        ways = [self.single(b >> 9) for b in variable]
+        cells = set(ways[0]).intersection(*ways[1:])
+        if not cells:
+            raise Unproved(lambda: "a product of bits that are not functions of one byte: "
+                           + "; ".join(self.describe(self.pack([b] + [0] * 7)) for b in variable))
+        cell, ways = max(cells), iter(ways)
+        return cell, [next(ways)[cell] ^ ONES * (b & 1) if b > 1 else ONES * b for b in bits]
+
+    def name(self, byte, name):
+        """The cell that stands for this byte: made if there is none."""
+        self.one_block(self.bits(byte))  # so that without the block each is a form
+        bits = tuple(b & ~BLOCK for b in self.bits(byte))
+        try:
+            cell, tables = self.common(bits)
+            if tables == LINEAR:
+                return cell
+        except Unproved:
+            pass
+        depends = functools.reduce(int.__or__, map(self.depends_on, bits))
+        cell = self.cell(name, any(self.has_block[b >> 9] for b in bits if b > 1), depends)
+        self.define(cell, bits)
+        return cell

@@ -1,0 +1,115 @@
+"""What one process proves: the calls of one build under keys of one size; and what is compared with a processor afterwards."""
+import concurrent.futures
+import gc
+import time
+
+from bits import Unproved
+from cases import LIBRARIES, statements
+from linking import BUILDS, is_windows, program_of, suffix_of, takes_few
+from native import compare_all
+from operands import lanes
+from processors import MEANINGS, PROCESSORS
+from program import Program
+from vectors import checked
+
+SEED = 1
+
+# Calls that also run on the processor, by default and with all lengths.
+BESIDE = "blocks encrypt 17", "add_keystream 21 11 1", "seal 13 33"
+OF_FEW_BESIDE = "add_keystream 0 33", "seal 13 33"  # (not of narrow ones for Windows)
+ON_RISCV = "blocks encrypt 1", "add_keystream 21 11 1"
+ALL_BESIDE = *BESIDE, "set_key", "add_keystream 0 130", "unwrap 3", "seal 1 1", "open 0 0", "open 1 1"
+
+
+class Task:
+    """The calls of one build under keys of one size, or a part of these. The first size has some of them beside the processor, and
+    statements have vectors once for all builds."""
+
+    def __init__(self, options, build, key_size, part, parts):
+        self.options, self.build, self.machine, self.key_size, self.part, self.parts = options, build, BUILDS[build], key_size, part, parts
+        self.library = build.split("/")[1][:3]
+        self.name = "%s.s, key of %d bytes" % (build, key_size) + ", part %d of %d" % (part + 1, parts) * (parts > 1)
+        self.path = "%s/%s_%d_%d" % (options.out, build.replace("/", "_"), key_size, part)
+        self.proved, self.failed, self.vectors = -bool(part), 0, 0  # (set_key counts once)
+        self.used, self.compared, self.ran, self.went, self.calls = {}, set(), set(), set(), set()
+        self.kept_key = None
+
+    def run(self):
+        start = time.process_time()
+        try:
+            self.prove_all(program_of(self.build, self.options.objects[self.build], self.path))
+        except Unproved as e:
+            print("%s: NOT PROVED: %s" % (self.name, e), flush=True)
+            self.failed += 1
+        self.seconds = time.process_time() - start
+        return self
+
+    def prove_all(self, program):
+        keyed = LIBRARIES[self.library][0](program, self.key_size)
+        self.case("set_key", keyed.set_key)
+        if not self.failed:
+            if self.build == "x86_64/" + self.library and self.part == 0:
+                self.vectors = checked(keyed)
+            for what, call in statements(keyed, self.options, self.part, self.parts):
+                self.case(what, lambda seed: keyed.proved(call, seed))
+            self.calls, self.kept_key = keyed.calls, keyed.kept_key()
+        self.ran, self.went = set(program.cache), program.went  # (what was decoded ran)
+
+    def case(self, what, prove):
+        start = time.process_time()
+        try:
+            m = prove(None)
+            self.used.update(m.used)
+            left = ", ".join("%d %s in %s" % (len(v), kind, place) for (place, kind), v in sorted(m.left.items()))
+            text = "%d instructions, %d bytes of stack; left: %s" % (m.steps, m.top - m.lowest, left or "nothing")
+            beside = ON_RISCV if self.machine.relaxed else ALL_BESIDE if self.options.all else () if self.library == "siv" else (
+                BESIDE if not takes_few(self.build) else () if is_windows(self.build) and suffix_of(self.build) == "_v1" else OF_FEW_BESIDE)
+            if self.key_size == self.options.keys[0] and what in beside and not PROCESSORS[self.machine].missing():
+                self.compared |= set(prove(SEED).used)
+            self.proved += 1
+        except Unproved as e:
+            text = "NOT PROVED: %s" % e
+            self.failed += 1
+        if self.options.lines or text.startswith("NOT"):
+            print("%s, %s: %s; %.1f s" % (self.name, what, text, time.process_time() - start), flush=True)
+
+
+def pool_of(jobs, **more):
+    """Processes without collection of garbage: next to nothing here refers to itself, and looking for it takes a fifth of the time."""
+    return concurrent.futures.ProcessPoolExecutor(jobs, initializer=gc.disable, **more)
+
+
+def run_all(pool, options):
+    """Each task when it has run, the longest of them first."""
+    parts = 8 if options.all else 1  # (all at once would take more memory)
+    tasks = [Task(options, build, size, part, parts) for size in options.keys for build in options.builds
+             if (size != 24 or "siv" not in build) and (size == 16 or options.all or not takes_few(build)) for part in range(parts)]
+    for future in concurrent.futures.as_completed([pool.submit(task.run) for task in tasks]):
+        yield future.result()
+
+
+def alone(path, machine, used):
+    """The forms that the processor didn't agree on, each by itself, and where it differs."""
+    try:
+        return set(used) - compare_all(Program(path, machine), used), ""
+    except Unproved as e:
+        return set(used), str(e)
+
+
+def compare_forms(pool, tasks):
+    """Compares each form of an instruction that was used; (how many there are, the machine and the form of those that lack it, how often
+    a processor differed)."""
+    forms = {(MEANINGS[task.machine], form): (task.path, address) for task in tasks for form, address in task.used.items()}
+    in_calls = {(MEANINGS[task.machine], form) for task in tasks for form in task.compared}
+    programs, lacking, differed = {}, [], 0
+    for (machine, form), (path, address) in forms.items():
+        programs.setdefault((path, machine), {})[form] = address
+    futures = [(pool.submit(alone, path, machine, dict(part)), path, machine) for (path, machine), used in programs.items()
+               for part in lanes(sorted(used.items()), 200)]
+    for future, path, machine in futures:
+        without, fault = future.result()
+        lacking += [(machine, form) for form in sorted(without) if (machine, form) not in in_calls]
+        if fault:
+            print("%s: NOT PROVED: %s" % (path, fault), flush=True)
+            differed += 1
+    return len(forms), lacking, differed
