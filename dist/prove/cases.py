@@ -79,6 +79,8 @@ MANY = 2 ** 35  # bytes, so that counts and positions don't fit into 32 bits
 WRAPS = 8, 2 ** 32 - 3, CARRIED  # the counter wraps in the text
 TAGS = 4, 8, 12, 13, 14, 15
 WHOLE = "48 a + r bytes of additional data and 768 n + s of text for every a and n: r, s"
+NONCE = "; then the way, and r of a nonce of 48 k + r bytes for every k, in the place of one of 12 bytes"
+OTHER_NONCES = (0, 129, "", 33), (13, 33, "_to", 0)
 PIECE = "%d n + r bytes for every n after 16 k + s for every k: s, r"
 PHASES = {"encrypt": gcm.ENCRYPTING, "verify": gcm.VERIFYING, "decrypt_unverified": gcm.VERIFYING}
 STATE = "the phase, and how many bytes of additional data and of text came before"
@@ -86,10 +88,12 @@ STATE = "the phase, and how many bytes of additional data and of text came befor
 GCM_ROWS = [
     Row("wipe_message", "", few=ONCE), Row("set_key_of", "", few=ONCE, other=ONCE),
     Row("set_key_of_none", "", few=ONCE),
-    Row("any_seal", WHOLE, full=[(13, 33)], first=[(0, 129)],
-        more=[(0, 0), (1, 16), (16, 225), (33, 48), (47, 767), (13, 33, "_to")]),
-    Row("any_open", WHOLE + "; also of what is refused", full=[(13, 33)], first=[(13, 33, "_to")],
-        more=[(0, 0), (0, 129), (1, 16), (16, 225), (33, 48), (47, 767)]),
+    Row("any_seal", WHOLE + NONCE, full=[(13, 33)], first=[(0, 129), (13, 33, "", 8)],
+        more=[(0, 0), (1, 16), (16, 225), (33, 48), (47, 767), (13, 33, "_to"), *OTHER_NONCES]),
+    Row("any_open", WHOLE + NONCE + "; also of what is refused", full=[(13, 33)], first=[(13, 33, "_to")],
+        more=[(0, 0), (0, 129), (1, 16), (16, 225), (33, 48), (47, 767), (13, 33, "", 8), *OTHER_NONCES]),
+    Row("any_seal_next", WHOLE, first=[(13, 33)], more=[(0, 129)]),
+    Row("any_begin", "a nonce of 48 k + r bytes for every k: r", full=[8], more=[0, 12, 33, 47]),
     *(Row("any_" + call, PIECE % step, first=[(3, 46)], more=[(1, 15), (9, 23), (15, 48)]) for call, step in (
         ("additional", 48), ("verify", 48), ("encrypt", 768), ("decrypt", 768), ("decrypt_unverified", 768))),
     Row("seal", "the lengths of additional data and text, and a nonce of another length", few=[(13, 33), (13, 33, (), "_to")],
@@ -123,8 +127,8 @@ GCM_ROWS = [
            [(gcm.VERIFYING, 16, 7, gcm.UNKNOWN, n) for n in TAGS if n != 12])))]
 
 SIV_ROWS = [
-    Row("any_seal", WHOLE, full=[(13, 33)], first=[(0, 0), (13, 33, "_to")],
-        more=[(1, 1), (13, 81), (20, 145), (13, 225), (0, 450), (33, 48), (47, 767)]),
+    Row("any_seal", WHOLE, full=[(13, 33)], first=[(16, 256), (13, 33, "_to")],
+        more=[(0, 0), (1, 1), (13, 81), (20, 145), (13, 225), (0, 450), (33, 48), (47, 767)]),
     Row("any_open", WHOLE + "; also of what is refused", full=[(13, 33, "_to")], first=[(13, 225)],
         more=[(13, 33), (1, 1), (13, 81), (20, 145), (0, 450), (33, 48), (47, 767), (0, 0, "_to")]),
     Row("seal", "the lengths of additional data and text", few=[(13, 33), (13, 33, "_to")], other=[(13, 33), (13, 33, "_to")]),
