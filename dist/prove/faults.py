@@ -228,7 +228,7 @@ FAULTS = {
         ("fewer bytes of a key copied", exported("gcm_set_key_of"), r"\$240, ", "$224, ", "set_key_of"),
     ],
     "x86_64/siv": [
-        ("another half of a derived block", DERIVE, r"movq\t32\((%rbx)\), ", r"movq\t40(\1), ", "seal 0 0"),
+        ("another half of a derived block", DERIVE, r"movq\t32\((%rbx)\), ", r"movq\t40(\1), ", "seal 13 33"),
         ("a counter of 16 bits", APPLY, r"leal\t1(\(%r\w+,%r\w+\)), %e?(\w+)", lambda found: "leal\t%s, %%%s\n\tincw\t%%%s" % (
             found[1], found[0].rpartition("%")[2], low("r" + found[2].lstrip("r").removesuffix("d"), "w")), "seal 13 33"),
         ("a refused text not encrypted again", SIV_OPEN, r"(test[bl]\t%(\w+), %\2\n)\tj(?:e|ne)\t", r"\1\tjmp\t", "open 1 1"),

@@ -22,9 +22,9 @@ NONE, ADDITIONAL, ENCRYPTING, VERIFYING, DECRYPTING = range(5)  # phases of a me
 MOST, MOST_ADDITIONAL, MOST_NONCE = 2 ** 36 - 32, 2 ** 61 - 1, 2 ** 61 - 1
 
 
-def threes(blocks):
+def threes(blocks, many=3):
     """The groups of blocks whose products with powers of H are added at once."""
-    return [blocks[i:i + 3] for i in range(0, len(blocks), 3)]
+    return [blocks[i:i + many] for i in range(0, len(blocks), many)]
 
 
 class Hashing:
@@ -74,6 +74,7 @@ class KeyedGcm(Keyed):
         self.pre_counter = [d.fresh("J_0 byte %d" % i, KEY | PUBLIC) for i in range(12)]
         block = lambda name, depends: [d.fresh("%s byte %d" % (name, i), depends, True) for i in range(16)]
         self.text, self.sealed, self.tag = (block(name, DATA) for name in ("text", "encrypted", "tag"))
+        self.hashed_text = self.sealed
         self.additional_bytes, self.long_nonce = block("additional", DATA), block("long nonce", PUBLIC)
         self.hash_value, self.rest = block("hash", KEY | DATA), block("rest", KEY | DATA)
 
@@ -249,19 +250,19 @@ class KeyedGcm(Keyed):
         low, high = ([1, 0, 0, 0] + self.nonce[:7:-1], Pointer("any J_0 low", 0)), (self.nonce[7::-1], Pointer("nonce high", 0))
         return CounterWord("any J_0 low", 1, NEVER, size.divided(16)[0] + 2 + BATCH, {tuple(b): word for b, word in (low, high)})
 
-    def any_group(self, m, before, bytes_, size, end, after):
-        """What GHASH does next with so many bytes: three blocks, as long as there are so many; then the rest and the blocks `end`. A value
-        becomes the block with which the next group begins; the last one becomes `after`."""
+    def any_group(self, m, before, bytes_, size, many, end, after):
+        """What GHASH does next with so many bytes: so many blocks at once, as long as they are there; then the rest and the blocks `end`. A
+        value becomes the block with which the next group begins; the last one becomes `after`."""
         group, size = m.done, m.known(size)
-        whole, rest = divmod(size, 48) if isinstance(size, int) else size.divided(48)
-        value_of = lambda group: before if group == 0 else self.at_block(m, self.hash_value, group * 3)
+        whole, rest = divmod(size, 16 * many) if isinstance(size, int) else size.divided(16 * many)
+        value_of = lambda group: before if group == 0 else self.at_block(m, self.hash_value, group * many)
+        blocks = lambda group: [self.at_block(m, bytes_, group * many + k) for k in range(many)]
         below = m.is_below(group, whole)
         if below:
-            return self.group_step(value_of(group), [self.at_block(m, bytes_, group * 3 + k) for k in range(3)], value_of(group + 1))
+            return self.group_step(value_of(group), map(self.hashed, blocks(group)), value_of(group + 1))
         if below is None or not isinstance(group - whole, int):
             return "nothing", (), ()
-        tail = [b for k in range(3) for b in self.at_block(m, bytes_, whole * 3 + k)][:rest]
-        groups = threes(padded(tail) + end)
+        groups = threes([*map(self.hashed, padded(sum(blocks(whole), [])[:rest]))] + end, many)
         at = group - whole
         if at < len(groups):
             return self.group_step(value_of(group), groups[at], value_of(group + 1) if groups[at + 1:] else after)
@@ -269,7 +270,12 @@ class KeyedGcm(Keyed):
             return "here", value_of(group), after
         return "again", (), ()
 
+    def hashed(self, block):
+        """What GHASH takes of a block."""
+        return block
+
     def group_step(self, value, blocks, after):
+        blocks = list(blocks)
         return "hash", functools.partial(self.with_powers, [self.aes.xor(value, blocks[0]), *blocks[1:]]), after
 
     def middle_value(self):
@@ -278,21 +284,29 @@ class KeyedGcm(Keyed):
     def last_value(self):
         return self.once("last value", lambda: [self.domain.fresh("last hash byte %d" % i, KEY | DATA) for i in range(16)])
 
+    def at_once(self, m, sizes):
+        """How many blocks GHASH takes at once."""
+        return len(self.kept_powers())
+
     def any_hash(self, m, phase, sizes):
         """GHASH of additional data (phase 0) and of a text, each of such a size."""
-        middle, last = self.middle_value(), self.last_value()
+        middle, last, many = self.middle_value(), self.last_value(), self.at_once(m, sizes)
         if phase > 1:
             return "nothing", (), ()
         if phase == 0:
-            return self.any_group(m, ZEROS, self.additional_bytes, sizes[0], [], middle)
+            return self.any_group(m, ZEROS, self.additional_bytes, sizes[0], many, [], middle)
         before = ZEROS if m.known(sizes[0]) == 0 else middle
-        lengths = [b for n in sizes for b in m.to_bytes(m.known(n) * 8, 8)[::-1]]
-        return self.any_group(m, before, self.sealed, sizes[1], [lengths], last)
+        return self.any_group(m, before, self.hashed_text, sizes[1], many, [self.any_lengths(m, sizes)], last)
+
+    def any_lengths(self, m, sizes):
+        return [b for n in sizes for b in m.to_bytes(m.known(n) * 8, 8)[::-1]]
+
+    def any_sum(self, m, sizes):
+        """GHASH of all. (Of nothing it is that of a block of zeros.)"""
+        return ZEROS if all(m.known(size) == 0 for size in sizes) else self.last_value()
 
     def any_tag(self, m, sizes, first):
-        """(GHASH of nothing is that of a block of zeros.)"""
-        nothing = all(m.known(size) == 0 for size in sizes)
-        return self.aes.xor(ZEROS if nothing else self.last_value(), self.stream(first, 0))
+        return self.aes.xor(self.any_sum(m, sizes), self.stream(first, 0))
 
     def any_whole(self, rest_of_additional, rest):
         """What statements of every length have in common: sizes, the counter, and the patterns of text, keystream and encrypted text."""
@@ -315,12 +329,15 @@ class KeyedGcm(Keyed):
         tag = Buffer("tag", self.undefined(16), lambda m: self.any_tag(m, sizes, first))
         return self.of_any_message("gcm_seal" + way, sizes, first, stream, [*texts, tag], steps, text)
 
-    def any_open(self, rest_of_additional, rest):
+    def any_open(self, rest_of_additional, rest, way=""):
         sizes, first, _, stream, sealed = self.any_whole(rest_of_additional, rest)
         text = self.aes.xor(sealed, stream)
         tag = self.once("any tag", lambda: [self.domain.fresh("tag byte %d" % i, DATA) for i in range(16)])
-        texts = [Stream("text", sizes[1], sealed, text), sizes[1], Buffer("tag", tag), 16]
-        return self.of_any_message("gcm_open", sizes, first, stream, texts, lambda m: self.any_hash(m, m.phase, sizes), text,
+        texts = [*self.streams_of(way, "text", sizes[1], sizes[1], sealed, text), Buffer("tag", tag), 16]
+
+        def steps(m):
+            return ("refused", "output", (sealed, ZEROS, True)) if way and m.phase == 2 else self.any_hash(m, m.phase, sizes)
+        return self.of_any_message("gcm_open" + way, sizes, first, stream, texts, steps, text,
                                    reveals=lambda m: self.aes.xor(tag, self.any_tag(m, sizes, first)), refused=REFUSED)
 
     def of_any_message(self, name, sizes, first, stream, texts, steps, plain, **more):
@@ -434,15 +451,25 @@ class KeyedGcm(Keyed):
         before, size = unknown("u") * 16 + filled, unknown("n") * step + rest
         return before, size, {unknown("u"), unknown("n"), PTRDIFF_MAX - size}
 
-    def any_piece_hash(self, m, bytes_, size, filled, whole=None):
-        """The next step of GHASH; or, with `whole`, the last value, and how many bytes are left of a block."""
-        value, left = lambda group: self.at_block(m, self.hash_value, 1 + group * 3), m.known(size) + filled - 16
-        groups, left = divmod(left, 48) if isinstance(left, int) else left.divided(48)
-        block = lambda k: self.at_block(m, bytes_, k)
-        blocks = lambda group: [block(group * 3 + 1 + k) for k in range(3)]
-        if whole:
-            return value(groups + (left >= 16)), left % 16
-        group, full = m.done - 2, self.once("full block", lambda: [self.domain.fresh("full block byte %d" % i, DATA) for i in range(16)])
+    def groups_of_piece(self, m, size, filled):
+        """How many groups of blocks GHASH takes of a piece behind its first block, and how many bytes are left then."""
+        left, many = m.known(size) + filled - 16, self.at_once(m, ())
+        return divmod(left, 16 * many) if isinstance(left, int) else left.divided(16 * many)
+
+    def end_of_piece(self, m, size, filled):
+        """How many values there are after that of the first block, and how many bytes are left of a block."""
+        groups, left = self.groups_of_piece(m, size, filled)
+        return groups + (left >= 16), left % 16
+
+    def value_in_piece(self, m, group):
+        return self.at_block(m, self.hash_value, 1 + group * self.at_once(m, ()))
+
+    def any_piece_hash(self, m, bytes_, size, filled):
+        """The next step of GHASH."""
+        (groups, left), many = self.groups_of_piece(m, size, filled), self.at_once(m, ())
+        value, block = functools.partial(self.value_in_piece, m), lambda k: self.at_block(m, bytes_, k)
+        blocks = lambda group: [block(group * many + 1 + k) for k in range(many)]
+        group, full = m.done - 2, self.once("full block", self.full_block)
         if isinstance(group, int) and group < 0:
             so_far, part = self.before_piece()
             return self.group_step(so_far, [full], value(0)) if m.done else ("memory", part[:filled] + block(0)[filled:], full)
@@ -458,12 +485,17 @@ class KeyedGcm(Keyed):
 
     def message_after(self, m, numbers, which, bytes_, size, filled):
         """A message of which one number is higher by the size of a piece that GHASH has taken."""
-        value, count = self.any_piece_hash(m, bytes_, size, filled, whole=True)
-        text, end = m.regions["text"], m.known(size) - count
-        rest = [self.domain.opaque((Content("text", end + k, "content %d" % text.turn), 0)) for k in range(count)]
-        if rest != m.regions["message"].content[REST:REST + count]:  # then it was read where the block is known
-            rest = text.initial_at(m, "text", end, count)
-        return self.counts_after(m, numbers, which, size) + value + rest + [None] * (16 - count)
+        group, count = self.end_of_piece(m, size, filled)
+        rest, known = self.left_of_piece(m, m.known(size) - count, count)
+        if rest != m.regions["message"].content[REST:REST + count]:
+            rest = known
+        return self.counts_after(m, numbers, which, size) + self.value_in_piece(m, group) + rest + [None] * (16 - count)
+
+    def left_of_piece(self, m, end, count):
+        """So many bytes of the text from there on, as they are where it isn't known of which block they are, and where it is."""
+        text = m.regions["text"]
+        names = [self.domain.opaque((Content("text", end + k, "content %d" % text.turn), 0)) for k in range(count)]
+        return names, text.initial_at(m, "text", end, count)
 
     def counts_after(self, m, numbers, which, size):
         counts = [m.to_bytes(m.known(n + size if k == which else n), 8) for k, n in enumerate(numbers)]
@@ -493,6 +525,26 @@ class KeyedGcm(Keyed):
         more["facts"] |= {unknown("more"), MOST - numbers[1]}
         return self.on_message("decrypt", self.any_before(numbers), lambda m: self.counts_after(m, numbers, 2, size) + state,
                                [Stream("text", size, sealed, plain), size], plain=self.of_all(plain), **more)
+
+    def any_decrypt_unverified(self, filled, rest):
+        """GHASH comes first. Its value, and the part of a block that is left, become arbitrary bytes before blocks are numbered anew."""
+        before, size, stream, more = self.any_crypted("decrypt_unverified", filled, rest)
+        numbers, sealed, block = (7, before, 0, VERIFYING), self.in_places(self.sealed, filled), self.once("full block", self.full_block)
+        plain, count = self.aes.xor(sealed, stream), (filled + rest) % 16
+
+        def steps(m):
+            group, _ = self.end_of_piece(m, size, filled)
+            done = m.done - 2 - group
+            if m.phase or done not in (0, 1):
+                return ("nothing", (), ()) if m.phase else self.any_piece_hash(m, self.sealed, size, filled)
+            value, left = self.value_in_piece(m, group), sum(self.left_of_piece(m, m.known(size) - count, count), [])
+            return ("again", (), ()) if done else ("here", value + left, self.last_value() + 2 * block[:count])
+        return self.on_message("decrypt_unverified", self.any_before(numbers), lambda m: self.counts_after(m, numbers, 1, size)
+                               + self.last_value() + block[:count] + [None] * (16 - count),
+                               [Stream("text", size, sealed, plain), size], steps=steps, plain=self.of_all(plain), **more)
+
+    def full_block(self):
+        return [self.domain.fresh("full block byte %d" % i, DATA) for i in range(16)]
 
     def any_before(self, numbers):
         word = lambda n: number(n, 8)[::-1] if isinstance(n, int) else [self.domain.opaque((n, k)) for k in range(8)]

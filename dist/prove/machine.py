@@ -145,6 +145,10 @@ class Machine(Arithmetic, Unknowns, Bytewise, Access):
             raise Question(flag)
         return self.answers[flag]
 
+    def was_refused(self):
+        """Whether it was asked if a key or a tag is right, and it isn't."""
+        return any(q[0] == "zero" and not answer and not self.is_public(q[1:]) for q, answer in self.answers.items())
+
     def copied(self):
         m = copy.copy(self)
         m.regions = {name: r.copy() for name, r in self.regions.items()}
@@ -272,8 +276,9 @@ class Machine(Arithmetic, Unknowns, Bytewise, Access):
 
         def all_of(b):
             return [memo[x] if x in memo else memo.setdefault(x, convert(x)) for x in b]
-        for region in self.regions.values():
-            region.content = all_of(region.content)
+        for name, region in self.regions.items():
+            begin = self.accessed_from(name) if domain is self.domain else 0
+            region.content[begin:] = all_of(region.content[begin:])
         self.vectors = [all_of(v) for v in self.vectors]
         for r, v in self.general.items():
             if type(v) is tuple or isinstance(v, Verdict) and domain is not self.domain:
