@@ -50,8 +50,8 @@ AES_ROWS = [
     Row("cbc_decrypt", "the number of blocks", few=[9], full=[0, 1], other=[1]),
     Row("any_wrap", "a key of every number of semiblocks", full=ONCE),
     Row("any_unwrap", "a key of every number of semiblocks, also of what is refused", full=ONCE),
-    Row("any_wrap_padded", "a key of 8 n + r bytes for every n: r", full=[4], more=range(1, 9)),
-    Row("any_unwrap_padded", "a key of 8 n + r bytes for every n, also of what is refused: r", full=[4], more=range(1, 9)),
+    Row("any_wrap_padded", "a key of 8 n + r bytes for every n: r", full=[9], first=[3, 16], more=range(1, 17)),
+    Row("any_unwrap_padded", "a key of 8 n + r bytes for every n, also of what is refused: r", full=[3], first=[1, 8], more=range(1, 9)),
     Row("wrap", "the number of semiblocks", few=[2], other=[2]),
     Row("unwrap", "the number of semiblocks, also of what is refused", few=[3], other=[3]),
     Row("wrap_padded", "the number of bytes", few=[9], full=[1, 8], other=[1]),
@@ -63,8 +63,10 @@ AES_ROWS = [
         more=[(4, tag) for tag in modes.CMAC_TAGS]),
     Row("cmac", "the number of bytes", full=[0, 1, 16], other=[1]),
     Row("cmac_verify", "the number of bytes and the tag's length, also of what is refused", full=[(0, 4)], other=[(0, 4)]),
-    *(Row(call, "16 a + b bytes of additional data, or none, and a text of 256 n + r bytes for every a and n: the lengths of nonce, b, r, tag",
-          full=[(8, 8, 33, 8)], more=[(13, 0, 16, 16), (12, 9, 255, 4)]) for call in ("any_ccm_seal", "any_ccm_open")),
+    *(Row(call, "16 a + b bytes of additional data, or none if b is 0, and a text of 256 n + r bytes for every a and n: the lengths of nonce, "
+          "b, r, tag, and of the encoded length of additional data, in the place of 2", full=full, first=first,
+          more=[(13, 0, 16, 16), (12, 2, 255, 4), (7, 15, 1, 14, 6), (11, 9, 0, 6, 10), (8, 16, 33, 8, 6), (8, 16, 33, 8, 10)])
+      for call, full, first in (("any_ccm_seal", [(8, 15, 33, 8)], [(8, 16, 33, 8, 6), (8, 16, 33, 8, 10)]), ("any_ccm_open", [(8, 15, 33, 8)], ()))),
     *(Row(call, "the lengths of nonce, additional data, text and tag", few=[(13, 8, 33, 8)],
           full=[(7, 0, 1, 4), (12, 14, 16, 16), (8, 15, 17, 6), (13, 33, 0, 14)],
           more=[(nonce, 20, 40, tag) for nonce in modes.NONCES for tag in modes.CCM_TAGS], other=[(7, 0, 1, 4)])

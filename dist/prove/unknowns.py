@@ -194,7 +194,7 @@ class Unknowns:
         if not (a and a.writable and a.is_untouched() and self.implied(a.size - count) and self.implied(count)):
             raise Unproved("fills a number of bytes that isn't known, and not of a whole buffer")
         whole, rest = divmod(count, a.unit) if is_int(count) else count.divided(a.unit)
-        if (a.want(self, whole) if callable(a.want) else a.want) != byte * a.unit or a.backwards and rest:
+        if a.want != byte * a.unit or a.backwards and rest:
             raise Unproved("a number of bytes that isn't known is overwritten, and not as it has to be")
         if a.backwards:
             a.end = a.size - count
@@ -232,11 +232,12 @@ class Unknowns:
 
     def forget_blocks(self, first):
         """From now on this is the first block. What is left of others in a register may be any bits, with which the code may go on."""
-        d = self.domain
-        for k, (r, v) in enumerate(self.general.items()):
-            if type(v) is tuple:
-                self.general[r] = self.from_bytes([d.forgotten(b, k * self.word + i) if d.blocks(b) else b for i, b in enumerate(v)])
-        self.each_byte(lambda b: self.any_byte() if d.blocks(b) else b)
+        d, before = self.domain, {*self.domain.of_forgotten.values()}
+        is_old = lambda b: d.blocks(b) or not before.isdisjoint(d.cells(b))  # so those of before aren't mistaken for new ones
+        general = {r: self.from_bytes([d.forgotten(b, k * self.word + i) if is_old(b) else b for i, b in enumerate(v)])
+                   for k, (r, v) in enumerate(self.general.items()) if type(v) is tuple}
+        self.each_byte(lambda b: self.any_byte() if is_old(b) else b)
+        self.general |= general
         self.first_block, self.origins = first, {place: on for place, on in self.origins.items() if not place[1]}
 
     def forget_differences(self):
