@@ -428,19 +428,17 @@ class KeyedGcm(KeyedHash):
 
     def counts_after(self, m, numbers, which, size):
         counts = [m.to_bytes(m.known(n + size if k == which else n), 8) for k, n in enumerate(numbers)]
-        return sum(counts, []) + self.counter_block(self.nonce_of(), 0)
+        return sum(counts, []) + self.once("any J_0", self.any_pre_counter)[0]
 
-    def any_crypted(self, call, filled, rest):
+    def any_crypted(self, filled, rest):
         """The keystream of a piece: its pattern, and what the call needs of the counter."""
         before, size, facts = self.any_numbers(filled, rest, 768)
-        most = MOST - 16 * (BATCH + 2)
-        stream = self.in_places(self.once("any counters", self.any_counters), filled)
-        end = before + size
-        return before, size, stream, dict(keystream=self.of_all(stream), facts=facts | {most - end}, counter=self.any_counter_word(end)._replace(
-            first=unknown("u") + 1))
+        nonce = self.any_nonce(0, before + size)
+        stream, more = self.in_places(nonce.stream, filled), dict(nonce.more, counter=nonce.more["counter"]._replace(first=unknown("u") + 1))
+        return before, size, stream, dict(more, keystream=self.of_all(stream), facts=facts | {MOST - 16 * (BATCH + 2) - before - size})
 
     def any_encrypt(self, filled, rest):
-        before, size, stream, more = self.any_crypted("encrypt", filled, rest)
+        before, size, stream, more = self.any_crypted(filled, rest)
         numbers, text, sealed = (7, before, 0, ENCRYPTING), self.in_places(self.text, filled), self.in_places(self.sealed, filled)
         texts = Stream("text", size, text, [self.aes.xor(text, stream), sealed], lambda m, number: [0] * 16)
         steps = lambda m: self.any_piece_hash(m, self.sealed, size, filled) if m.phase else ("whole", "text", (sealed,))
@@ -448,7 +446,7 @@ class KeyedGcm(KeyedHash):
                                [texts, size], steps=steps, plain=self.of_all(text), **more)
 
     def any_decrypt(self, filled, rest):
-        before, size, stream, more = self.any_crypted("decrypt", filled, rest)
+        before, size, stream, more = self.any_crypted(filled, rest)
         numbers, sealed = (7, before + size + unknown("more"), before, DECRYPTING), self.in_places(self.sealed, filled)
         plain, state = self.aes.xor(sealed, stream), sum(self.before_piece(), [])
         more["facts"] |= {unknown("more"), MOST - numbers[1]}
@@ -457,7 +455,7 @@ class KeyedGcm(KeyedHash):
 
     def any_decrypt_unverified(self, filled, rest):
         """GHASH comes first. Its value, and the part of a block that is left, become arbitrary bytes before blocks are numbered anew."""
-        before, size, stream, more = self.any_crypted("decrypt_unverified", filled, rest)
+        before, size, stream, more = self.any_crypted(filled, rest)
         numbers, sealed, block = (7, before, 0, VERIFYING), self.in_places(self.sealed, filled), self.once("full block", self.full_block)
         plain, count = self.aes.xor(sealed, stream), (filled + rest) % 16
 
@@ -477,8 +475,7 @@ class KeyedGcm(KeyedHash):
 
     def any_before(self, numbers):
         word = lambda n: number(n, 8)[::-1] if isinstance(n, int) else [self.domain.opaque((n, k)) for k in range(8)]
-        first = self.counter_block(self.nonce_of(), 0)
-        return [b for n in numbers for b in word(n)] + first + sum(self.before_piece(), [])
+        return [b for n in numbers for b in word(n)] + self.once("any J_0", self.any_pre_counter)[0] + sum(self.before_piece(), [])
 
     def before_piece(self):
         """Any value of GHASH, and any part of a block: bytes of no block, which are kept when blocks are numbered anew."""
