@@ -56,7 +56,7 @@ def aes_cases(choose):
     yield "any_keystream", choose([(0, 0), (0, 33), (5, 122), *every], (), (), [(0, 0)])
     yield "cbc_decrypt", choose(range(65), (9,), (0, 1, 3, 4, 8, 17))
     yield "cbc_encrypt", choose(range(65), (), (1, 2))
-    # Key wrap of every length, by the remainder of that of a padded key; with fixed ones, builds and keys that take few lengths.
+    # Key wrap of every length, by the remainder of that of a padded key; and for builds and keys that take few lengths.
     yield "any_wrap", choose([()], (), [()])
     yield "any_unwrap", choose([()], (), [()])
     yield "any_wrap_padded", choose(range(1, 17), (), (9,), (3, 16))
@@ -70,11 +70,12 @@ def aes_cases(choose):
     yield "cmac_verify", choose([(20, n) for n in modes.CMAC_TAGS], (), [(0, 4)])
     # The lengths of nonce, additional data, text and tag.
     messages = [(13, 8, 33, 8), (7, 0, 1, 4), (12, 14, 16, 16), (8, 15, 17, 6), (13, 33, 0, 14), (11, 1, 300, 10)]
-    every = [(nonce, 20, 40, tag) for nonce in modes.NONCES for tag in modes.CCM_TAGS] + [(12, n, 60 - n, 12) for n in range(61)]
-    # Of every length: of the nonce, the remainders of additional data and of the text, the tag, and of the encoded length.
+    every = [(nonce, 20, 40, tag) for nonce in modes.NONCES for tag in modes.CCM_TAGS]
+    # Of every length, by the remainders of additional data and of the text; and how many bytes the length of the former takes.
     lengths = [(8, 15, 33, 8), (8, 16, 33, 8, 6), (8, 16, 33, 8, 10)]
-    yield "any_ccm_seal", choose([*lengths, (13, 0, 16, 16), (12, 2, 255, 4), (7, 15, 1, 14, 6), (11, 9, 0, 6, 10)], (), (), lengths)
-    yield "any_ccm_open", choose([*lengths, (13, 0, 16, 16), (12, 2, 255, 4), (7, 15, 1, 14, 6), (11, 9, 0, 6, 10)], (), (), lengths[:1])
+    more = [(13, 0, 16, 16), (9, 15, 255, 4, 6), (11, 9, 0, 6, 10)] + [(12, k, 15 * k, 12) for k in range(17)]
+    yield "any_ccm_seal", choose(lengths + more, (), (), lengths)
+    yield "any_ccm_open", choose(lengths + more, (), (), lengths[:1])
     yield "ccm_seal", choose(messages + every, messages[:1], messages[1:])
     yield "ccm_open", choose(messages + every, messages[:1], messages[1:-1])
     # These need no key.
