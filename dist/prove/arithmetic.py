@@ -13,8 +13,9 @@ class Arithmetic:
         if named is None:
             return list(value[:size])
         above = self.domain.undefined if isinstance(value, Number) else 0
-        if self.any_length and isinstance(value, (Pointer, Number)) and self.counter and value.base == self.counter.word:
-            value = Placed(value, self.first_block + self.counter.first)
+        counter = self.any_length and isinstance(value, (Pointer, Number)) and self.counter
+        if counter and value.base == counter.word and value.offset != counter.first - 1:  # J_0 has a number of its own
+            value = Placed(value, self.first_block + counter.first)
         return [self.domain.opaque((value, k)) for k in range(min(named, size))] + [above] * (size - named)
 
     def size_of(self, value):
@@ -72,7 +73,7 @@ class Arithmetic:
     def plus(self, x, y, carry, size):
         mask, top = (1 << 8 * size) - 1, 8 * size - 1
         if self.counter and self.counter.words:
-            x, y = (self.counter.words.get(tuple(v), v) if type(v) is tuple else v for v in (x, y))
+            x, y = (self.counter.words.get(tuple(map(self.domain.plain, v)), v) if type(v) is tuple else v for v in (x, y))
         if is_int(x, y):
             full = (x & mask) + (y & mask) + carry
             r = full & mask
@@ -97,8 +98,8 @@ class Arithmetic:
                 self.fits(by) and self.implied(counter.last - r.offset))
             return r, {"c": self.wraps(old.offset, r.offset)} if known else {}
         fixed, rest = (x, y) if is_int(x) else (y, x)
-        if self.is_room(rest, fixed, size) and not carry:
-            return tuple(self.any_byte() for _ in range(size)), {"c": (WRAPS, *self.room)}
+        if not carry and (self.is_room(rest, fixed, size) or self.is_room(fixed, rest, size)):
+            return tuple(self.any_byte() for _ in range(size)), {"c": (WRAPS,)}
         try:
             bits, out = self.full_adder(self.bits(x, size), self.bits(y, size), carry)
         except Unproved:  # then nothing is kept of the sum but whether it is 0
@@ -129,7 +130,10 @@ class Arithmetic:
 
     def is_room(self, low, last, size):
         """Whether these are the 32 bits of GCM's counter in its first block, of unknown value, and the number of the text's last block."""
-        return self.room and size == 4 and is_int(last) and (*self.to_bytes(low, size), last & 0xffffffff) == self.room
+        if not self.room or size != 4 or self.to_bytes(low, size) != [*self.room[:-1]]:
+            return False
+        whole = last if is_int(last) else self.whole(last, size)
+        return whole is not None and wrapped(whole - self.room[-1], 0xffffffff) == 0
 
     def wraps(self, block, later):
         """Whether the low half of the counter wraps around between two blocks."""
@@ -178,7 +182,7 @@ class Arithmetic:
         if is_pointer(x) and is_number(y) and size == self.word:
             return self.offset(x, carry - 1 - y), {}
         if is_int(x) and carry and self.is_room(y, ~x, size):
-            return None, {"c": ("not", (WRAPS, *self.room))}
+            return None, {"c": ("not", (WRAPS,))}
         if is_pointer(x) or is_pointer(y):
             raise Unproved("computes with addresses")
         return self.plus(x, ~y if is_int(y) else self.bytewise("xor", self.to_bytes(y, size), [255] * size), carry, size)

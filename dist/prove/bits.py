@@ -131,6 +131,10 @@ class Forms:
                 self.with_products.add(byte)
         return byte
 
+    def plain(self, byte):
+        """A byte without its name, if its bits are known."""
+        return self.pack(self.bits_of[byte]) if self.symbolic(byte) else byte
+
     def bits(self, byte):
         if byte < 256:
             return tuple(byte >> j & 1 for j in range(8))

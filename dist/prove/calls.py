@@ -137,7 +137,7 @@ def prove(domain, program, call, seed=None):
 
 def is_without_room(m):
     """Whether the answers say that the counter wraps around in the text: a statement with `room` is about the others."""
-    return m.room and m.answers.get((WRAPS, *m.room))
+    return m.room and m.answers.get((WRAPS,))
 
 
 def run(m, call, watches):

@@ -58,6 +58,10 @@ class Hashing:
 
 
 UNKNOWN = 8, None  # a nonce of 8 bytes, and any J_0, also that of a nonce of 12 bytes; see nonce_of
+OF_J_0 = "J_0 low, at every length"
+# For calls of every length: the arguments, how many phases come before the message, and their steps; Cipher of J_0 and of a later block,
+# and what else the call and its arguments need.
+AnyNonce = namedtuple("AnyNonce", "arguments phases steps mask stream more facts")
 # J_0: twelve bytes and the number that its last four are; how GHASH makes it of a nonce of another length; the arguments of a call.
 PreCounter = namedtuple("PreCounter", "bytes counter hashing arguments")
 
@@ -305,46 +309,83 @@ class KeyedGcm(Keyed):
         """GHASH of all. (Of nothing it is that of a block of zeros.)"""
         return ZEROS if all(m.known(size) == 0 for size in sizes) else self.last_value()
 
-    def any_tag(self, m, sizes, first):
-        return self.aes.xor(self.any_sum(m, sizes), self.stream(first, 0))
+    # A nonce of 12 bytes, or of 48 k + `rest` of them for every k: then J_0 is any block of which the counter doesn't wrap around in the text.
+    def any_nonce(self, rest, size):
+        first = self.nonce_of()
+        if rest is None:
+            return AnyNonce(first.arguments, 0, None, self.stream(first, 0), self.once("any counters", self.any_counters),
+                            {"counter": self.any_counter_word(size)}, set())
+        length, (block, mask, stream) = unknown("k") * 48 + rest, self.once("any J_0", self.any_pre_counter)
+        last, middle = size + 16 + 15, self.once("hashed nonce", lambda: [self.domain.fresh("hashed nonce byte %d" % i, KEY | PUBLIC) for i in range(16)])
 
-    def any_whole(self, rest_of_additional, rest):
-        """What statements of every length have in common: sizes, the counter, and the patterns of text, keystream and encrypted text."""
-        sizes = unknown("a") * 48 + rest_of_additional, unknown("n") * 768 + rest
-        first, stream = self.nonce_of(), self.once("any counters", self.any_counters)
-        self.stream(first, 0)  # gives the inputs of its S-boxes names
-        return sizes, first, *(self.pattern(b) for b in (self.text, stream, self.sealed))
+        def steps(m):
+            if m.phase == 0:
+                return self.any_group(m, ZEROS, self.long_nonce, length, self.at_once(m, ()), [], middle)
+            if m.phase > 1:
+                return "nothing", (), ()
+            return self.group_step(middle, [[0] * 8 + m.to_bytes(m.known(length) * 8, 8)[::-1]], block) if m.done == 0 else ("again", (), ())
+        more = {"counter": CounterWord(OF_J_0, 1, NEVER, size.divided(16)[0] + 2 + BATCH), "room": (*block[:11:-1], last.divided(16)[0] - 1)}
+        facts = {unknown("k"), length - (13 if rest == 12 else 1), MOST_NONCE - length, PTRDIFF_MAX - length}
+        return AnyNonce([Stream("nonce", length, self.pattern(self.long_nonce)), length], 2, steps, mask, stream, more, facts)
+
+    def any_pre_counter(self):
+        """J_0, Cipher of it, and of a later block: a number of its own, as are those of blocks."""
+        d, own = self.domain, [self.domain.fresh("J_0 byte %d" % i, KEY | PUBLIC) for i in range(12, 16)]
+        low = [d.fresh("counter byte %d of J_0" % i, KEY | PUBLIC, True) for i in range(4)]
+        word = lambda last, k: last[3 - k] if k < 4 else self.pre_counter[15 - k]
+        d.placed[OF_J_0] = lambda number, k: d.bits(d.byte_in_block(word(low, k), number))
+        d.words[OF_J_0] = lambda offset, k: d.bits(word(own, k)) if offset == 0 else None
+        block = self.pre_counter[:8] + [d.opaque((Pointer(OF_J_0, 0), k)) for k in range(8)][::-1]
+        return block, self.aes.cipher(block, self.w), self.aes.cipher(self.pre_counter + low, self.w)
+
+    def any_begin(self, rest):
+        nonce, state = self.any_nonce(rest, unknown("n") * 16), self.state(ADDITIONAL, 0, 0)[:32]
+        message = self.message(self.undefined(MESSAGE), state + self.once("any J_0", self.any_pre_counter)[0] + 2 * ZEROS)
+        return Call("gcm_begin", [self.schedule(), message, *nonce.arguments], DONE, steps=nonce.steps, facts=nonce.facts)
 
     def any_facts(self, sizes):
         """The additional data may be as long as a buffer, and as the standard allows; the text a little shorter than that."""
         most = MOST - 16 * (BATCH + 2)
         return {unknown("a"), PTRDIFF_MAX - sizes[0], MOST_ADDITIONAL - sizes[0], unknown("n"), most - sizes[1]}
 
-    def any_seal(self, rest_of_additional, rest, way=""):
-        sizes, first, text, stream, sealed = self.any_whole(rest_of_additional, rest)
+    def any_tag(self, m, sizes, nonce):
+        return self.aes.xor(self.any_sum(m, sizes), nonce.mask)
 
-        def steps(m):
-            return ("whole", "output" if way else "text", (sealed,)) if m.phase == 0 else self.any_hash(m, m.phase - 1, sizes)
+    def any_whole(self, additional, text, nonce):
+        """What statements of every length have in common: sizes, the nonce, and the patterns of text, keystream and encrypted text."""
+        sizes = unknown("a") * 48 + additional, unknown("n") * 768 + text
+        nonce = self.any_nonce(nonce, sizes[1])
+        return sizes, nonce, *(self.pattern(b) for b in (self.text, nonce.stream, self.sealed))
+
+    def any_seal_next(self, additional, text):
+        first, assumes = self.counted()
+        return self.any_seal(additional, text, name="gcm_seal_next", arguments=first.arguments, assumes=assumes, may_stay={"flags": 4})
+
+    def any_seal(self, additional, text, way="", nonce=None, name="gcm_seal", **more):
+        sizes, nonce, text, stream, sealed = self.any_whole(additional, text, nonce)
+
+        def steps(m, phase):
+            return ("whole", "output" if way else "text", (sealed,)) if phase == 0 else self.any_hash(m, phase - 1, sizes)
         texts = self.streams_of(way, "text", sizes[1], sizes[1], text, [self.aes.xor(text, stream), sealed], lambda m, number: [0] * 16)
-        tag = Buffer("tag", self.undefined(16), lambda m: self.any_tag(m, sizes, first))
-        return self.of_any_message("gcm_seal" + way, sizes, first, stream, [*texts, tag], steps, text)
+        tag = Buffer("tag", self.undefined(16), lambda m: self.any_tag(m, sizes, nonce))
+        return self.of_any_message(name + way, sizes, nonce, stream, [*texts, tag], steps, text, **more)
 
-    def any_open(self, rest_of_additional, rest, way=""):
-        sizes, first, _, stream, sealed = self.any_whole(rest_of_additional, rest)
+    def any_open(self, additional, text, way="", nonce=None):
+        sizes, nonce, _, stream, sealed = self.any_whole(additional, text, nonce)
         text = self.aes.xor(sealed, stream)
         tag = self.once("any tag", lambda: [self.domain.fresh("tag byte %d" % i, DATA) for i in range(16)])
         texts = [*self.streams_of(way, "text", sizes[1], sizes[1], sealed, text), Buffer("tag", tag), 16]
 
-        def steps(m):
-            return ("refused", "output", (sealed, ZEROS, True)) if way and m.phase == 2 else self.any_hash(m, m.phase, sizes)
-        return self.of_any_message("gcm_open" + way, sizes, first, stream, texts, steps, text,
-                                   reveals=lambda m: self.aes.xor(tag, self.any_tag(m, sizes, first)), refused=REFUSED)
+        def steps(m, phase):
+            return ("refused", "output", (sealed, ZEROS, True)) if way and phase == 2 else self.any_hash(m, phase, sizes)
+        return self.of_any_message("gcm_open" + way, sizes, nonce, stream, texts, steps, text,
+                                   reveals=lambda m: self.aes.xor(tag, self.any_tag(m, sizes, nonce)), refused=REFUSED)
 
-    def of_any_message(self, name, sizes, first, stream, texts, steps, plain, **more):
+    def of_any_message(self, name, sizes, nonce, stream, texts, steps, plain, arguments=None, **more):
         additional = Stream("additional", sizes[0], self.pattern(self.additional_bytes))
-        return Call(name, [self.schedule(), *first.arguments, additional, sizes[0], *texts], DONE, steps=steps,
-                    keystream=self.of_all(stream), plain=self.of_all(plain), counter=self.any_counter_word(sizes[1]),
-                    facts=self.any_facts(sizes), **more)
+        return Call(name, [self.schedule(), *(arguments or nonce.arguments), additional, sizes[0], *texts], DONE,
+                    steps=lambda m: nonce.steps(m) if m.phase < nonce.phases else steps(m, m.phase - nonce.phases),
+                    keystream=self.of_all(stream), plain=self.of_all(plain), facts=self.any_facts(sizes) | nonce.facts, **nonce.more, **more)
 
     def seal_next(self, additional_length, text_length, counter=None):
         """The same under the counter's next nonce, which it writes to `nonce`; the counter then moves on by one. .. DONE"""

@@ -117,7 +117,7 @@ class Unknowns:
         for region in self.regions.values():
             if isinstance(region, Window):
                 region.size, region.end, region.origin = new(region.size), new(region.end), new(region.origin)
-        self.counter, self.done = new(self.counter), new(self.done)
+        self.counter, self.done, self.room = new(self.counter), new(self.done), new(self.room)
         self.loops, self.replaced, self.want = {}, [*self.replaced, (name, by)], None
 
     def renumbered(self, b, new):
@@ -171,7 +171,7 @@ class Unknowns:
 
     def without_name(self, byte):
         placed = isinstance(self.domain.opaque_of.get(byte, [0])[0], Placed)
-        return self.domain.pack(self.domain.bits_of[byte]) if placed and self.domain.bits_of[byte] else byte
+        return self.domain.plain(byte) if placed else byte
 
     def names(self, value):
         return [self.domain.opaque((value, k)) for k in range(self.size_of(value))]
