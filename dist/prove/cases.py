@@ -50,12 +50,12 @@ AES_ROWS = [
     Row("cbc_decrypt", "the number of blocks", few=[9], full=[0, 1], other=[1]),
     Row("any_wrap", "a key of every number of semiblocks", full=ONCE),
     Row("any_unwrap", "a key of every number of semiblocks, also of what is refused", full=ONCE),
-    Row("any_wrap_padded", "a key of 8 n + r bytes for every n: r", full=[9], first=[3, 16], more=range(1, 17)),
+    Row("any_wrap_padded", "a key of 16 n + r bytes for every n: r", full=[3, 16], first=[9], more=range(1, 17)),
     Row("any_unwrap_padded", "a key of 8 n + r bytes for every n, also of what is refused: r", full=[3], first=[1, 8], more=range(1, 9)),
     Row("wrap", "the number of semiblocks", few=[2], other=[2]),
     Row("unwrap", "the number of semiblocks, also of what is refused", few=[3], other=[3]),
-    Row("wrap_padded", "the number of bytes", few=[9], full=[1, 8], other=[1]),
-    Row("unwrap_padded", "the number of bytes, also of what is refused", few=[9], full=[1, 8], other=[1]),
+    Row("wrap_padded", "the number of bytes", few=[9], other=[1]),
+    Row("unwrap_padded", "the number of bytes, also of what is refused", few=[9], other=[1]),
     Row("unwrap_padded_refused", "a wrong length, of a key of so many semiblocks: any byte of the three higher ones; one more, one less, 2^k "
         "and 2^k - 1 for every so many k", full=[(1, 8)], first=[(2, 16)], more=[(n, 1) for n in range(1, 4)]),
     Row("any_cmac", "16 n + r bytes for every n: r", few=[1], full=[16], first=[12, 15], more=range(1, 17)),
@@ -65,7 +65,8 @@ AES_ROWS = [
     Row("cmac_verify", "the number of bytes and the tag's length, also of what is refused", full=[(0, 4)], other=[(0, 4)]),
     *(Row(call, "16 a + b bytes of additional data, or none if b is 0, and a text of 256 n + r bytes for every a and n: the lengths of nonce, "
           "b, r, tag, and of the encoded length of additional data, in the place of 2", full=full, first=first,
-          more=[(13, 0, 16, 16), (12, 2, 255, 4), (7, 15, 1, 14, 6), (11, 9, 0, 6, 10), (8, 16, 33, 8, 6), (8, 16, 33, 8, 10)])
+          more=[(13, 0, 16, 16), (9, 15, 255, 4, 6), (11, 9, 0, 6, 10), (8, 16, 33, 8, 6), (8, 16, 33, 8, 10),
+                *((12, rest, 15 * rest, 12) for rest in range(17))])
       for call, full, first in (("any_ccm_seal", [(8, 15, 33, 8)], [(8, 16, 33, 8, 6), (8, 16, 33, 8, 10)]), ("any_ccm_open", [(8, 15, 33, 8)], ()))),
     *(Row(call, "the lengths of nonce, additional data, text and tag", few=[(13, 8, 33, 8)],
           full=[(7, 0, 1, 4), (12, 14, 16, 16), (8, 15, 17, 6), (13, 33, 0, 14)],
