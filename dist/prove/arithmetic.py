@@ -195,6 +195,8 @@ class Arithmetic:
             return {"z": zero} if y == x.right else {"z": contrary(zero)} if is_int(y) and y == x.wrong else {}
         if isinstance(x, Shifted) and y == 0:
             return self.zero_and_sign(x, size)
+        if isinstance(x, Shifted) and is_int(y):
+            x = self.quotient(x.number, 1 << x.count)
         if tuple not in (type(x), type(y)):
             return self.minus(x, y, size)[1]
         never = y == 0 and any(1 in self.domain.bits(b) for b in self.to_bytes(x, size) if b not in self.any_of)

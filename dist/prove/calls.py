@@ -89,6 +89,9 @@ def prove(domain, program, call, seed=None):
     m.facts, m.any_length, ends = call.facts, call.any_length, []
     for window in (r for r in regions.values() if isinstance(r, Window)):
         window.waits = call.later is not None
+    cells = [c for b in call.buffers if isinstance(b, Stream) for c in {c for x in b.content for c in domain.cells(x)}]
+    if len(cells) > len({*cells}):
+        raise Unproved("is about two buffers of the same bytes")
     if refuted(call.facts):
         raise Unproved("is about no arguments")
     watches = [step_by_step(call.steps if call.any_length else call.steps())] if call.steps else []

@@ -137,6 +137,7 @@ def moved_on(m, blocks):
             return d.moved(b, -blocks)
         except Unproved:
             return m.any_byte()
+    m.forget_differences()
     m.each_byte(moved)
     m.first_block += blocks
     m.origins = {(c, block and block - blocks): on for (c, block), on in m.origins.items() if not block or block > blocks}
@@ -205,6 +206,7 @@ def general_state(known, key, visit, now, wrong=frozenset()):
     g.first_block = first.first_block + passes * blocks
     g.origins = {(c, b): on for (c, block), on in (*second.origins.items(), *first.origins.items())  # and what earlier passes have left
                  for b in (range(block, 0, -blocks) if block and blocks else [block])}
+    g.forget_differences()
     g.done = generally(first.done, second.done, passes, g.most)
     for r, v in first.general.items():
         general = generally(v, second.general[r], passes, g.most)

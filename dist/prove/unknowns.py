@@ -34,7 +34,7 @@ class Unknowns:
 
     def quotient(self, x, by):
         """Of a number and a power of two: another number, if it isn't one in the same unknowns."""
-        if self.any_length or all(k % by == 0 for _, k in x.terms):
+        if all(k % by == 0 for _, k in x.terms):
             return x.divided(by)[0]
         q = unknown("(%s) / %d" % (x, by))
         self.facts |= {x - q * by, q * by + by - 1 - x}
@@ -221,6 +221,7 @@ class Unknowns:
         """What is left of blocks is forgotten, and they are numbered anew. A buffer with this name begins again as `new` says; others that
         were made of the same cells can't be read any more."""
         self.phase, self.done = self.phase + 1, 0
+        self.forget_differences()
         cells = {c for b in new[0] for c in self.domain.cells(b)} if name else set()
         for window in (r for r in self.regions.values() if isinstance(r, Window)):
             if not all(cells.isdisjoint(self.domain.cells(b)) for b in window.initial):
@@ -237,6 +238,15 @@ class Unknowns:
                 self.general[r] = self.from_bytes([d.forgotten(b, (self.forgets, r, i)) if d.blocks(b) else b for i, b in enumerate(v)])
         self.each_byte(lambda b: self.any_byte() if d.blocks(b) else b)
         self.first_block, self.origins = first, {place: on for place, on in self.origins.items() if not place[1]}
+
+    def forget_differences(self):
+        """Whether bytes of blocks are zero, when these get other numbers."""
+        of_blocks = lambda bytes_: any(map(self.domain.blocks, bytes_))
+        is_lost = lambda v: isinstance(v, Verdict) and of_blocks(v.differences)
+        self.any_of = {b: some for b, some in self.any_of.items() if not of_blocks(some)}
+        self.equalities = {b: equal for b, equal in self.equalities.items() if not of_blocks(equal[:1])}
+        self.each_byte(lambda b: self.any_byte() if is_lost(self.domain.opaque_of.get(b, [0])[0]) else b)
+        self.general = {r: (self.any_byte(),) * self.word if is_lost(v) else v for r, v in self.general.items()}
 
     def each_byte(self, convert):
         """Puts other bytes in the place of those of registers and memory."""
