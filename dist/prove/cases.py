@@ -50,8 +50,8 @@ AES_ROWS = [
     Row("cbc_decrypt", "the number of blocks", few=[9], full=[0, 1], other=[1]),
     Row("any_wrap", "a key of every number of semiblocks", full=ONCE),
     Row("any_unwrap", "a key of every number of semiblocks, also of what is refused", full=ONCE),
-    Row("any_wrap_padded", "a key of 8 n + r bytes for every n: r", full=[4], more=range(1, 9)),
-    Row("any_unwrap_padded", "a key of 8 n + r bytes for every n, also of what is refused: r", full=[4], more=range(1, 9)),
+    Row("any_wrap_padded", "a key of 8 n + r bytes for every n: r", full=[9], first=[3, 16], more=range(1, 17)),
+    Row("any_unwrap_padded", "a key of 8 n + r bytes for every n, also of what is refused: r", full=[3], first=[1, 8], more=range(1, 9)),
     Row("wrap", "the number of semiblocks", few=[2], other=[2]),
     Row("unwrap", "the number of semiblocks, also of what is refused", few=[3], other=[3]),
     Row("wrap_padded", "the number of bytes", few=[9], full=[1, 8], other=[1]),
@@ -63,8 +63,10 @@ AES_ROWS = [
         more=[(4, tag) for tag in modes.CMAC_TAGS]),
     Row("cmac", "the number of bytes", full=[0, 1, 16], other=[1]),
     Row("cmac_verify", "the number of bytes and the tag's length, also of what is refused", full=[(0, 4)], other=[(0, 4)]),
-    *(Row(call, "16 a + b bytes of additional data, or none, and a text of 256 n + r bytes for every a and n: the lengths of nonce, b, r, tag",
-          full=[(8, 8, 33, 8)], more=[(13, 0, 16, 16), (12, 9, 255, 4)]) for call in ("any_ccm_seal", "any_ccm_open")),
+    *(Row(call, "16 a + b bytes of additional data, or none if b is 0, and a text of 256 n + r bytes for every a and n: the lengths of nonce, "
+          "b, r, tag, and of the encoded length of additional data, in the place of 2", full=full, first=first,
+          more=[(13, 0, 16, 16), (12, 2, 255, 4), (7, 15, 1, 14, 6), (11, 9, 0, 6, 10), (8, 16, 33, 8, 6), (8, 16, 33, 8, 10)])
+      for call, full, first in (("any_ccm_seal", [(8, 15, 33, 8)], [(8, 16, 33, 8, 6), (8, 16, 33, 8, 10)]), ("any_ccm_open", [(8, 15, 33, 8)], ()))),
     *(Row(call, "the lengths of nonce, additional data, text and tag", few=[(13, 8, 33, 8)],
           full=[(7, 0, 1, 4), (12, 14, 16, 16), (8, 15, 17, 6), (13, 33, 0, 14)],
           more=[(nonce, 20, 40, tag) for nonce in modes.NONCES for tag in modes.CCM_TAGS], other=[(7, 0, 1, 4)])
@@ -79,22 +81,23 @@ MANY = 2 ** 35  # bytes, so that counts and positions don't fit into 32 bits
 WRAPS = 8, 2 ** 32 - 3, CARRIED  # the counter wraps in the text
 TAGS = 4, 8, 12, 13, 14, 15
 WHOLE = "48 a + r bytes of additional data and 768 n + s of text for every a and n: r, s"
-PIECE = "768 n + r bytes for every n after 16 k + s, from any J_0 of which the counter doesn't wrap in the text: s, r"
+NONCE = "; then the way, and r of a nonce of 48 k + r bytes for every k, in the place of one of 12 bytes"
+OTHER_NONCES = (0, 129, "", 33), (13, 33, "_to", 0)
+PIECE = "%d n + r bytes for every n after 16 k + s for every k: s, r"
 PHASES = {"encrypt": gcm.ENCRYPTING, "verify": gcm.VERIFYING, "decrypt_unverified": gcm.VERIFYING}
 STATE = "the phase, and how many bytes of additional data and of text came before"
 
 GCM_ROWS = [
     Row("wipe_message", "", few=ONCE), Row("set_key_of", "", few=ONCE, other=ONCE),
     Row("set_key_of_none", "", few=ONCE),
-    Row("any_seal", WHOLE + "; and t where the nonce has 48 k + t bytes, for every k and for any J_0 of which the counter doesn't wrap in the text",
-        full=[(13, 33)], first=[(0, 129), (13, 33, "", 8)],
-        more=[(0, 0), (1, 16), (16, 225), (33, 48), (47, 767), (13, 33, "_to"), (0, 129, "", 33), (13, 33, "_to", 0)]),
-    Row("any_open", "the same; also of what is refused", full=[(13, 33)], first=[(13, 33, "_to")],
-        more=[(0, 0), (0, 129), (1, 16), (16, 225), (33, 48), (47, 767), (13, 33, "", 8), (0, 129, "", 33), (13, 33, "_to", 0)]),
-    Row("any_seal_next", WHOLE + "; any counter of nonces without a carry", first=[(13, 33)], more=[(0, 129)]),
-    Row("any_begin", "a nonce of 48 k + t bytes for every k: t", full=[8], more=[0, 12, 33, 47]),
-    *(Row("any_" + call, PIECE, first=[(3, 46)], more=[(1, 15), (9, 23), (15, 48)])
-      for call in ("additional", "verify", "encrypt", "decrypt", "decrypt_unverified")),
+    Row("any_seal", WHOLE + NONCE, full=[(13, 33)], first=[(0, 129), (13, 33, "", 8)],
+        more=[(0, 0), (1, 16), (16, 225), (33, 48), (47, 767), (13, 33, "_to"), *OTHER_NONCES]),
+    Row("any_open", WHOLE + NONCE + "; also of what is refused", full=[(13, 33)], first=[(13, 33, "_to")],
+        more=[(0, 0), (0, 129), (1, 16), (16, 225), (33, 48), (47, 767), (13, 33, "", 8), *OTHER_NONCES]),
+    Row("any_seal_next", WHOLE, first=[(13, 33)], more=[(0, 129)]),
+    Row("any_begin", "a nonce of 48 k + r bytes for every k: r", full=[8], more=[0, 12, 33, 47]),
+    *(Row("any_" + call, PIECE % step, first=[(3, 46)], more=[(1, 15), (9, 23), (15, 48)]) for call, step in (
+        ("additional", 48), ("verify", 48), ("encrypt", 768), ("decrypt", 768), ("decrypt_unverified", 768))),
     Row("seal", "the lengths of additional data and text, and a nonce of another length", few=[(13, 33), (13, 33, (), "_to")],
         full=[(0, 0), (1, 1), (49, 1), (0, 0, (), "_to"), *((5, 20, nonce) for nonce in NONCES)],
         more=[(0, 449, gcm.UNKNOWN), *((5, 40, nonce) for nonce in NONCES), *((5, n, (60, None)) for n in (0, 129, 300))],
@@ -149,12 +152,12 @@ def riscv_rows(word):
         Row("wrap", "the number of semiblocks", few=[2], more=[3]),
         Row("unwrap", "the number of semiblocks, also of what is refused", few=[3], more=[4]),
         Row("wrap_padded", "the number of bytes", few=[1, 9]),
-        Row("unwrap_padded", "the number of bytes, also of what is refused; on 32 bits alone", few=[1, 9] * narrow),
-        Row("unwrap_padded_refused", "as above; on 32 bits alone", more=[(1, 8)] * narrow),
+        Row("unwrap_padded", "the number of bytes, also of what is refused", few=[1, 9] * narrow),
+        Row("unwrap_padded_refused", "as above", few=[(1, 8)] * narrow),
         Row("cmac", "the number of bytes", few=[0, 17]),
         Row("cmac_verify", "the number of bytes and the tag's length, also of what is refused", few=[(17, 16), (0, 4)]),
-        *(Row(call, "the lengths of nonce, additional data, text and tag; additional data on 32 bits alone",
-              few=[(7, 0, 1, 4)], more=[(13, 8, 33, 8)] * narrow) for call in ("ccm_seal", "ccm_open")),
+        *(Row(call, "the lengths of nonce, additional data, text and tag",
+              few=[(7, 0, 1, 4), *[(13, 8, 33, 8)] * narrow]) for call in ("ccm_seal", "ccm_open")),
         *ROUNDS]
 
 

@@ -178,7 +178,7 @@ FAULTS = {
         ("a branch on the first semiblock before the padding", PADDED_DIFFERENCE, r"(addl\t\$1504093786, .*\n)", r"\1\tjne\t77f\n77:\n",
          "unwrap_padded 9"),
         ("a byte of the padding not compared", PADDED_DIFFERENCE, "(%s)" % call("key_wrap::padded::mask_below"), r"\1\txorl\t%eax, %eax\n",
-         "unwrap_padded 1"),
+         "any_unwrap_padded 1"),
         ("a single round without its round key", ROUND, r"\tmovdqu\t\(%rsi\), (%xmm\d+)\n", r"\tpxor\t\1, \1\n", "a_round cipher_round"),
         ("the bytes of a tag moved by one", exported("aes_cmac"), r"(\tmovaps\t\(%rsp\), (%xmm\d+)\n)", r"\1\tpsrldq\t$1, \2\n", "cmac 1"),
         ("another constant for subkeys", CMAC_TAG, r"andl\t\$135, ", "andl\t$134, ", "cmac 16"),

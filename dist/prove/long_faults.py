@@ -1,7 +1,7 @@
 """Faults that show at long lengths only: a statement of every length refuses each, and calls of some lengths up to 64 blocks are proved.
 As in faults.py: (what, behind which label, what is looked for there, what it becomes, the case that has to refuse it)."""
-from faults import (BATCHES, BLOCKS, BLOCKS_TO, BLOCKS_WITH, CBC, CCM_OPEN, CCM_STREAM, ENTRY, GCTR, IN_BATCHES, MEMSET, SIV_OPEN, WIPE_STACK,
-                    WIPE_WORDS, call, exported, function, low, second)
+from faults import (BATCHES, BLOCKS, BLOCKS_TO, BLOCKS_WITH, CBC, CCM_OPEN, CCM_STREAM, ENTRY, GCTR, IN_BATCHES, MEMSET, SIV_OPEN, UNWRAP,
+                    WIPE_STACK, WIPE_WORDS, call, exported, function, low, second)
 
 ENCRYPT, DECRYPT = (function("aes_hybrid::closures::call_to_" + name) for name in ("encrypt", "decrypt"))
 KEYSTREAM = exported("aes_add_keystream")
@@ -31,6 +31,13 @@ CHAIN, HASH_PIECE = function("cmac::chaining::chain"), function("gcm::hash_room:
 AGAIN = r"(?P<before>%s[\s\S]*?)(?P<call>%s)" % (CCM_STREAM, CCM_STREAM)
 STANDS_STILL = r"(shrq\t\$4, %(r\w+)\n)", r"\1\tcmpq\t$1048576, %\2\n\tjb\t77f\n\tmovq\t$1048576, %\2\n77:\n"
 FEWER_ZEROS = MEMSET, r"\tcmpq\t$1048576, %rdx\n\tjbe\t77f\n\tmovl\t$1048576, %edx\n77:\n\g<0>"
+# In key wrap: the number of a step, in W and in its inverse; in a turn of W the end of the loop, with the register of the next semiblock,
+# of which the first one is on the stack; in CCM, a length of additional data is compared with that for which it takes more bytes.
+WRAP_TURNS, UNWRAP_TURNS = (function("key_wrap::steps::%swrap_in_place" % un) for un in ("", "un"))
+NUMBER = r"\tmovq\t%r\w+, %rax\n(?=\tbswapq\t%rax\n)"
+TURN = r"(\taddq\t\$8, %(?P<at>r\w+)\n\tdecq\t%(?P<left>r\w+)\n)\tjne\t(?P<loop>\S+)\n"
+WRAP, WRAP_PADDED, UNWRAP_PADDED = (function("key_wrap::" + name) for name in ("wrapping::wrap", "padded::wrap_padded", "padded::unwrap_padded"))
+CCM_TAG, IN_TWO = function("ccm::message::put_tag"), r"cmpq\t\$65279, "
 ON_PLANES, MEMMOVE = call("aes_hybrid::batches::process_on_planes"), r"(\tcallq\t\*memmove.*\n)"
 
 
@@ -108,9 +115,30 @@ LONG_FAULTS = {
         ("a count of 32 bits in CMAC", CHAIN, r"incq\t%(r\w+)\n", in_32_bits("incl\t%%%s\n"), "any_cmac 1"),
         ("a block left out of CMAC after 2^20", CHAIN, r"(\tincq\t%(r\w+)\n)", r"\1\tcmpq\t$1048576, %\2\n\tjne\t77f\n\1\n77:\n",
          "any_cmac_verify 1 16"),
-        ("the same in CCM", CHAIN, r"(\tincq\t%(r\w+)\n)", r"\1\tcmpq\t$1048576, %\2\n\tjne\t77f\n\1\n77:\n", "any_ccm_seal 8 8 33 8"),
+        ("the same in CCM", CHAIN, r"(\tincq\t%(r\w+)\n)", r"\1\tcmpq\t$1048576, %\2\n\tjne\t77f\n\1\n77:\n", "any_ccm_seal 8 15 33 8"),
+        ("the length of 65,280 bytes of additional data in two bytes", CCM_TAG, IN_TWO, "cmpq\t$65280, ", "any_ccm_seal 8 16 33 8 6"),
+        ("that of 65,279 bytes in six", CCM_TAG, IN_TWO, "cmpq\t$65278, ", "any_ccm_seal 8 15 33 8"),
+        ("that of 2^32 bytes in six", CCM_TAG, r"(shrq\t\$)32(, %\w+\n\tjne)", r"\g<1>33\2", "any_ccm_seal 8 16 33 8 10"),
+        ("a step's number of 8 bits in key wrap", WRAP_TURNS, NUMBER, r"\g<0>\tandl\t$255, %eax\n", "any_wrap"),
+        ("one of 16 bits", WRAP_TURNS, NUMBER, r"\g<0>\tandl\t$65535, %eax\n", "any_wrap"),
+        ("one of 32 bits", WRAP_TURNS, NUMBER, r"\g<0>\tmovl\t%eax, %eax\n", "any_wrap"),
+        ("the same in unwrapping", UNWRAP_TURNS, NUMBER, r"\g<0>\tmovl\t%eax, %eax\n", "any_unwrap"),
+        ("a turn of key wrap that ends after 64 semiblocks", WRAP_TURNS, TURN, r"\1\tje\t77f\n\tmovq\t%\g<at>, %rax\n\tsubq\t(%rsp), %rax\n"
+         r"\tcmpq\t$512, %rax\n\tjne\t\g<loop>\n77:\n", "any_wrap"),
+        ("a semiblock that key wrap takes twice after 2^20", WRAP_TURNS, TURN, r"\tmovq\t%\g<at>, %rax\n\tsubq\t(%rsp), %rax\n"
+         r"\tcmpq\t$8388608, %rax\n\tjne\t77f\n\tsubq\t$8, %\g<at>\n77:\n\g<0>", "any_wrap_padded 9"),
+        ("a semiblock that unwrapping leaves out before the last 2^16", UNWRAP_TURNS, r"\taddq\t\$-8, %(r\w+)\n\tdecq\t%(r\w+)\n",
+         r"\g<0>\tcmpq\t$65536, %\2\n\tjne\t77f\n\taddq\t$-8, %\1\n\tdecq\t%\2\n77:\n\ttestq\t%\2, %\2\n", "any_unwrap_padded 3"),
+        ("a copy of 2^20 semiblocks at most in key wrap", WRAP, MEMMOVE,
+         r"\tcmpq\t$8388608, %rdx\n\tjbe\t77f\n\tmovl\t$8388608, %edx\n77:\n\1", "any_wrap"),
+        ("at most 2^20 semiblocks of zeros after a refusal", UNWRAP, "(%s)" % MEMSET,
+         r"\tcmpq\t$8388608, %rdx\n\tjbe\t77f\n\tmovl\t$8388608, %edx\n77:\n\1", "any_unwrap"),
+        ("a length of 16 bits in a padded key", WRAP_PADDED, r"\torq\t%rdx, %rax\n", r"\tmovzwl\t%dx, %r10d\n\torq\t%r10, %rax\n",
+         "any_wrap_padded 9"),
+        ("one of 24 bits looked at in unwrapping", UNWRAP_PADDED, r"\tmovl\t%(\w+), 4\(%(\w+)\)\n(?=\tjmp)",
+         r"\tandl\t$0xffffff, %\1\n\g<0>", "any_unwrap_padded 3"),
         ("a refused text of more than 2^20 bytes not encrypted again", CCM_OPEN, AGAIN,
-         r"\g<before>\tcmpq\t$1048576, %r8\n\tja\t77f\n\g<call>77:\n", "any_ccm_open 8 8 33 8"),
+         r"\g<before>\tcmpq\t$1048576, %r8\n\tja\t77f\n\g<call>77:\n", "any_ccm_open 8 15 33 8"),
         ("another status for 2^32 blocks and more under a key", BLOCKS_WITH, ENTRY,
          r"\1\tmovq\t%rcx, %rax\n\tshrq\t$32, %rax\n\tje\t77f\n\tmovl\t$2, %eax\n\tretq\n77:\n", "any_blocks encrypt 1 _with"),
     ],

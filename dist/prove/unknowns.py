@@ -194,7 +194,7 @@ class Unknowns:
         if not (a and a.writable and a.is_untouched() and self.implied(a.size - count) and self.implied(count)):
             raise Unproved("fills a number of bytes that isn't known, and not of a whole buffer")
         whole, rest = divmod(count, a.unit) if is_int(count) else count.divided(a.unit)
-        if (a.want(self, whole) if callable(a.want) else a.want) != byte * a.unit or a.backwards and rest:
+        if a.want != byte * a.unit or a.backwards and rest:
             raise Unproved("a number of bytes that isn't known is overwritten, and not as it has to be")
         if a.backwards:
             a.end = a.size - count
