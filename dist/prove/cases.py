@@ -84,7 +84,7 @@ TAGS = 4, 8, 12, 13, 14, 15
 WHOLE = "48 a + r bytes of additional data and 768 n + s of text for every a and n: r, s"
 NONCE = "; then the way, and r of a nonce of 48 k + r bytes for every k, in the place of one of 12 bytes"
 OTHER_NONCES = (0, 129, "", 33), (13, 33, "_to", 0)
-PIECE = "%d n + r bytes for every n after 16 k + s for every k: s, r"
+PIECE = "%d n + r bytes for every n after 16 k + s for every k, and any J_0 of which the counter doesn't wrap in the text: s, r"
 PHASES = {"encrypt": gcm.ENCRYPTING, "verify": gcm.VERIFYING, "decrypt_unverified": gcm.VERIFYING}
 STATE = "the phase, and how many bytes of additional data and of text came before"
 
@@ -102,7 +102,7 @@ GCM_ROWS = [
     Row("seal", "the lengths of additional data and text, and a nonce of another length", few=[(13, 33), (13, 33, (), "_to")],
         full=[(0, 0), (1, 1), (49, 1), (0, 0, (), "_to"), *((5, 20, nonce) for nonce in NONCES)],
         more=[(0, 449, gcm.UNKNOWN), *((5, 40, nonce) for nonce in NONCES), *((5, n, (60, None)) for n in (0, 129, 300))],
-        other=[(13, 33), (0, 0, (), "_to")]),
+        other=[(13, 33), (0, 129), (0, 0, (), "_to")]),
     Row("open", "the same, also of what is refused", few=[(13, 33), (13, 33, (), "_to")],
         full=[(0, 0), (0, 0, (), "_to"), (3, 20, gcm.UNKNOWN)], more=[(3, 20, nonce) for nonce in NONCES[1:]],
         other=[(13, 33), (0, 0, (), "_to")]),
@@ -130,10 +130,10 @@ GCM_ROWS = [
            [(gcm.VERIFYING, 16, 7, gcm.UNKNOWN, n) for n in TAGS if n != 12])))]
 
 SIV_ROWS = [
-    Row("any_seal", WHOLE, full=[(13, 33)], first=[(16, 256), (13, 33, "_to")],
-        more=[(0, 0), (1, 1), (13, 81), (20, 145), (13, 225), (0, 450), (33, 48), (47, 767)]),
+    Row("any_seal", WHOLE + "; both may have 2^36 bytes", full=[(33, 77)], first=[(16, 256), (13, 33, "_to")],
+        more=[(13, 33), (0, 0), (1, 1), (13, 81), (20, 145), (13, 225), (0, 450), (33, 48), (47, 767)]),
     Row("any_open", WHOLE + "; also of what is refused", full=[(13, 33, "_to")], first=[(13, 225)],
-        more=[(13, 33), (1, 1), (13, 81), (20, 145), (0, 450), (33, 48), (47, 767), (0, 0, "_to")]),
+        more=[(13, 33), (1, 1), (33, 77), (13, 81), (20, 145), (0, 450), (33, 48), (47, 767), (0, 0, "_to")]),
     Row("seal", "the lengths of additional data and text", few=[(13, 33), (13, 33, "_to")], other=[(13, 33), (13, 33, "_to")]),
     Row("open", "the same, also of what is refused", few=[(1, 1), (13, 33, "_to")], other=[(1, 1), (13, 33, "_to")])]
 
