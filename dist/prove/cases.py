@@ -50,12 +50,12 @@ AES_ROWS = [
     Row("cbc_decrypt", "the number of blocks", few=[9], full=[0, 1], other=[1]),
     Row("any_wrap", "a key of every number of semiblocks", full=ONCE),
     Row("any_unwrap", "a key of every number of semiblocks, also of what is refused", full=ONCE),
-    Row("any_wrap_padded", "a key of 8 n + r bytes for every n: r", full=[9], first=[3, 16], more=range(1, 17)),
+    Row("any_wrap_padded", "a key of 16 n + r bytes for every n: r", full=[3], first=[9, 16], more=range(1, 17)),
     Row("any_unwrap_padded", "a key of 8 n + r bytes for every n, also of what is refused: r", full=[3], first=[1, 8], more=range(1, 9)),
     Row("wrap", "the number of semiblocks", few=[2], other=[2]),
     Row("unwrap", "the number of semiblocks, also of what is refused", few=[3], other=[3]),
-    Row("wrap_padded", "the number of bytes", few=[9], full=[1, 8], other=[1]),
-    Row("unwrap_padded", "the number of bytes, also of what is refused", few=[9], full=[1, 8], other=[1]),
+    Row("wrap_padded", "the number of bytes", few=[9], other=[1]),
+    Row("unwrap_padded", "the number of bytes, also of what is refused", few=[9], other=[1]),
     Row("unwrap_padded_refused", "a wrong length, of a key of so many semiblocks: any byte of the three higher ones; one more, one less, 2^k "
         "and 2^k - 1 for every so many k", full=[(1, 8)], first=[(2, 16)], more=[(n, 1) for n in range(1, 4)]),
     Row("any_cmac", "16 n + r bytes for every n: r", few=[1], full=[16], first=[12, 15], more=range(1, 17)),
@@ -63,13 +63,16 @@ AES_ROWS = [
         more=[(4, tag) for tag in modes.CMAC_TAGS]),
     Row("cmac", "the number of bytes", full=[0, 1, 16], other=[1]),
     Row("cmac_verify", "the number of bytes and the tag's length, also of what is refused", full=[(0, 4)], other=[(0, 4)]),
-    *(Row(call, "16 a + b bytes of additional data, or none if b is 0, and a text of 256 n + r bytes for every a and n: the lengths of nonce, "
-          "b, r, tag, and of the encoded length of additional data, in the place of 2", full=full, first=first,
-          more=[(13, 0, 16, 16), (12, 2, 255, 4), (7, 15, 1, 14, 6), (11, 9, 0, 6, 10), (8, 16, 33, 8, 6), (8, 16, 33, 8, 10)])
-      for call, full, first in (("any_ccm_seal", [(8, 15, 33, 8)], [(8, 16, 33, 8, 6), (8, 16, 33, 8, 10)]), ("any_ccm_open", [(8, 15, 33, 8)], ()))),
+    *(Row(call, "16 a + b bytes of additional data, none if b is 0, and 256 n + r of text for every a and n: the lengths of nonce, b, r, tag; "
+          "the encoded length of additional data takes 2 bytes, or 6 or 10 if it says so", full=full, first=first,
+          more=[(13, 0, 16, 16), (9, 15, 255, 4, 6), (11, 9, 0, 6, 10), (8, 16, 33, 8, 6), (8, 16, 33, 8, 10)])
+      for call, full, first in (("any_ccm_seal", (), [(8, 15, 33, 8), (8, 16, 33, 8, 6), (8, 16, 33, 8, 10)]),
+                                ("any_ccm_open", [(8, 15, 33, 8)], ()))),
+    *(Row(call, "the same", more=[(12, rest, 15 * rest, 12) for rest in range(17)]) for call in ("any_ccm_seal", "any_ccm_open")),
     *(Row(call, "the lengths of nonce, additional data, text and tag", few=[(13, 8, 33, 8)],
-          full=[(7, 0, 1, 4), (12, 14, 16, 16), (8, 15, 17, 6), (13, 33, 0, 14)],
-          more=[(nonce, 20, 40, tag) for nonce in modes.NONCES for tag in modes.CCM_TAGS], other=[(7, 0, 1, 4)])
+          full=[(7, 0, 1, 4), (13, 33, 0, 14)],
+          more=[(12, 14, 16, 16), (8, 15, 17, 6), *((nonce, 20, 40, tag) for nonce in modes.NONCES for tag in modes.CCM_TAGS)],
+          other=[(7, 0, 1, 4)])
       for call in ("ccm_seal", "ccm_open")),
     *ROUNDS]
 
@@ -113,12 +116,14 @@ GCM_ROWS = [
         full=[(3, 100), (0, 0), (0, 5), (32, 48), (2 ** 32 - 3, 13), (MANY, 7)], other=[(3, 13)]),
     Row("piece", "the call; " + STATE + "; the number of bytes", few=[(call, gcm.ADDITIONAL, 5, 0, 3) for call in PHASES],
         full=[*((call, phase, 5, 20, 50) for call, phase in PHASES.items()), *((call, gcm.ADDITIONAL, 0, 0, 16) for call in PHASES),
-              *((call, phase, 5, 7, 9) for call, phase in PHASES.items()), *((call, phase, 0, 0, 0) for call, phase in PHASES.items()),
+              *((call, phase, 5, 7, 9) for call, phase in PHASES.items())],
+        other=[(call, gcm.ADDITIONAL, 5, 0, 3) for call in PHASES]),
+    Row("piece", "the same, of no bytes, after many bytes, and where the counter wraps",
+        full=[*((call, phase, 0, 0, 0) for call, phase in PHASES.items()),
               ("encrypt", gcm.ENCRYPTING, 5, 2 ** 32 - 5, 20, (12,)), ("verify", gcm.VERIFYING, MANY, MANY, 9, (12,)),
               ("encrypt", gcm.ADDITIONAL, 5, 0, 9, WRAPS), ("encrypt", gcm.ENCRYPTING, 5, 39, 9, WRAPS),
               ("decrypt_unverified", gcm.VERIFYING, 5, 7, 9, WRAPS)],
-        more=[("encrypt", gcm.ENCRYPTING, 5, 39, 50, WRAPS), ("decrypt_unverified", gcm.VERIFYING, 5, 7, 50, WRAPS)],
-        other=[(call, gcm.ADDITIONAL, 5, 0, 3) for call in PHASES]),
+        more=[("encrypt", gcm.ENCRYPTING, 5, 39, 50, WRAPS), ("decrypt_unverified", gcm.VERIFYING, 5, 7, 50, WRAPS)]),
     Row("decrypt", "the length of the text, how many bytes of it came before, and how many come", few=[(100, 7, 20)],
         full=[(100, 32, 68), (2 * MANY, MANY - 5, 20, (12,)), (100, 39, 9, WRAPS)], more=[(100, 0, 16), (100, 39, 50, WRAPS)], other=[(100, 7, 20)]),
     *(Row(call, STATE + also, few=[(phase, 16, 7), *few], other=[(phase, 16, 7), *few],
@@ -131,7 +136,7 @@ GCM_ROWS = [
 SIV_ROWS = [
     Row("any_seal", WHOLE + "; both may have 2^36 bytes", full=[(33, 77)], first=[(16, 256), (13, 33, "_to")],
         more=[(13, 33), (0, 0), (1, 1), (13, 81), (20, 145), (13, 225), (0, 450), (33, 48), (47, 767)]),
-    Row("any_open", WHOLE + "; also of what is refused", full=[(13, 33, "_to")], first=[(13, 225)],
+    Row("any_open", WHOLE + "; also of what is refused", first=[(13, 33, "_to"), (13, 225)],
         more=[(13, 33), (1, 1), (33, 77), (13, 81), (20, 145), (0, 450), (33, 48), (47, 767), (0, 0, "_to")]),
     Row("seal", "the lengths of additional data and text", few=[(13, 33), (13, 33, "_to")], other=[(13, 33), (13, 33, "_to")]),
     Row("open", "the same, also of what is refused", few=[(1, 1), (13, 33, "_to")], other=[(1, 1), (13, 33, "_to")])]
@@ -157,7 +162,7 @@ def riscv_rows(word):
         Row("cmac", "the number of bytes", few=[0, 17]),
         Row("cmac_verify", "the number of bytes and the tag's length, also of what is refused", few=[(17, 16), (0, 4)]),
         *(Row(call, "the lengths of nonce, additional data, text and tag",
-              few=[(7, 0, 1, 4), *[(13, 8, 33, 8)] * narrow]) for call in ("ccm_seal", "ccm_open")),
+              few=[(7, 0, 1, 4)], more=[(13, 8, 33, 8)] * narrow) for call in ("ccm_seal", "ccm_open")),
         *ROUNDS]
 
 

@@ -146,11 +146,14 @@ LONG_FAULTS = {
         ("a count of 32 bits that wraps around", IN_BATCHES, r"addq\t\$16, %(r\w+)\n", in_32_bits("addl\t$16, %%%s\n"), CASE),
         ("a batch left out at 2^20 blocks", IN_BATCHES, r"(\taddq\t\$16, %(r\w+)\n\taddq\t\$256, %(r\w+).*\n)",
          r"\1\tcmpq\t$1048576, %\2\n\tjne\t77f\n\taddq\t$16, %\2\n\taddq\t$256, %\3\n77:\n", CASE),
+        ("a step's number of 16 bits in unwrapping", UNWRAP_TURNS, NUMBER, r"\g<0>\tandl\t$65535, %eax\n", "any_unwrap"),
     ],
     "aarch64/aes": [
         ("a count of 32 bits that wraps around", IN_BATCHES, r"add\tx(\d+), x\1, #8\n", r"add\tw\1, w\1, #8\n", CASE),
         ("a batch left out at 2^20 blocks", IN_BATCHES, r"(\tadd\t(x\d+), \2, #8\n)(?=[\s\S]*?\tadd\t(x\d+), \3, #128\n)",
          r"\1\tcmp\t\2, #256, lsl #12\n\tb.ne\t77f\n\tadd\t\2, \2, #8\n\tadd\t\3, \3, #128\n77:\n", CASE),
+        ("a step's number of 32 bits in key wrap", WRAP_TURNS, r"\trev\tx9, x(\d+)\n", r"\tmov\tw9, w\1\n\trev\tx9, x9\n", "any_wrap_padded 3"),
+        ("the length of 65,279 bytes of additional data in six", CCM_TAG, r"cmp\tx(\d+), #254\n", r"cmp\tx\1, #253\n", "any_ccm_open 8 15 33 8"),
     ],
     "x86_64/gcm": [
         ("bits 32 to 39 of a text's length left out of the tag", PUT_TAG, r"shrq\t\$29, %(r\w+)\n",
