@@ -89,7 +89,8 @@ def prove(domain, program, call, seed=None):
     m.facts, m.any_length, ends = call.facts, call.any_length, []
     for window in (r for r in regions.values() if isinstance(r, Window)):
         window.waits = call.later is not None
-    cells = [c for b in call.buffers if isinstance(b, Stream) for c in {c for x in b.content for c in domain.cells(x)}]
+    streams = [b for b in call.buffers if isinstance(b, Stream)] if call.later is None else []  # (else their bytes are of another domain)
+    cells = [c for b in streams for c in {c for x in b.content for c in domain.cells(x)}]
     if len(cells) > len({*cells}):
         raise Unproved("is about two buffers of the same bytes")
     if refuted(call.facts):
