@@ -1,8 +1,11 @@
-# What ./c-check and openssl/provider/check share: trying commands, each of whose output goes to $work/log, and counting how they end.
-# shellcheck shell=bash disable=SC2154 # whoever reads this sets work
-passed=0 failed=0
+# What the checks share: trying commands, and adding up how they end; and building programs over the libraries that are installed below
+# $prefix, by $CC, which $RUN runs if the processor is another one.
+# shellcheck shell=bash disable=SC2034,SC2154 # others read and set some of these
+passed=0 failed=0 prefix=${prefix:-} cc=${CC:-cc}
+work=$(mktemp -d) && chmod 755 "$work" || exit 2
+trap 'rm -rf "$work"' EXIT
 
-# Runs a command and reports how it ended.
+# Runs a command and reports how it ended. Its output goes to $work/log.
 try() { # WHAT COMMAND ..
     local what=$1
     shift
@@ -16,8 +19,49 @@ try() { # WHAT COMMAND ..
     fi
 }
 has() { command -v "$1" > /dev/null || { echo "skipped: $2 ($1 is not installed)"; return 1; }; } # PROGRAM WHAT
+try_by() { ! has "$1" "$2" || try "${@:2}"; } # PROGRAM WHAT COMMAND ..
 end() {
     echo "$passed passed, $failed failed"
     [[ $failed -eq 0 ]]
     exit
 }
+# Runs a part, and adds what its last line says. A part that ends in another way has failed, whatever it said.
+part() { # COMMAND ..
+    local status=0
+    echo "== $*"
+    "$@" 2>&1 | tee "$work/part" || status=$?
+    cat "$work/part" >> "$work/parts"
+    if [[ $(tail -n 1 "$work/part") =~ ^([0-9]+)\ (passed|proved|refused),\ ([0-9]+)\ (failed|missed)$ ]]; then
+        passed=$((passed + BASH_REMATCH[1])) failed=$((failed + BASH_REMATCH[3]))
+        [[ $status -eq 0 || ${BASH_REMATCH[3]} -gt 0 ]] && return
+    fi
+    echo "failed: $* ended with status $status, and not with a line 'N passed, M failed' that says why"
+    failed=$((failed + 1))
+}
+
+strict=(-Wall -Wextra -pedantic -Wconversion -Wshadow -Werror -O2) link=() files=()
+# Builds a program with what `link` names, and runs it with the words of `files`.
+program() { # COMPILER SOURCE FLAGS ..
+    "$1" "${strict[@]}" -I"$prefix/include" "${@:2}" "${link[@]}" -o "$work/program" && ${RUN:-} "$work/program" "${files[@]}"
+}
+hwcaps=lib/glibc-hwcaps/x86-64-v3
+soname() { basename "$(readlink "$prefix/lib/lib$1.so")"; } # LIBRARY
+statically() { link=("$prefix/lib/lib$1.a"); } # LIBRARY
+# A command fails with this status and these words on the standard error, and gives nothing out.
+says() { # STATUS WORDS COMMAND ..
+    local status=0
+    "${@:3}" > "$work/answer" 2> "$work/said" || status=$?
+    [[ $status -eq $1 && ! -s $work/answer ]] && grep -e "$2" "$work/said" && return
+    echo "${*:3} ends with $status:" && cat "$work/said" && return 1
+}
+into_a_full_device() { "$@" > /dev/full; } # COMMAND ..
+# Each failure of a program that seals a message has words of its own.
+message_fails() { # COMMAND ..
+    head -c 31 "$work/key" > "$work/short"
+    says 2 '^usage: message' "$@" && says 1 '^message.*nowhere' "$@" "$work/nowhere" && says 1 '^message.*32' "$@" "$work/short" &&
+        says 1 "^message.* \\(device\\|can't be written\\)$" into_a_full_device "$@" "$work/key"
+}
+head -c 32 /dev/urandom > "$work/key"
+# NIST's vectors of GCM, CBC and key wrap, if they are installed.
+folder=$(python3 -c 'import cryptography_vectors as v; print(v.__path__[0])' 2> /dev/null) || folder=/usr/lib/python3/dist-packages/cryptography_vectors
+readarray -t vectors < <(ls "$folder"/ciphers/AES/GCM/gcm*.rsp "$folder"/ciphers/AES/CBC/*.rsp "$folder"/keywrap/kwtestvectors/KW{,P}_A?_???.txt 2> /dev/null)

@@ -1,4 +1,4 @@
-/* Two programs send each other messages over two streams, here pipes with a name; this one speaks with conversation.py too.
+/* Two programs send each other messages over two streams, here pipes with a name; this one can also talk to conversation.py.
  *
  *   mkfifo there back
  *   conversation answer KEY there back &         answers each text with that text
@@ -113,7 +113,7 @@ static int ask(struct side *it, char **texts)
     for (; *texts; texts++)
         if (!say(it, *texts) || !hear(it, answer) || puts(answer) < 0)
             return 0;
-    return say(it, "") && hear(it, answer) && (!*answer || fails("the other side", "it goes on"));
+    return say(it, "") && hear(it, answer) && (!*answer || fails("the other side", "it sent more after the end"));
 }
 
 static int answer(struct side *it)

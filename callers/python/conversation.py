@@ -64,7 +64,7 @@ def ask(side: Side, texts: List[str]) -> None:
         print(side.hear().decode())
     side.say(b"")
     if side.hear():
-        raise ValueError("the other side: it goes on")
+        raise ValueError("the other side: it sent more after the end")
 
 
 def answer(side: Side) -> None:

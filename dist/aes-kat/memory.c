@@ -69,7 +69,7 @@ __attribute__((constructor)) static void answer_options(void)
         print_and_end("aes-kat " FOTSGURE_AES_VERSION_TEXT);
     if (strcmp(word, "--help") == 0 || strcmp(word, "-h") == 0)
         print_and_end("usage: aes-kat < FILE\n"
-                      "Answers each line with one line; words are parted by one space, in hexadecimal:\n"
+                      "Answers each line with one line; one space separates words, in hexadecimal:\n"
                       "  enc KEY [BLOCKS], dec KEY [BLOCKS]    encrypts or decrypts up to 64 blocks, joined\n"
                       "  sched KEY                             the round keys\n"
                       "  round, invround BLOCK ROUND_KEY       a round of the cipher, or of its inverse\n"

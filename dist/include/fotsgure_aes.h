@@ -22,7 +22,7 @@
  *
  * NULL is allowed for every pointer to bytes or blocks that has a count or a length beside it, if that is 0.
  *
- * In return, every call returns, and writes nothing but what its comment says. No call allocates, prints, aborts, blocks,
+ * In return, every call returns, and writes only what its comment says. No call allocates, prints, aborts, blocks,
  * or keeps a pointer. The library has no state of its own, except one word on x86-64: a library that holds several builds
  * keeps there which of them the processor runs. A call that doesn't return FOTSGURE_AES_DONE has changed nothing. There
  * are three exceptions: fotsgure_aes_set_key leaves a struct without a key, and fotsgure_aes_unwrap and
@@ -33,8 +33,8 @@
  * they keep. Reviewed by hand and measured: that these calls keep no other copy of the schedule, that no call allocates,
  * that the stack suffices, and what calls read of an unwritten struct.
  *
- * Copies and threads: a struct fotsgure_aes may be copied and moved as bytes, and every copy is as secret as the key
- * and is wiped by itself. Any number of threads may use one struct at the same time by the calls that take it as const.
+ * Copies and threads: a struct fotsgure_aes may be copied and moved as bytes; every copy is as secret as the key and has
+ * to be wiped too. Any number of threads may use one struct at the same time by the calls whose parameter is const.
  * A struct fotsgure_aes_ctr belongs to one thread at a time; a copy of it would give out the same keystream again.
  *
  * A block cipher alone protects no message, and counter mode doesn't show whether a message was changed. For
@@ -42,7 +42,7 @@
 #ifndef FOTSGURE_AES_H
 #define FOTSGURE_AES_H
 
-/* It needs C99 or C++11. */
+/* This header needs C99 or C++11. */
 #include <stddef.h>
 #include <stdint.h>
 
@@ -278,7 +278,7 @@ FOTSGURE_AES_CHECK enum fotsgure_aes_status fotsgure_aes_add_keystream_with(cons
     struct fotsgure_aes_ctr *FOTSGURE_AES_ALONE ctr,
     uint8_t *FOTSGURE_AES_ALONE bytes, size_t count) FOTSGURE_AES_NOEXCEPT;
 
-/* Says in words what a status means: for logs, and for people. */
+/* Returns what a status means, in words: for logs, and for people. */
 static inline const char *fotsgure_aes_status_text(enum fotsgure_aes_status status) FOTSGURE_AES_NOEXCEPT
 {
     switch (status) {
@@ -296,8 +296,8 @@ static inline const char *fotsgure_aes_status_text(enum fotsgure_aes_status stat
     return "this header doesn't know the status";
 }
 
-/* NULL with a count of 0: the library takes no NULL, so each call below passes an address that is not NULL instead,
- * and that nothing reads or writes. Bindings that bypass this header have to do the same. NULL with another count is a
+/* NULL with a count of 0: the library accepts no NULL, so each call below passes another address instead, which
+ * nothing reads or writes. Bindings that bypass this header have to do the same. NULL with another count is a
  * mistake: unless the call returns a status first, it reads or writes at address 16, where most systems end the program. A
  * pointer to a function, and a name in parentheses, is the library's call itself. */
 static inline const uint8_t *fotsgure_aes_not_null(const uint8_t *bytes) FOTSGURE_AES_NOEXCEPT

@@ -51,8 +51,8 @@ inline std::size_t semiblocks(std::size_t length) { return whole(length, 8, "who
 
 } // namespace detail
 
-// A key of 16, 24 or 32 bytes. The destructor wipes it. It can't be copied, so that no copy is forgotten. It can be moved, and
-// what it was moved from has no key then: its calls throw std::logic_error. Threads may share one.
+// A key of 16, 24 or 32 bytes. The destructor wipes it. It can't be copied, so that no copy is forgotten. It can be moved: the
+// old object then has no key, and its calls throw std::logic_error. Threads may share one.
 class Aes {
 public:
     Aes(const std::uint8_t *key, std::size_t length) { detail::check(fotsgure_aes_set_key(&aes, key, length)); }
@@ -113,7 +113,7 @@ private:
 };
 
 // Counter mode under a key, which has to outlive it. It can't be copied: a copy would give out the same keystream again.
-// It can be moved, and what it was moved from has no key then: `apply` throws std::logic_error there.
+// It can be moved: the old object then has no key, and its `apply` throws std::logic_error.
 class Ctr {
 public:
     Ctr(const Aes &under, const Block &iv) : key(&under) {

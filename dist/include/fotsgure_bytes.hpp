@@ -42,14 +42,14 @@ public:
         constexpr bool is_array_of_char =
             std::is_array_v<Array> && std::is_same_v<std::remove_cv_t<std::remove_extent_t<Array>>, char>;
         static_assert(!is_array_of_char,
-            "an array of char may end in a zero that isn't part of the text: take a std::string or a std::string_view");
+            "an array of char may end in a zero that isn't part of the text: use a std::string or a std::string_view");
         static_assert(detail::Elements<Array>::value, "a pointer needs a length beside it: {pointer, length}");
         if constexpr (detail::Elements<Array>::value && !is_array_of_char) {
             constexpr bool is_writable = std::is_const_v<Byte> || !std::is_const_v<Element>;
             constexpr bool fits = std::is_trivially_copyable_v<Element> && !std::is_same_v<std::remove_cv_t<Element>, bool> &&
                 (sizeof(Element) == 1 || sizeof(Element) == Largest);
             static_assert(is_writable, "the call writes these bytes, and they are const");
-            static_assert(fits, "its elements are single bytes, or where blocks are taken blocks of sixteen");
+            static_assert(fits, "its elements are single bytes or, in calls on blocks, have sixteen bytes");
             if constexpr (is_writable && fits) {
                 start = reinterpret_cast<Byte *>(std::data(data));
                 length = std::size(data) * sizeof(Element);

@@ -5,10 +5,10 @@
  * checks a call from C.
  *
  * For every call, the caller must ensure:
- *  - In GCM no nonce twice under one key, counted over all messages, programs and machines: a second use gives away the
- *    key of the tags and the sum of two messages. fotsgure_gcm_seal_next counts nonces up. Random nonces have 12 bytes or
- *    more. If any nonce of a key is random, or has another length than 12 bytes, use a new key before 2^32 messages
- *    (8.2.2, 8.3). In AES-GCM-SIV, the calls fotsgure_gcm_siv_.., a nonce that comes twice only shows whether the two
+ *  - In GCM no nonce is used twice under one key, over all messages, programs and machines: a second use gives away the
+ *    key of the tags and the sum of two messages. fotsgure_gcm_seal_next counts nonces up. Random nonces have 12 bytes
+ *    or more. At most 2^32 messages are allowed under a key if any of its nonces is random, or doesn't have 12 bytes
+ *    (8.2.2, 8.3). In AES-GCM-SIV, the calls fotsgure_gcm_siv_.., a nonce that is used twice only shows whether the two
  *    messages, with their additional data, are the same.
  *  - Valid pointers. A pointer to a struct points to a whole one, aligned as C aligns it; every other pointer points to
  *    as many bytes as the length beside it says, or as its array has. Bytes need no alignment. What a call reads has
@@ -29,7 +29,7 @@
  *
  * NULL is allowed for every pointer to bytes that has a length beside it, if that is 0.
  *
- * In return, every call returns, and writes nothing but what its comment says. No call allocates, prints, aborts, blocks,
+ * In return, every call returns, and writes only what its comment says. No call allocates, prints, aborts, blocks,
  * or keeps a pointer. The library has no state of its own, except one word on x86-64: a library that holds several builds
  * keeps there which of them the processor runs. Proved: what calls return and write, and that they return. Reviewed by
  * hand and measured: the rest. fotsgure_gcm_siv_seal_random is C around a proved call, and tested: it asks the system for
@@ -37,17 +37,18 @@
  *
  * A call that doesn't return FOTSGURE_GCM_DONE has changed nothing. There are two kinds of exceptions: calls that set a
  * key leave a struct without a key, and fotsgure_gcm_open_to and fotsgure_gcm_siv_open_to leave zeros if they return
- * REFUSED. If several statuses apply, a call returns the first of them in the order of its comment. Whether a tag is right
- * is all that a status says of the bytes of keys and of messages.
+ * REFUSED. If several statuses apply, a call returns the first of them in the order of its comment. A status depends on
+ * the bytes of keys and of messages only by whether a tag is right.
  *
  * Copies and threads: a struct fotsgure_gcm or fotsgure_gcm_siv may be copied and moved as bytes; every copy is as
- * secret as the key and is wiped by itself. Any number of threads may use one struct at the same time by the calls that
- * take it as const. A struct fotsgure_gcm_counter belongs to one thread at a time: a copy of it would give out the same
- * nonces again. So does a struct fotsgure_gcm_message: a copy of it would encrypt another text under the same nonce. */
+ * secret as the key and has to be wiped too. Any number of threads may use one struct at the same time by the calls
+ * whose parameter is const. A struct fotsgure_gcm_counter belongs to one thread at a time: a copy of it would give out
+ * the same nonces again. A struct fotsgure_gcm_message also belongs to one thread at a time: a copy of it would encrypt
+ * another text under the same nonce. */
 #ifndef FOTSGURE_GCM_H
 #define FOTSGURE_GCM_H
 
-/* It needs C99 or C++11. */
+/* This header needs C99 or C++11. */
 #include <stddef.h>
 #include <stdint.h>
 
@@ -132,15 +133,15 @@ struct fotsgure_gcm {
 };
 
 /* The next nonce of a key: 12 bytes, one number, highest byte first. Begin with zeros. If several senders share a key,
- * give each a number of its own in the first four bytes, and zeros in the other eight: no call sees where the range of
- * a sender ends. After each call, and before the message is sent, store `next`: after a restart, begin with what was
- * stored. fork() copies a counter too: then only one of the two processes may go on with it. The last number of 12
- * bytes is never used. */
+ * give each a different number in the first four bytes, and zeros in the other eight: no call sees where the range of a
+ * sender ends. After each call, and before the message is sent, store `next`: after a restart, begin with what was
+ * stored. fork() copies a counter too: afterwards only one of the two processes may use it. The last number of 12 bytes
+ * is never used. */
 struct fotsgure_gcm_counter {
     uint8_t next[FOTSGURE_GCM_NONCE];
 };
 
-/* A message of which some has come; as secret as the key. Read and write it by the calls below alone. */
+/* The state of a message in pieces; as secret as the key. Read and write it by the calls below alone. */
 struct fotsgure_gcm_message {
     uint64_t additional; /* bytes that have come */
     uint64_t text;
@@ -245,8 +246,8 @@ FOTSGURE_GCM_CHECK enum fotsgure_gcm_status fotsgure_gcm_open_to(const struct fo
  * nonce. */
 
 /* Begins a message under a nonce, which has any length. *message may be uninitialized: none of it is read, and nothing
- * of what it held is left. A refused call leaves it as it was. It moves no counter: never give it the `next` of a
- * counter that other calls go on with, but use fotsgure_gcm_begin_next.
+ * of what it held is left. A refused call leaves it as it was. It changes no counter: to use the `next` of a
+ * counter, call fotsgure_gcm_begin_next instead.
  * NONCE_LENGTH or NO_KEY; else DONE. */
 FOTSGURE_GCM_CHECK enum fotsgure_gcm_status fotsgure_gcm_begin(const struct fotsgure_gcm *gcm,
     struct fotsgure_gcm_message *FOTSGURE_GCM_ALONE message,
@@ -317,10 +318,10 @@ FOTSGURE_GCM_CHECK enum fotsgure_gcm_status fotsgure_gcm_decrypt_unverified(cons
 /* Overwrites *message with zeros: there is no message then. It may be uninitialized. Copies are not wiped. */
 void fotsgure_gcm_wipe_message(struct fotsgure_gcm_message *message) FOTSGURE_GCM_NOEXCEPT;
 
-/* AES-GCM-SIV (RFC 8452). Each message has keys of its own, derived from the key and the nonce, and the cipher text
+/* AES-GCM-SIV (RFC 8452). Each message is encrypted under keys that are derived from the key and the nonce. The cipher text
  * depends on the tag, which depends on all of the plain text. So it is the mode for nonces that are drawn at random, or
- * that may come twice by mistake. Section 9 of the RFC says how many messages a key may have. There are no calls for
- * pieces: all of a message must be there before any of it is encrypted or decrypted. */
+ * that may be used twice by mistake. Section 9 of the RFC says how many messages a key may have. The mode has no calls for
+ * pieces: the whole message must be in memory before any of it is encrypted or decrypted. */
 
 /* Prepares a key in *siv (KeyExpansion, FIPS 197, 5.2). *siv may be uninitialized: none of it is read. Nothing of what
  * it held is left.
@@ -380,7 +381,7 @@ FOTSGURE_GCM_CHECK enum fotsgure_gcm_status fotsgure_gcm_siv_open_to(const struc
 /* Overwrites *siv with zeros: it then holds no key. It may be uninitialized. Copies are not wiped. */
 void fotsgure_gcm_siv_wipe(struct fotsgure_gcm_siv *siv) FOTSGURE_GCM_NOEXCEPT;
 
-/* Says in words what a status means: for logs, and for people. */
+/* Returns what a status means, in words: for logs, and for people. */
 static inline const char *fotsgure_gcm_status_text(enum fotsgure_gcm_status status) FOTSGURE_GCM_NOEXCEPT
 {
     switch (status) {
@@ -391,7 +392,7 @@ static inline const char *fotsgure_gcm_status_text(enum fotsgure_gcm_status stat
     case FOTSGURE_GCM_TAG_LENGTH: return "a tag has 16 bytes, or as many as are fixed";
     case FOTSGURE_GCM_TOO_LONG: return "there are more bytes than the standard allows, or than were verified";
     case FOTSGURE_GCM_REFUSED: return "the message was changed, or sealed under another key";
-    case FOTSGURE_GCM_NONCES_END: return "no nonce is left: take a new key";
+    case FOTSGURE_GCM_NONCES_END: return "no nonce is left: use a new key";
     case FOTSGURE_GCM_OUT_OF_TURN:
         return "the calls came in the wrong order, for example text after finish, or decrypt before accept";
     case FOTSGURE_GCM_NO_RANDOMNESS: return "the system gave no randomness for a nonce";
@@ -408,8 +409,8 @@ static inline void fotsgure_gcm_wipe_bytes(void *bytes, size_t count) FOTSGURE_G
         *byte++ = 0;
 }
 
-/* NULL with a length of 0: the library takes no NULL, so each call below passes an address that is not NULL instead,
- * and that nothing reads or writes. Bindings that bypass this header have to do the same. NULL with another length is a
+/* NULL with a length of 0: the library accepts no NULL, so each call below passes another address instead, which
+ * nothing reads or writes. Bindings that bypass this header have to do the same. NULL with another length is a
  * mistake: unless the call returns a status first, it reads or writes at address 16, where most systems end the program. A
  * pointer to a function, and a name in parentheses, is the library's call itself. */
 static inline const uint8_t *fotsgure_gcm_not_null(const uint8_t *bytes) FOTSGURE_GCM_NOEXCEPT

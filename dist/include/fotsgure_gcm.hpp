@@ -48,7 +48,7 @@ inline void check(fotsgure_gcm_status status) {
 } // namespace detail
 
 // A key of AES-GCM-SIV, of 16 or 32 bytes. The destructor wipes it. It can't be copied, so that no copy is forgotten. It can be
-// moved, and what it was moved from has no key then: its calls throw std::logic_error. Threads may share one.
+// moved: the old object then has no key, and its calls throw std::logic_error. Threads may share one.
 class GcmSiv {
 public:
     explicit GcmSiv(Bytes key) { detail::check(fotsgure_gcm_siv_set_key(&siv, key.data(), key.size())); }
@@ -71,7 +71,7 @@ public:
             text.data(), text.size(), made.second.data()));
         return made;
     }
-    // The same under a nonce of yours. One that comes twice only shows whether the two messages are the same.
+    // The same under a nonce of yours. One that is used twice only shows whether the two messages are the same.
     [[nodiscard]] Tag seal(const Nonce &nonce, Bytes additional, MutableBytes text) const {
         Tag tag{};
         detail::check(fotsgure_gcm_siv_seal(&siv, nonce.data(), additional.data(), additional.size(), text.data(),
@@ -88,8 +88,8 @@ private:
     fotsgure_gcm_siv siv{};
 };
 
-// The next nonce of a key of GCM. Begin with none under a new key, and after a restart with what was stored. It can't be
-// copied: a copy would give out the same nonces again. After fork() only one of the two processes may go on with it.
+// The next nonce of a key of GCM. Under a new key make it without an argument, and after a restart from what was stored. It
+// can't be copied: a copy would give out the same nonces again. After fork() only one of the two processes may use it.
 class Counter {
 public:
     Counter() = default;
@@ -100,7 +100,7 @@ public:
     Counter(const Counter &) = delete;
     Counter &operator=(const Counter &) = delete;
 
-    // Store it after each message, and before that is sent.
+    // Store it after each message, and before the message is sent.
     Nonce next() const {
         Nonce nonce{};
         for (std::size_t i = 0; i < nonce.size(); ++i)
@@ -143,7 +143,7 @@ public:
     }
     // Decrypts a piece in place of the text whose tag was right: the same text once more, from its beginning on.
     void decrypt(MutableBytes text) { detail::check(fotsgure_gcm_decrypt(gcm, &message, text.data(), text.size())); }
-    // Takes a piece as `verify` does and decrypts it at once. NOBODY HAS AUTHENTICATED IT: use nothing of it before `accept` has
+    // Adds a piece as `verify` does and decrypts it at once. NOBODY HAS AUTHENTICATED IT: use nothing of it before `accept` has
     // returned, and discard it if that throws.
     void decrypt_unverified(MutableBytes text) {
         detail::check(fotsgure_gcm_decrypt_unverified(gcm, &message, text.data(), text.size()));
@@ -163,7 +163,7 @@ private:
 };
 
 // A key of GCM, of 16, 24 or 32 bytes. The destructor wipes it. It can't be copied, so that no copy is forgotten. It can be
-// moved, and what it was moved from has no key then: its calls throw std::logic_error. Threads may share one.
+// moved: the old object then has no key, and its calls throw std::logic_error. Threads may share one.
 class Gcm {
 public:
     explicit Gcm(Bytes key) { detail::check(fotsgure_gcm_set_key(&gcm, key.data(), key.size())); }

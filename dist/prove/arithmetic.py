@@ -14,7 +14,7 @@ class Arithmetic:
             return list(value[:size])
         above = self.domain.undefined if isinstance(value, Number) else 0
         counter = self.any_length and isinstance(value, (Pointer, Number)) and self.counter
-        if counter and value.base == counter.word and value.offset != counter.first - 1:  # J_0 has a number of its own
+        if counter and value.base == counter.word and not (value.offset == 0 != counter.first and value.base in self.domain.words):  # (J_0)
             value = Placed(value, self.first_block + counter.first)
         return [self.domain.opaque((value, k)) for k in range(min(named, size))] + [above] * (size - named)
 

@@ -100,7 +100,7 @@ class Forms:
         """Any bits in the place of those of a byte that aren't constant. They count as key where they are left."""
         cell = self.of_forgotten.setdefault(number, len(self.names))
         if cell == len(self.names):
-            self.cell("forgotten byte %d" % number, False, KEY)
+            self.cell("forgotten byte %s" % (number,), False, KEY)
         return self.pack([x if x < 2 else self.bit(cell, table, 0) for x, table in zip(self.bits(byte), LINEAR)])
 
     def byte_of_cell(self, cell, block, tables=LINEAR):

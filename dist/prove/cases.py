@@ -50,7 +50,7 @@ AES_ROWS = [
     Row("cbc_decrypt", "the number of blocks", few=[9], full=[0, 1], other=[1]),
     Row("any_wrap", "a key of every number of semiblocks", full=ONCE),
     Row("any_unwrap", "a key of every number of semiblocks, also of what is refused", full=ONCE),
-    Row("any_wrap_padded", "a key of 16 n + r bytes for every n: r", full=[3, 16], first=[9], more=range(1, 17)),
+    Row("any_wrap_padded", "a key of 16 n + r bytes for every n: r", full=[3], first=[9, 16], more=range(1, 17)),
     Row("any_unwrap_padded", "a key of 8 n + r bytes for every n, also of what is refused: r", full=[3], first=[1, 8], more=range(1, 9)),
     Row("wrap", "the number of semiblocks", few=[2], other=[2]),
     Row("unwrap", "the number of semiblocks, also of what is refused", few=[3], other=[3]),
@@ -64,13 +64,14 @@ AES_ROWS = [
     Row("cmac", "the number of bytes", full=[0, 1, 16], other=[1]),
     Row("cmac_verify", "the number of bytes and the tag's length, also of what is refused", full=[(0, 4)], other=[(0, 4)]),
     *(Row(call, "16 a + b bytes of additional data, or none if b is 0, and a text of 256 n + r bytes for every a and n: the lengths of nonce, "
-          "b, r, tag, and of the encoded length of additional data, in the place of 2", full=full, first=first,
+          "b, r, tag, and of the encoded length of additional data, in the place of 2", first=first,
           more=[(13, 0, 16, 16), (9, 15, 255, 4, 6), (11, 9, 0, 6, 10), (8, 16, 33, 8, 6), (8, 16, 33, 8, 10),
                 *((12, rest, 15 * rest, 12) for rest in range(17))])
-      for call, full, first in (("any_ccm_seal", [(8, 15, 33, 8)], [(8, 16, 33, 8, 6), (8, 16, 33, 8, 10)]), ("any_ccm_open", [(8, 15, 33, 8)], ()))),
+      for call, first in (("any_ccm_seal", [(8, 15, 33, 8), (8, 16, 33, 8, 6), (8, 16, 33, 8, 10)]), ("any_ccm_open", [(8, 15, 33, 8)]))),
     *(Row(call, "the lengths of nonce, additional data, text and tag", few=[(13, 8, 33, 8)],
-          full=[(7, 0, 1, 4), (12, 14, 16, 16), (8, 15, 17, 6), (13, 33, 0, 14)],
-          more=[(nonce, 20, 40, tag) for nonce in modes.NONCES for tag in modes.CCM_TAGS], other=[(7, 0, 1, 4)])
+          full=[(7, 0, 1, 4), (13, 33, 0, 14)],
+          more=[(12, 14, 16, 16), (8, 15, 17, 6), *((nonce, 20, 40, tag) for nonce in modes.NONCES for tag in modes.CCM_TAGS)],
+          other=[(7, 0, 1, 4)])
       for call in ("ccm_seal", "ccm_open")),
     *ROUNDS]
 
@@ -84,7 +85,7 @@ TAGS = 4, 8, 12, 13, 14, 15
 WHOLE = "48 a + r bytes of additional data and 768 n + s of text for every a and n: r, s"
 NONCE = "; then the way, and r of a nonce of 48 k + r bytes for every k, in the place of one of 12 bytes"
 OTHER_NONCES = (0, 129, "", 33), (13, 33, "_to", 0)
-PIECE = "%d n + r bytes for every n after 16 k + s for every k: s, r"
+PIECE = "%d n + r bytes for every n after 16 k + s for every k, and any J_0 of which the counter doesn't wrap in the text: s, r"
 PHASES = {"encrypt": gcm.ENCRYPTING, "verify": gcm.VERIFYING, "decrypt_unverified": gcm.VERIFYING}
 STATE = "the phase, and how many bytes of additional data and of text came before"
 
@@ -102,7 +103,7 @@ GCM_ROWS = [
     Row("seal", "the lengths of additional data and text, and a nonce of another length", few=[(13, 33), (13, 33, (), "_to")],
         full=[(0, 0), (1, 1), (49, 1), (0, 0, (), "_to"), *((5, 20, nonce) for nonce in NONCES)],
         more=[(0, 449, gcm.UNKNOWN), *((5, 40, nonce) for nonce in NONCES), *((5, n, (60, None)) for n in (0, 129, 300))],
-        other=[(13, 33), (0, 0, (), "_to")]),
+        other=[(13, 33), (0, 129), (0, 0, (), "_to")]),
     Row("open", "the same, also of what is refused", few=[(13, 33), (13, 33, (), "_to")],
         full=[(0, 0), (0, 0, (), "_to"), (3, 20, gcm.UNKNOWN)], more=[(3, 20, nonce) for nonce in NONCES[1:]],
         other=[(13, 33), (0, 0, (), "_to")]),
@@ -130,10 +131,10 @@ GCM_ROWS = [
            [(gcm.VERIFYING, 16, 7, gcm.UNKNOWN, n) for n in TAGS if n != 12])))]
 
 SIV_ROWS = [
-    Row("any_seal", WHOLE, full=[(13, 33)], first=[(16, 256), (13, 33, "_to")],
-        more=[(0, 0), (1, 1), (13, 81), (20, 145), (13, 225), (0, 450), (33, 48), (47, 767)]),
-    Row("any_open", WHOLE + "; also of what is refused", full=[(13, 33, "_to")], first=[(13, 225)],
-        more=[(13, 33), (1, 1), (13, 81), (20, 145), (0, 450), (33, 48), (47, 767), (0, 0, "_to")]),
+    Row("any_seal", WHOLE + "; both may have 2^36 bytes", full=[(33, 77)], first=[(16, 256), (13, 33, "_to")],
+        more=[(13, 33), (0, 0), (1, 1), (13, 81), (20, 145), (13, 225), (0, 450), (33, 48), (47, 767)]),
+    Row("any_open", WHOLE + "; also of what is refused", first=[(13, 33, "_to"), (13, 225)],
+        more=[(13, 33), (1, 1), (33, 77), (13, 81), (20, 145), (0, 450), (33, 48), (47, 767), (0, 0, "_to")]),
     Row("seal", "the lengths of additional data and text", few=[(13, 33), (13, 33, "_to")], other=[(13, 33), (13, 33, "_to")]),
     Row("open", "the same, also of what is refused", few=[(1, 1), (13, 33, "_to")], other=[(1, 1), (13, 33, "_to")])]
 
@@ -158,7 +159,7 @@ def riscv_rows(word):
         Row("cmac", "the number of bytes", few=[0, 17]),
         Row("cmac_verify", "the number of bytes and the tag's length, also of what is refused", few=[(17, 16), (0, 4)]),
         *(Row(call, "the lengths of nonce, additional data, text and tag",
-              few=[(7, 0, 1, 4), *[(13, 8, 33, 8)] * narrow]) for call in ("ccm_seal", "ccm_open")),
+              few=[(7, 0, 1, 4)], more=[(13, 8, 33, 8)] * narrow) for call in ("ccm_seal", "ccm_open")),
         *ROUNDS]
 
 

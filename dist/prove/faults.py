@@ -5,7 +5,7 @@ by what a function does, and not by the registers that the compiler took, where 
 
 def function(path):
     """The label of a function: of the first one, where several differ in their types."""
-    return r'"?(?:\w+\.)?%s(?:::<[^"\n]*>|\.\d+)?"?:' % path.replace("::", r"(?:::|\.)")
+    return r"(?:\w+\.)?%s(?:\.\d+)?:" % path.replace("::", r"\.")
 
 
 def second(label):
@@ -18,7 +18,7 @@ def exported(name):
 
 def call(path):
     """A call of a function, and its line."""
-    return r'\tcallq\t"?(?:\w+\.)?%s(?:::<.*|\.\d+.*|".*|[ \t].*|)\n' % path.replace("::", r"(?:::|\.)")
+    return r"\tcallq\t(?:\w+\.)?%s(?:\.\d+)?(?:[ \t].*|)\n" % path.replace("::", r"\.")
 
 
 def low(register, size="d"):

@@ -6,9 +6,10 @@ import functools
 import itertools
 from collections import namedtuple
 
-from aes import BATCH, DONE, NEVER, PTRDIFF_MAX, STRUCT as AES_STRUCT, CounterWord, Keyed, between, lengths_but, nothing, unequal, unread
+from aes import BATCH, DONE, NEVER, PTRDIFF_MAX, STRUCT as AES_STRUCT, CounterWord, between, lengths_but, nothing, unequal, unread
 from bits import DATA, KEY, PUBLIC
 from calls import ANY, Buffer, Call, Stream
+from hashing import Hashing, KeyedHash, threes
 from linear import WORD, unknown
 from operands import Content, Pointer
 from standards import ZEROS, number, padded, product
@@ -22,41 +23,6 @@ NONE, ADDITIONAL, ENCRYPTING, VERIFYING, DECRYPTING = range(5)  # phases of a me
 MOST, MOST_ADDITIONAL, MOST_NONCE = 2 ** 36 - 32, 2 ** 61 - 1, 2 ** 61 - 1
 
 
-def threes(blocks, many=3):
-    """The groups of blocks whose products with powers of H are added at once."""
-    return [blocks[i:i + many] for i in range(0, len(blocks), many)]
-
-
-class Hashing:
-    """GHASH (6.4) from a value on, group by group; each value that depends on the key becomes an arbitrary block.
-    `plan` has the steps: the value before, the group, and the block that the value after it becomes; `made` counts these blocks."""
-
-    def __init__(self, keyed, value, made=0):
-        self.keyed, self.value, self.plan, self.made = keyed, value, [], made
-
-    def take(self, groups):
-        for group in groups if not self.keyed.program.narrow else ([block] for group in groups for block in group):
-            if any(self.value) or any(map(any, group)):
-                self.made += 1
-                after = self.keyed.of(self.keyed.hash_value, self.made)
-                self.plan.append((self.value, group, after))
-                self.value = after
-        return self
-
-    def end_as(self, block):
-        """The last value becomes this block."""
-        self.plan[-1] = *self.plan[-1][:2], block
-        return self
-
-    def steps(self, begin=0, end=None):
-        for value, group, after in self.plan[begin:end]:
-            yield "hash", functools.partial(self.sum, value, group), after
-
-    def sum(self, value, group):
-        """(Y + X_1) H^m + X_2 H^(m-1) + .. + X_m H"""
-        return self.keyed.with_powers([self.keyed.aes.xor(value, group[0]), *group[1:]])
-
-
 UNKNOWN = 8, None  # a nonce of 8 bytes, and any J_0, also that of a nonce of 12 bytes; see nonce_of
 OF_J_0 = "J_0 low, at every length"
 # For calls of every length: the arguments, how many phases come before the message, and their steps; Cipher of J_0 and of a later block,
@@ -66,32 +32,9 @@ AnyNonce = namedtuple("AnyNonce", "arguments phases steps mask stream more facts
 PreCounter = namedtuple("PreCounter", "bytes counter hashing arguments")
 
 
-class KeyedGcm(Keyed):
+class KeyedGcm(KeyedHash):
     """key_length, wipe and what set_key refuses are stated in aes.py: these sentences of the two headers are alike."""
-    library, prefix, schedules = "gcm", "gcm", 1
-
-    def __init__(self, program, key_size):
-        super().__init__(program, key_size)
-        d = self.domain
-        self.powers = [[d.fresh("H^%d byte %d" % (n, i), KEY) for i in range(16)] for n in self.kept_powers()]
-        self.nonce = [d.fresh("nonce byte %d" % i, PUBLIC) for i in range(12)]
-        self.pre_counter = [d.fresh("J_0 byte %d" % i, KEY | PUBLIC) for i in range(12)]
-        block = lambda name, depends: [d.fresh("%s byte %d" % (name, i), depends, True) for i in range(16)]
-        self.text, self.sealed, self.tag = (block(name, DATA) for name in ("text", "encrypted", "tag"))
-        self.hashed_text = self.sealed
-        self.additional_bytes, self.long_nonce = block("additional", DATA), block("long nonce", PUBLIC)
-        self.hash_value, self.rest = block("hash", KEY | DATA), block("rest", KEY | DATA)
-
-    def kept_powers(self):
-        return (1,) if self.program.narrow else (1, 2, 3)
-
-    def with_powers(self, blocks):
-        """X_1 H^m + .. + X_m H, and factors named so that the same cells come with the same power."""
-        factors, sums = self.domain.name_factors(sum(blocks[::-1], [])), self.domain.sums
-        if tuple(factors) not in sums:
-            products = (product(self.domain, factors[16 * i:16 * i + 16], self.powers[i]) for i in range(len(blocks)))
-            sums[tuple(factors)] = functools.reduce(self.aes.xor, products)
-        return sums[tuple(factors)]
+    library = prefix = "gcm"
 
     # The struct. What these builds don't keep of it they neither read nor write.
     def size_of_struct(self):
@@ -253,61 +196,6 @@ class KeyedGcm(Keyed):
     def any_counter_word(self, size):
         low, high = ([1, 0, 0, 0] + self.nonce[:7:-1], Pointer("any J_0 low", 0)), (self.nonce[7::-1], Pointer("nonce high", 0))
         return CounterWord("any J_0 low", 1, NEVER, size.divided(16)[0] + 2 + BATCH, {tuple(b): word for b, word in (low, high)})
-
-    def any_group(self, m, before, bytes_, size, many, end, after):
-        """What GHASH does next with so many bytes: so many blocks at once, as long as they are there; then the rest and the blocks `end`. A
-        value becomes the block with which the next group begins; the last one becomes `after`."""
-        group, size = m.done, m.known(size)
-        whole, rest = divmod(size, 16 * many) if isinstance(size, int) else size.divided(16 * many)
-        value_of = lambda group: before if group == 0 else self.at_block(m, self.hash_value, group * many)
-        blocks = lambda group: [self.at_block(m, bytes_, group * many + k) for k in range(many)]
-        below = m.is_below(group, whole)
-        if below:
-            return self.group_step(value_of(group), map(self.hashed, blocks(group)), value_of(group + 1))
-        if below is None or not isinstance(group - whole, int):
-            return "nothing", (), ()
-        groups = threes([*map(self.hashed, padded(sum(blocks(whole), [])[:rest]))] + end, many)
-        at = group - whole
-        if at < len(groups):
-            return self.group_step(value_of(group), groups[at], value_of(group + 1) if groups[at + 1:] else after)
-        if not groups and at == 0:  # the last value was that of a whole group
-            return "here", value_of(group), after
-        return "again", (), ()
-
-    def hashed(self, block):
-        """What GHASH takes of a block."""
-        return block
-
-    def group_step(self, value, blocks, after):
-        blocks = list(blocks)
-        return "hash", functools.partial(self.with_powers, [self.aes.xor(value, blocks[0]), *blocks[1:]]), after
-
-    def middle_value(self):
-        return self.once("middle value", lambda: [self.domain.fresh("middle hash byte %d" % i, KEY | DATA) for i in range(16)])
-
-    def last_value(self):
-        return self.once("last value", lambda: [self.domain.fresh("last hash byte %d" % i, KEY | DATA) for i in range(16)])
-
-    def at_once(self, m, sizes):
-        """How many blocks GHASH takes at once."""
-        return len(self.kept_powers())
-
-    def any_hash(self, m, phase, sizes):
-        """GHASH of additional data (phase 0) and of a text, each of such a size."""
-        middle, last, many = self.middle_value(), self.last_value(), self.at_once(m, sizes)
-        if phase > 1:
-            return "nothing", (), ()
-        if phase == 0:
-            return self.any_group(m, ZEROS, self.additional_bytes, sizes[0], many, [], middle)
-        before = ZEROS if m.known(sizes[0]) == 0 else middle
-        return self.any_group(m, before, self.hashed_text, sizes[1], many, [self.any_lengths(m, sizes)], last)
-
-    def any_lengths(self, m, sizes):
-        return [b for n in sizes for b in m.to_bytes(m.known(n) * 8, 8)[::-1]]
-
-    def any_sum(self, m, sizes):
-        """GHASH of all. (Of nothing it is that of a block of zeros.)"""
-        return ZEROS if all(m.known(size) == 0 for size in sizes) else self.last_value()
 
     # A nonce of 12 bytes, or of 48 k + `rest` of them for every k: then J_0 is any block of which the counter doesn't wrap around in the text.
     def any_nonce(self, rest, size):
@@ -540,19 +428,17 @@ class KeyedGcm(Keyed):
 
     def counts_after(self, m, numbers, which, size):
         counts = [m.to_bytes(m.known(n + size if k == which else n), 8) for k, n in enumerate(numbers)]
-        return sum(counts, []) + self.counter_block(self.nonce_of(), 0)
+        return sum(counts, []) + self.once("any J_0", self.any_pre_counter)[0]
 
-    def any_crypted(self, call, filled, rest):
+    def any_crypted(self, filled, rest):
         """The keystream of a piece: its pattern, and what the call needs of the counter."""
         before, size, facts = self.any_numbers(filled, rest, 768)
-        most = MOST - 16 * (BATCH + 2)
-        stream = self.in_places(self.once("any counters", self.any_counters), filled)
-        end = before + size
-        return before, size, stream, dict(keystream=self.of_all(stream), facts=facts | {most - end}, counter=self.any_counter_word(end)._replace(
-            first=unknown("u") + 1))
+        nonce = self.any_nonce(0, before + size)
+        stream, more = self.in_places(nonce.stream, filled), dict(nonce.more, counter=nonce.more["counter"]._replace(first=unknown("u") + 1))
+        return before, size, stream, dict(more, keystream=self.of_all(stream), facts=facts | {MOST - 16 * (BATCH + 2) - before - size})
 
     def any_encrypt(self, filled, rest):
-        before, size, stream, more = self.any_crypted("encrypt", filled, rest)
+        before, size, stream, more = self.any_crypted(filled, rest)
         numbers, text, sealed = (7, before, 0, ENCRYPTING), self.in_places(self.text, filled), self.in_places(self.sealed, filled)
         texts = Stream("text", size, text, [self.aes.xor(text, stream), sealed], lambda m, number: [0] * 16)
         steps = lambda m: self.any_piece_hash(m, self.sealed, size, filled) if m.phase else ("whole", "text", (sealed,))
@@ -560,7 +446,7 @@ class KeyedGcm(Keyed):
                                [texts, size], steps=steps, plain=self.of_all(text), **more)
 
     def any_decrypt(self, filled, rest):
-        before, size, stream, more = self.any_crypted("decrypt", filled, rest)
+        before, size, stream, more = self.any_crypted(filled, rest)
         numbers, sealed = (7, before + size + unknown("more"), before, DECRYPTING), self.in_places(self.sealed, filled)
         plain, state = self.aes.xor(sealed, stream), sum(self.before_piece(), [])
         more["facts"] |= {unknown("more"), MOST - numbers[1]}
@@ -569,7 +455,7 @@ class KeyedGcm(Keyed):
 
     def any_decrypt_unverified(self, filled, rest):
         """GHASH comes first. Its value, and the part of a block that is left, become arbitrary bytes before blocks are numbered anew."""
-        before, size, stream, more = self.any_crypted("decrypt_unverified", filled, rest)
+        before, size, stream, more = self.any_crypted(filled, rest)
         numbers, sealed, block = (7, before, 0, VERIFYING), self.in_places(self.sealed, filled), self.once("full block", self.full_block)
         plain, count = self.aes.xor(sealed, stream), (filled + rest) % 16
 
@@ -589,8 +475,7 @@ class KeyedGcm(Keyed):
 
     def any_before(self, numbers):
         word = lambda n: number(n, 8)[::-1] if isinstance(n, int) else [self.domain.opaque((n, k)) for k in range(8)]
-        first = self.counter_block(self.nonce_of(), 0)
-        return [b for n in numbers for b in word(n)] + first + sum(self.before_piece(), [])
+        return [b for n in numbers for b in word(n)] + self.once("any J_0", self.any_pre_counter)[0] + sum(self.before_piece(), [])
 
     def before_piece(self):
         """Any value of GHASH, and any part of a block: bytes of no block, which are kept when blocks are numbered anew."""

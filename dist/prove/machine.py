@@ -66,7 +66,7 @@ class Machine(Arithmetic, Unknowns, Bytewise, Access):
         self.stale = set()  # bytes of the stack that may have been overwritten by others since they were written
         self.room = self.counter = None  # see calls.Call
         # See lengths.py.
-        self.facts, self.decided, self.loops, self.replaced, self.first_block, self.generals = frozenset(), [], {}, [], 0, ()
+        self.facts, self.decided, self.loops, self.replaced, self.first_block, self.generals, self.forgets = frozenset(), [], {}, [], 0, (), 0
         self.any_length = False
         self.path = []
         self.enter(arguments)

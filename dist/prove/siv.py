@@ -7,7 +7,8 @@ import functools
 from aes import NEVER, CounterWord, between, nothing, unequal, unread
 from bits import DATA, KEY
 from calls import Buffer, Call, Stream, compare
-from gcm import DONE, NO_KEY, REFUSED, TOO_LONG, UNEQUAL_LENGTHS, Hashing, KeyedGcm, threes
+from gcm import DONE, NO_KEY, REFUSED, TOO_LONG, UNEQUAL_LENGTHS
+from hashing import Hashing, KeyedHash, threes
 from linear import WORD, unknown
 from operands import Number
 from standards import ZEROS, dot, mulx_ghash, padded, product
@@ -23,7 +24,7 @@ def little(n, size):
     return list(n.to_bytes(size, "little"))
 
 
-class KeyedSiv(KeyedGcm):
+class KeyedSiv(KeyedHash):
     """wipe and what set_key refuses are stated in aes.py."""
     library, prefix, key_sizes = "siv", "gcm_siv", (16, 32)
 
@@ -33,7 +34,7 @@ class KeyedSiv(KeyedGcm):
     def set_key(self, seed=None):
         """Prepares a key in *siv (KeyExpansion, FIPS 197, 5.2). *siv may be uninitialized: none of it is read. Nothing of what it held is
         left. DONE if key_length is 16 or 32"""
-        m = super(KeyedGcm, self).set_key(seed)
+        m = super().set_key(seed)
         self.once("message", self.make_message)
         return m
 

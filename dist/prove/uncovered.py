@@ -23,8 +23,8 @@ UNCOVERED = [
 
 
 def plain(name):
-    """A function's name without the hash or the number of its types, and without what tells the builds of a library apart."""
-    return re.sub(r"::<.*|\.\d+$|_v\d$", "", name).replace("::", ".")
+    """A function's name without the number of its types, and without what tells the builds of a library apart."""
+    return re.sub(r"\.\d+$|_v\d$", "", name)
 
 
 def of_text(program, ran, went):

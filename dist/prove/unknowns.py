@@ -232,12 +232,11 @@ class Unknowns:
 
     def forget_blocks(self, first):
         """From now on this is the first block. What is left of others in a register may be any bits, with which the code may go on."""
-        d, before = self.domain, {*self.domain.of_forgotten.values()}
-        is_old = lambda b: d.blocks(b) or not before.isdisjoint(d.cells(b))  # so those of before aren't mistaken for new ones
-        general = {r: self.from_bytes([d.forgotten(b, k * self.word + i) if is_old(b) else b for i, b in enumerate(v)])
-                   for k, (r, v) in enumerate(self.general.items()) if type(v) is tuple}
-        self.each_byte(lambda b: self.any_byte() if is_old(b) else b)
-        self.general |= general
+        d, self.forgets = self.domain, self.forgets + 1  # so these bits are others than those of the last time
+        for r, v in self.general.items():
+            if type(v) is tuple:
+                self.general[r] = self.from_bytes([d.forgotten(b, (self.forgets, r, i)) if d.blocks(b) else b for i, b in enumerate(v)])
+        self.each_byte(lambda b: self.any_byte() if d.blocks(b) else b)
         self.first_block, self.origins = first, {place: on for place, on in self.origins.items() if not place[1]}
 
     def forget_differences(self):

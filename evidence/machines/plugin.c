@@ -1,8 +1,7 @@
 /* A plugin of qemu that follows what runs between two marks: how many instructions, which ones in which order, and which
  * addresses they read and write. Each time it meets the second mark it writes a line with tabs: instructions, a hash of
- * their addresses, and a hash of the addresses that they read and write. It is compiled with RISCV or ARM for these machines, else for
- * x86-64.
- * usage: qemu-x86_64 -plugin plugin.so,out=FILE PROGRAM .. */
+ * their addresses, and a hash of the addresses that they read and write. It is compiled with RISCV for that machine, else for ARM.
+ * usage: qemu-arm -plugin plugin.so,out=FILE PROGRAM .. */
 #include <stddef.h>
 #include <stdint.h>
 #include <stdio.h>
@@ -27,15 +26,11 @@ void qemu_plugin_register_vcpu_tb_exec_cb(struct qemu_plugin_tb *, void (*)(unsi
 uint64_t qemu_plugin_insn_vaddr(const struct qemu_plugin_insn *);
 __attribute__((visibility("default"))) int qemu_plugin_version = 1;
 
-/* The marks are hints that no processor knows, so that they do nothing: see calls.c. */
+/* The marks are hints that no processor knows, so that they do nothing: see enter.S. */
 #ifdef RISCV
 enum { ADDI = 0x13, BEGIN = ADDI | 112 << 20, END = ADDI | 113 << 20 };
-#elif defined ARM
-enum { HINT = (int)0xe320f000, BEGIN = HINT | 112, END = HINT | 113 };
-/* The same in Thumb. */
-#define HINT_OF_THUMB(number) (0x8000f3afu | (uint32_t)(number) << 16)
 #else
-enum { NOPL = 0x401f0f, BEGIN = NOPL | 112 << 24, END = NOPL | 113 << 24 };
+enum { HINT = (int)0xe320f000, BEGIN = HINT | 112, END = HINT | 113 };
 #endif
 
 static FILE *out;
@@ -68,10 +63,6 @@ static void ended(unsigned cpu, void *at) {
 static uint32_t code_of(const struct qemu_plugin_insn *it) {
     uint32_t code;
     memcpy(&code, qemu_plugin_insn_data(it), sizeof code);
-#ifdef ARM
-    for (uint32_t number = 112; number <= 113; number++)
-        code = code == HINT_OF_THUMB(number) ? (uint32_t)HINT | number : code;
-#endif
     return code;
 }
 static void *numbered(size_t count, uint64_t address) { return (void *)((uintptr_t)count << 48 | (uintptr_t)address); }

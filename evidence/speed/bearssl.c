@@ -2,20 +2,17 @@
 #include "engine.h"
 #include <bearssl.h>
 
-#define ENGINE(e) \
-    static br_aes_##e##_ctr_keys e##_enc; \
-    static br_aes_##e##_cbcdec_keys e##_dec; \
-    static void e##_key(enum direction to, const uint8_t *key, size_t n) { \
-        if (to == ENCRYPT) br_aes_##e##_ctr_init(&e##_enc, key, n); \
-        else br_aes_##e##_cbcdec_init(&e##_dec, key, n); \
-    } \
-    static void e##_process(enum direction to, uint8_t *b, size_t count) { \
-        uint8_t iv[16] = {0}; \
-        if (to == ENCRYPT) br_aes_##e##_ctr_run(&e##_enc, iv, 0, b, 16 * count); \
-        else br_aes_##e##_cbcdec_run(&e##_dec, iv, b, 16 * count); \
-    }
-ENGINE(ct64)
-ENGINE(big)
+static br_aes_ct64_ctr_keys encrypting;
+static br_aes_ct64_cbcdec_keys decrypting;
+static void set_key(enum direction to, const uint8_t *key, size_t n) {
+    if (to == ENCRYPT) br_aes_ct64_ctr_init(&encrypting, key, n);
+    else br_aes_ct64_cbcdec_init(&decrypting, key, n);
+}
+static void process(enum direction to, uint8_t *b, size_t count) {
+    uint8_t iv[16] = {0};
+    if (to == ENCRYPT) br_aes_ct64_ctr_run(&encrypting, iv, 0, b, 16 * count);
+    else br_aes_ct64_cbcdec_run(&decrypting, iv, b, 16 * count);
+}
 
 static union { br_aes_ct64_ctr_keys ct64; br_aes_x86ni_ctr_keys ni; } gcm_keys;
 static const br_block_ctr_class *gcm_ctr;
@@ -37,8 +34,6 @@ static void seal(const struct message *m) {
 void add_bearssl(enum run run) {
     gcm_ctr = run == ALL ? br_aes_x86ni_ctr_get_vtable() : &br_aes_ct64_ctr_vtable;
     ghash = run == ALL ? br_ghash_pclmul_get() : br_ghash_ctmul64;
-    if (run == ALL && gcm_ctr && ghash) add(&(struct engine){"BearSSL", "AES instructions", "instructions", GCM});
-    if (run != NO_AES) return;
-    add(&(struct engine){"BearSSL", "ct64", "bitsliced", ct64_key, ct64_process, GCM});
-    add(&(struct engine){"BearSSL", "big, tables", "tables", big_key, big_process});
+    if (run == NO_AES) add(&(struct engine){"BearSSL", "ct64", "bitsliced", BLOCKS, GCM});
+    else if (gcm_ctr && ghash) add(&(struct engine){"BearSSL", "AES instructions", "instructions", GCM});
 }

@@ -42,15 +42,13 @@ extern "C" void add_botan(enum run run) {
     Botan::CPUID::initialize();
     if (run != ALL) Botan::CPUID::clear_cpuid_bit(Botan::CPUID::CPUID_AESNI_BIT);
     if (run != ALL) Botan::CPUID::clear_cpuid_bit(Botan::CPUID::CPUID_CLMUL_BIT);
-    if (run == NO_AES_NO_SSSE3) Botan::CPUID::clear_cpuid_bit(Botan::CPUID::CPUID_SSSE3_BIT);
     static const char *const names[] = {"AES-128", "AES-192", "AES-256"};
     for (int i = 0; i < 3; i++) {
         for (auto &of : blocks) of[i] = Botan::BlockCipher::create_or_throw(names[i]);
         ctr[i] = Botan::StreamCipher::create_or_throw("CTR-BE(" + std::string(names[i]) + ")");
     }
     gcm = Botan::AEAD_Mode::create_or_throw("AES-128/GCM", Botan::ENCRYPTION);
-    static const char *const how[] = {"AES instructions", "SSSE3 permutations", "bitsliced"};
-    static const char *const kind[] = {"instructions", "permutations", "bitsliced"};
+    static const char *const how[] = {"AES instructions", "SSSE3 permutations"}, *const kind[] = {"instructions", "permutations"};
     static engine it;
     it = {"Botan", how[run], kind[run], set_key, process, stream, gcm_key, seal};
     add(&it);

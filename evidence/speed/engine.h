@@ -36,7 +36,7 @@ struct engine {
 #define GCM .gcm_key = gcm_key, .seal = seal
 
 /* The run: which instructions of the processor the peers may use. */
-enum run { ALL, NO_AES, NO_AES_NO_SSSE3 };
+enum run { ALL, NO_AES };
 
 /* How a library keeps what it has for the three sizes of keys. */
 static inline int size_of(size_t key_bytes) { return key_bytes == 16 ? 0 : key_bytes == 24 ? 1 : 2; }

@@ -31,7 +31,6 @@ void add_libgcrypt(enum run run) {
     static const int algorithm[] = {GCRY_CIPHER_AES128, GCRY_CIPHER_AES192, GCRY_CIPHER_AES256};
     static const char *const instructions[] = {"intel-aesni", "intel-pclmul", "intel-vaes-vpclmul"};
     for (int i = 0; i < 3 && run != ALL; i++) gcry_control(GCRYCTL_DISABLE_HWF, instructions[i], (void *)0);
-    if (run == NO_AES_NO_SSSE3) gcry_control(GCRYCTL_DISABLE_HWF, "intel-ssse3", (void *)0);
     gcry_check_version(0);
     gcry_control(GCRYCTL_DISABLE_SECMEM, 0);
     gcry_control(GCRYCTL_INITIALIZATION_FINISHED, 0);
@@ -40,7 +39,6 @@ void add_libgcrypt(enum run run) {
         gcry_cipher_open(&ctr[i], algorithm[i], GCRY_CIPHER_MODE_CTR, 0);
     }
     gcry_cipher_open(&gcm, GCRY_CIPHER_AES128, GCRY_CIPHER_MODE_GCM, 0);
-    static const char *const how[] = {"AES instructions", "SSSE3 permutations", "tables"};
-    static const char *const kind[] = {"instructions", "permutations", "tables"};
+    static const char *const how[] = {"AES instructions", "SSSE3 permutations"}, *const kind[] = {"instructions", "permutations"};
     add(&(struct engine){"Libgcrypt", how[run], kind[run], BLOCKS, .stream = stream, GCM});
 }

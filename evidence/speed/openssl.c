@@ -1,13 +1,10 @@
-/* OpenSSL by EVP, and by the low-level AES_encrypt, which uses tables on every machine. */
-#define OPENSSL_SUPPRESS_DEPRECATED
+/* OpenSSL by EVP. */
 #include "engine.h"
-#include <openssl/aes.h>
 #include <openssl/evp.h>
 
 /* A context for each size of keys, which knows its cipher before the clock starts. */
 static EVP_CIPHER_CTX *blocks[2][3], *ctr[3];
 static int now;
-static AES_KEY low[2];
 
 static void set_key(enum direction to, const uint8_t *key, size_t n) {
     now = size_of(n);
@@ -28,12 +25,6 @@ static EVP_CIPHER_CTX *context(const char *name, int encrypts) {
     EVP_CipherInit_ex2(it, EVP_CIPHER_fetch(0, name, 0), zeros, zeros, encrypts, 0);
     EVP_CIPHER_CTX_set_padding(it, 0);
     return it;
-}
-static void low_key(enum direction to, const uint8_t *key, size_t n) {
-    (to == ENCRYPT ? AES_set_encrypt_key : AES_set_decrypt_key)(key, (int)(8 * n), &low[to]);
-}
-static void low_process(enum direction to, uint8_t *b, size_t count) {
-    for (size_t i = 0; i < count; i++) (to == ENCRYPT ? AES_encrypt : AES_decrypt)(b + 16 * i, b + 16 * i, &low[to]);
 }
 static EVP_CIPHER_CTX *gcm;
 static void gcm_key(const uint8_t *key) { EVP_EncryptInit_ex2(gcm, 0, key, 0, 0); }
@@ -56,8 +47,6 @@ void add_openssl(enum run run) {
     gcm = context("AES-128-GCM", 1);
     /* Without AES instructions counter mode and CBC decryption of long inputs are bitsliced, and the rest is by vector
        permutations. */
-    static const char *const how[] = {"AES instructions", "SSSE3 permutations", "tables, EVP"};
-    static const char *const kind[] = {"instructions", "permutations", "tables"};
+    static const char *const how[] = {"AES instructions", "SSSE3 permutations"}, *const kind[] = {"instructions", "permutations"};
     add(&(struct engine){"OpenSSL", how[run], kind[run], BLOCKS, .stream = stream, GCM});
-    if (run == ALL) add(&(struct engine){"OpenSSL", "tables, AES_encrypt", "tables", low_key, low_process});
 }

@@ -23,7 +23,7 @@ KINDS = {
     "instructions": ("#9a8fbf", "#a79ccb"),
 }
 INK, SOFT = ("#1f2328", "#e6edf3"), ("#59636e", "#9198a1")
-ROW, GAP, BESIDE = 20, 8, 90
+ROW, GAP, BESIDE, NAMES, BAR = 20, 8, 90, 220, 170
 
 
 def rules(ground):
@@ -35,38 +35,15 @@ def label(time):
     return f"{time:,.0f}" if time >= 10 else f"{time:.1f}"
 
 
-def row(name, kind, times, y, names, bar):
+def row(name, kind, times, y):
     """The name of a library, and its bar in each panel."""
     weight = ' class="bold"' if kind == "ours" else ""
-    yield f'<text x="{names - 8}" y="{y}" text-anchor="end"{weight}>{escape(name)}</text>'
+    yield f'<text x="{NAMES - 8}" y="{y}" text-anchor="end"{weight}>{escape(name)}</text>'
     for at, (length, text) in enumerate(times):
-        x, long = names + (bar + BESIDE) * at, max(1, bar * length)
+        x, long = NAMES + (BAR + BESIDE) * at, max(1, BAR * length)
         if length:
             yield f'<rect x="{x}" y="{y - 12}" width="{long:.1f}" height="15" class="{kind}"/>'
         yield f'<text x="{x + (long + 5 if length else 0):.1f}" y="{y}"{weight}>{escape(text)}</text>'
-
-
-def drawn(title, panels, groups, names, bar):
-    """The picture as text: panels as (title, unit), groups as (title, [(name, kind, times)])."""
-    parts, y = [f'<text x="0" y="14" class="title">{escape(title)}</text>'], 62
-    for at, (head, unit) in enumerate(panels):
-        x = names + (bar + BESIDE) * at
-        parts.append(f'<text x="{x}" y="42" class="bold">{escape(head)}</text>')
-        parts.append(f'<text x="{x}" y="58" class="soft">{escape(unit)}</text>')
-    for head, rows in groups:
-        y += ROW + GAP
-        parts.append(f'<text x="0" y="{y}" class="soft">{escape(head)}</text>')
-        for name, kind, times in rows:
-            y += ROW
-            parts += row(name, kind, times, y, names, bar)
-    width, height = names + (bar + BESIDE) * len(panels), y + 10
-    return "\n".join([
-        f'<svg xmlns="http://www.w3.org/2000/svg" viewBox="0 0 {width} {height}" width="{width}" height="{height}" role="img">',
-        f"<title>{escape(title)}</title>",
-        f"<style>text {{ font: 12px 'DejaVu Sans', Verdana, Arial, sans-serif }} .bold {{ font-weight: bold }} "
-        f".title {{ font: bold 14px 'DejaVu Sans', Verdana, Arial, sans-serif }} {rules(0)}",
-        f"@media (prefers-color-scheme: dark) {{ {rules(1)} }}</style>",
-        *parts, "</svg>", ""])
 
 
 def times_of(rows, key):
@@ -89,20 +66,30 @@ def cell(kind, time, most, ours):
     return time / most, label(time) + (f" ({100 * time / ours:.0f} %)" if kind == "instructions" else "")
 
 
-def draw(rows, to, key=16):
-    """Writes the picture of the rows for one size of keys."""
+def drawn(rows, key=16):
+    """The picture of the rows for one size of keys, as text."""
+    title = f"AES encryption with a key of {key} bytes, by this library and those of Debian"
     times = times_of(rows, key)
     most = [max(its[at] for its in times.values() if its[at]) for at in range(len(TITLES))]
     ours = next(its for it, its in times.items() if it[2] == tables.BASE)
-    groups = []
-    for kind, (bar, title) in GROUPS.items():
+    parts, y = [f'<text x="0" y="14" class="title">{escape(title)}</text>'], 62
+    for at, (head, (_, n)) in enumerate(zip(TITLES, tables.PICTURED)):
+        x = NAMES + (BAR + BESIDE) * at
+        parts.append(f'<text x="{x}" y="42" class="bold">{escape(head)}</text>')
+        parts.append(f'<text x="{x}" y="58" class="soft">nanoseconds{" a block" if n > 1 else ""}, less is faster</text>')
+    for kind, (bar, head) in GROUPS.items():
         shown = sorted((it for it in times if it[0] == kind), key=lambda it: times[it][0] or 1e30)
-        lines = []
+        y += ROW + GAP if shown else 0
+        parts += [f'<text x="0" y="{y}" class="soft">{escape(head)}</text>'] if shown else []
         for it in shown:
+            y += ROW
             cells = [cell(kind, *its) for its in zip(times[it], most, ours)]
-            lines.append((OURS.get(it[2], f"{it[1]}, {it[2]}"), bar, cells))
-        groups.append((title, lines))
-    units = ["nanoseconds a block, less is faster" if n > 1 else "nanoseconds, less is faster" for _, n in tables.PICTURED]
-    title = f"AES encryption with a key of {key} bytes, by this library and those of Debian"
-    made = drawn(title, list(zip(TITLES, units)), [it for it in groups if it[1]], 220, 170)
-    to.write_text(made)
+            parts += row(OURS.get(it[2], f"{it[1]}, {it[2]}"), bar, cells, y)
+    width, height = NAMES + (BAR + BESIDE) * len(TITLES), y + 10
+    return "\n".join([
+        f'<svg xmlns="http://www.w3.org/2000/svg" viewBox="0 0 {width} {height}" width="{width}" height="{height}" role="img">',
+        f"<title>{escape(title)}</title>",
+        f"<style>text {{ font: 12px 'DejaVu Sans', Verdana, Arial, sans-serif }} .bold {{ font-weight: bold }} "
+        f".title {{ font: bold 14px 'DejaVu Sans', Verdana, Arial, sans-serif }} {rules(0)}",
+        f"@media (prefers-color-scheme: dark) {{ {rules(1)} }}</style>",
+        *parts, "</svg>", ""])

@@ -1,18 +1,14 @@
-"""The times of a run as a file, beside those of others, and as sections of docs/MEASUREMENTS.md."""
+"""The times of a run as a file, beside those of others, and as tables of docs/MEASUREMENTS.md."""
 import csv
 import re
 import subprocess
 
 import tools
 
-HEADING = "## How fast is it beside what I use now?"
-HEADING_GCM = "## How fast is GCM beside what I use now?"
 # The peers: of each its package, and the flags to link it, of which -I is for its file too.
 PEERS = {
     "OpenSSL": ("libssl-dev", "-lcrypto"),
     "BearSSL": ("libbearssl-dev", "-lbearssl"),
-    "mbedtls": ("libmbedtls-dev", "-lmbedcrypto"),
-    "Nettle": ("nettle-dev", "-lnettle"),
     "Libgcrypt": ("libgcrypt20-dev", "-lgcrypt"),
     "Botan": ("libbotan-2-dev", "-lbotan-2", "-I/usr/include/botan-2"),
 }
@@ -31,9 +27,8 @@ PUBLISHED = {"a key, for both directions": (BOTH_KEYS, 1)}
 PUBLISHED |= {f"{n:,} block{'s' * (n > 1)} {it}ed": (it, n) for n in (1, 2, 8, 64, 4096) for it in ("encrypt", "decrypt")}
 PUBLISHED |= {f"counter mode, {it}": ("counter mode", n) for it, n in (("64 bytes", 64), ("1,500 bytes", 1500), ("1 MiB", 1 << 20))}
 CONSTANT_TIME, WITH_INSTRUCTIONS = "no AES instructions", "all instructions"
-SSSE3 = ("OpenSSL", "Botan", "Libgcrypt")
 COLUMNS = {"for AVX2": (CONSTANT_TIME, ("this library", AVX2))}
-COLUMNS |= {it: (CONSTANT_TIME, (it, "SSSE3 permutations")) for it in SSSE3}
+COLUMNS |= {it: (CONSTANT_TIME, (it, "SSSE3 permutations")) for it in ("OpenSSL", "Botan", "Libgcrypt")}
 WITH_THEM = "OpenSSL with AES instructions"
 COLUMNS[WITH_THEM] = (WITH_INSTRUCTIONS, ("OpenSSL", "AES instructions"))
 # The rows of the section on GCM: what was timed, and over how many blocks its time is told.
@@ -49,19 +44,8 @@ PICTURED = [("encrypt", 4096), ("encrypt", 1), ("key and block", 1)]
 
 
 def summary(rows, key=16):
-    """The rows that the tables of docs/MEASUREMENTS.md and the picture are made from."""
-    engines = {("this library", BASE), *(engine for _, engine in COLUMNS.values())}
-    calls = {*PUBLISHED.values(), ("key for encryption", 1), ("key for decryption", 1)}
-    of_all = {*PICTURED, *(it[:2] for it in GCM.values())}
-    return [
-        r
-        for r in rows
-        if r["key_bytes"] == key
-        and (
-            (r["kind"] != "planted" and (r["call"], r["amount"]) in of_all)
-            or ((r["peer"], r["how"]) in engines and (r["call"], r["amount"]) in calls)
-        )
-    ]
+    """The rows that are published."""
+    return [r for r in rows if r["key_bytes"] == key and r["kind"] != "planted"]
 
 
 def place(row):
@@ -131,43 +115,16 @@ def span(nanoseconds):
     return f"{number:.1f} {unit}" if number < 10 else f"{number:,.0f} {unit}"
 
 
-def published(where, rows, key=16):
-    """The section of docs/MEASUREMENTS.md that a run writes: what it means, a table, and how it was measured."""
+def table(rows, key=16):
+    """The table on blocks and counter mode: this library's time, and the others' divided by it."""
     runs = {run: of_run(rows, run) for run in (CONSTANT_TIME, WITH_INSTRUCTIONS)}
     rate = sum(r["nanoseconds"] for r in rows) / sum(r["ticks"] for r in rows)
-    ratios, lines = {}, []
+    lines = []
     for title, call in PUBLISHED.items():
-        for column, (run, engine) in COLUMNS.items():
-            ours, theirs = (runs[run].get(it, {}).get((key, *call)) for it in (("this library", BASE), engine))
-            if theirs:
-                ratios[title, column] = theirs / ours
-        cells = [ratio(ratios[title, it]) if (title, it) in ratios else "–" for it in COLUMNS]
+        times = [(runs[run].get(engine, {}).get((key, *call)), runs[run]["this library", BASE][key, *call]) for run, engine in COLUMNS.values()]
+        cells = [ratio(theirs / ours) if theirs else "–" for theirs, ours in times]
         lines.append([title, span(rate * runs[CONSTANT_TIME]["this library", BASE][key, *call]), *cells])
-
-    def among(title, *columns):
-        found = [it for (of, column), it in ratios.items() if of.startswith(title) and column in columns]
-        return f"{ratio(min(found))} to {ratio(max(found))}" if found else "–"
-
-    quicker = [f"{column} for {title} ({ratio(it)})" for (title, column), it in ratios.items() if column in SSSE3 and it < 1]
-    conditions, _, versions_there = tools.briefly(where).partition(", beside ")
-    shown = [it for it in re.split(", | and ", versions_there) if it.partition(" ")[0] in SSSE3]
-    meaning = (
-        f"Without AES instructions, OpenSSL, Botan and Libgcrypt use SSSE3. They take {among('1 block', *SSSE3)} times as long as this "
-        f"library for one block, and {among('4,096', *SSSE3)} times as long for 4,096.{' Quicker than this library: ' if quicker else ''}"
-        f"{', '.join(quicker)}{'.' if quicker else ''} The build for processors with AVX2 takes {among('2 blocks', 'for AVX2')} of the time "
-        f"of the first one for two blocks, and {among('4,096', 'for AVX2')} for 4,096. OpenSSL with AES instructions takes "
-        f"{among('4,096', WITH_THEM)} times as long for 4,096 blocks. Use OpenSSL if your processor has them and speed is all that you need."
-    )
-    how = (
-        "The first column is the time of a call from C with a key of 16 bytes. The others are the time of the same "
-        "work divided by it, so below 1 is faster than this library. By SSSE3 these libraries read no tables once a "
-        "key is set. In the rows of counter mode the key is set beforehand."
-    )
-    measured = (
-        f"Measured by `evidence/speed/run`: {conditions}, beside {', '.join(shown)}. "
-        "[summary.csv](../evidence/speed/summary.csv) has these times and those of the picture."
-    )
-    return meaning, tools.table(["", "this library", *COLUMNS], *lines), how, measured
+    return tools.table(["", "this library", *COLUMNS], *lines)
 
 
 def gcm(rows):
@@ -181,8 +138,8 @@ def gcm(rows):
     return found
 
 
-def published_gcm(where, rows):
-    """The section of docs/MEASUREMENTS.md on GCM: this library's time, and the others' divided by it."""
+def gcm_table(rows):
+    """The table on GCM: this library's time, and the others' divided by it."""
     times = gcm(rows)
     ours = {run: times[run, "this library"] for run in (CONSTANT_TIME, WITH_INSTRUCTIONS)}
     peers = [it for it in PEERS if (CONSTANT_TIME, it) in times]
@@ -192,21 +149,15 @@ def published_gcm(where, rows):
         call = tuple(call)
         cells = [ratio(times[it][call] / ours[it[0]][call]) if it in times else "–" for it in columns]
         lines.append([title, span(ours[CONSTANT_TIME][call] / blocks), *cells])
-    heads = ["", "this library", "for AVX2", *peers, "OpenSSL with AES instructions"]
-    return (
-        "The first column is the time of a call from C with a key of 16 bytes; the others are the time of the same "
-        "work divided by it, so below 1 is faster. All but the last may use no instructions for AES and for products "
-        "of polynomials. OpenSSL, Libgcrypt, Nettle and mbedtls then read tables at secret places; Botan and BearSSL "
-        "don't, nor does this library.",
-        tools.table(heads, *lines),
-        "These times are of the run above.",
-    )
+    return tools.table(["", "this library", "for AVX2", *peers, WITH_THEM], *lines)
 
 
-# The sections that a run writes, and what makes each.
-SECTIONS = {HEADING: published, HEADING_GCM: published_gcm}
-
-
-def publish(where, rows):
-    for heading, made in SECTIONS.items():
-        tools.publish(heading, *made(where, rows))
+def page(rows):
+    """docs/MEASUREMENTS.md with these tables in the place of the first ones of their sections."""
+    text = tools.MEASUREMENTS.read_text()
+    for what, lines in (("it", table(rows)), ("GCM", gcm_table(rows))):
+        heading = rf"## How fast is {what} beside what I use now\?\n"
+        text, count = re.subn(rf"^({heading}(?:(?!#|\|).*\n)*)(?:\|.*\n)+", lambda it: "\n".join([it[1] + lines[0], *lines[1:], ""]), text, flags=re.M)
+        if count != 1:
+            tools.stop(f"{tools.MEASUREMENTS} has no table below {heading}")
+    return text

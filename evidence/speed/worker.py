@@ -37,10 +37,9 @@ def build(room, engines, links=()):
     """The worker over engines, each a name and what it is linked of."""
     listed = "-DENGINES=" + " ".join(f"X({it})" for it in engines)
     tools.run([*COMPILE, listed, "-c", "-o", room / "worker.o", HERE / "worker.c"], "worker.c")
-    shown = "-Wl,--export-dynamic-symbol=mbedtls_aesni_has_support"
     parts = [it for of in engines.values() for it in of]
     link = "g++" if "botan" in engines else "cc"
-    tools.run([link, "-o", room / "worker", shown, room / "worker.o", *parts, *links], "linking the worker")
+    tools.run([link, "-o", room / "worker", room / "worker.o", *parts, *links], "linking the worker")
     return room / "worker"
 
 

@@ -26,6 +26,24 @@ KIT = pathlib.Path(COMMAND).parent.parent
 rt = load(COMMAND, "rt") if shutil.which("rt") else None
 
 
+class NoStore:
+    """What stands for the gate's store with a kit whose gate keeps nothing."""
+
+    def give(self, *_):
+        return False
+
+    def is_built(self, library):
+        pass
+
+    def key(self, crate):
+        return crate.stamp()
+
+
+def keeps():
+    """Whether the kit's gate keeps what it proved, as that of 13f does, and that of 13b doesn't."""
+    return hasattr(rt, "Kept")
+
+
 def begin(top):
     """Makes a folder that has the crates the current one, and readies the module for it."""
     if not rt:
@@ -38,20 +56,31 @@ def begin(top):
 
 def workspace(room, add=lambda tree: None):
     """The crates of a copy of the repository, lowest first, to which `add` may add some."""
+    copy = pathlib.Path(room, "copy")
     if rt:
-        rt.copy_crates(str(TOP), f"{room}/copy")
-        add(pathlib.Path(f"{room}/copy"))
+        shutil.copytree(TOP / "crates", copy / "crates", ignore=shutil.ignore_patterns("out"))
+        for name in ("crates.txt", "HANDLES"):
+            shutil.copy(TOP / name, copy)
+        add(copy)
         # (which makes it the top of a repository)
-        os.mkdir(f"{room}/copy/.git")
-    begin(f"{room}/copy")
-    rt.Crate.allowed = rt.handles_of(f"{room}/copy")
-    return rt.crates_of(f"{room}/copy")
+        (copy / ".git").mkdir()
+    begin(copy)
+    rt.Crate.allowed = rt.handles_of(f"{copy}")
+    return rt.crates_of(f"{copy}", *([] if keeps() else [room]))
+
+
+def link_or_copy(file, to):
+    """Links a file, or copies it to another file system."""
+    try:
+        os.link(file, to)
+    except OSError:
+        shutil.copy2(file, to)
 
 
 def given(crates, wanted):
     """Gives those wanted of a copy's crates the libraries below them: all that the gate keeps, or all as `rt lib` makes them in this
     repository. Returns the gate's store."""
-    gate = rt.Kept(crates)
+    gate = rt.Kept(crates) if keeps() else NoStore()
     below = [it for it in crates if any(it in crate.below() for crate in wanted)]
     for library in below:
         if not gate.give(library, False, gate.key(library)):
@@ -64,7 +93,7 @@ def given(crates, wanted):
         if subprocess.run(["rt", "lib", "--jobs", "1"], cwd=here, stdout=subprocess.DEVNULL).returncode:
             sys.exit(f"{library.name} is not proved, so nothing can be tried over it")
         shutil.rmtree(f"{library.folder}/out", ignore_errors=True)
-        shutil.copytree(here / "out" / "rlib", f"{library.folder}/out/rlib", copy_function=rt.link_or_copy)
+        shutil.copytree(here / "out" / "rlib", f"{library.folder}/out/rlib", copy_function=link_or_copy)
         if not library.is_built():
             sys.exit(f"{library.name} changed meanwhile: run this again")
         gate.is_built(library)
@@ -78,7 +107,8 @@ def checked(crate, kept, texts=None, flags=()):
 
 def begun(crate, kept):
     """Makes a folder of what checks of a crate kept here, or in another copy of the repository."""
-    found = rt.work_for(crate)
+    here = TOP / "crates" / crate.name / "out/incremental"
+    found = rt.work_for(crate) if keeps() else here if here.exists() else None
     shutil.copytree(found, kept) if found else kept.mkdir()
 
 
@@ -114,7 +144,26 @@ def with_statements(tree, *names):
         yield crate.name, verdicts[-1]
 
 
+def serve(since):
+    """With a kit whose gate keeps nothing: lets later commands use the libraries that `rt ci` left in this repository, as with_statements
+    does. A stamp says of which sources a library is, so this writes none if a source is newer than the file `since`, which was there
+    before `rt ci` began."""
+    begun_at = os.stat(since).st_mtime_ns
+    begin(TOP)
+    for crate in rt.rtlib.crates_below(f"{TOP}/crates"):
+        if any(os.stat(it).st_mtime_ns > begun_at for it in rt.rtlib.files_of(crate.folder)):
+            sys.exit(f"{crate.name} changed while the gate ran: run it again")
+        made = pathlib.Path(crate.folder, "out/rlib")
+        if os.path.isdir(crate.rlib) and not (made / "stamp").exists():
+            (made / "stamp").write_text(crate.stamp(), encoding="utf-8")
+
+
 if __name__ == "__main__":
-    # What ./release asks for: TREE CRATE ..
-    for proved in with_statements(*sys.argv[1:]):
-        print(": ".join(proved), flush=True)
+    if sys.argv[1:] == ["--keeps"]:
+        sys.exit(not keeps())
+    elif sys.argv[1] == "--serve":
+        serve(sys.argv[2])
+    else:
+        # What ./release asks for: TREE CRATE ..
+        for proved in with_statements(*sys.argv[1:]):
+            print(": ".join(proved), flush=True)

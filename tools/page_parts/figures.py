@@ -16,6 +16,7 @@ A mark that is quoted, by a backtick before it, is left alone.
 """
 import csv
 import re
+import subprocess
 from pathlib import Path
 
 ROOT = Path(__file__).resolve().parent.parent.parent
@@ -27,22 +28,13 @@ class Fault(Exception):
     """A mark that can't be counted."""
 
 
-def alternatives(pattern):
-    """A pattern with braces as the patterns that it stands for."""
-    braces = re.search(r"\{([^{}]*)\}", pattern)
-    choices = [pattern[: braces.start()] + it + pattern[braces.end() :] for it in braces[1].split(",")] if braces else []
-    return [made for choice in choices for made in alternatives(choice)] or [pattern]
-
-
 def matching(patterns):
-    """The files that the patterns name; each has to name one or more."""
-    found = set()
-    for pattern in [made for pattern in patterns for made in alternatives(pattern)]:
-        named = {path for path in ROOT.glob(pattern) if path.is_file()}
-        if not named:
-            raise Fault(f"no file is named '{pattern}'")
-        found |= named
-    return sorted(found)
+    """The files that the patterns name, as bash takes them; each has to name one or more."""
+    words = ["bash", "-O", "failglob", "-O", "globstar", "-c", f"ls -d -- {' '.join(patterns)}"]
+    found = subprocess.run(words, cwd=ROOT, capture_output=True, text=True)
+    if found.returncode:
+        raise Fault(found.stderr.strip())
+    return sorted({ROOT / it for it in found.stdout.split() if (ROOT / it).is_file()})
 
 
 def lines(*patterns):

@@ -1,5 +1,6 @@
 """Checks the pages of this repository: every link to a file or to a heading holds, no page has more than 200 lines, and no
-cell of a table more than 300 characters. Lists that scripts make may be long."""
+cell of a table more than 300 characters. Lists that scripts make may be long. The picture of the crates says what crates.txt says."""
+import html
 import re
 import subprocess
 from pathlib import Path
@@ -38,8 +39,17 @@ def faults_of(page):
                     yield f"{name}:{number}: no heading {target}"
 
 
+def faults_of_picture():
+    """The crates of which the picture has another sentence than crates.txt, or that stand there on others than those here."""
+    picture = " ".join(html.unescape(re.sub(r"<[^>]*>", " ", (ROOT / "docs/pictures/layers.svg").read_text())).split()).replace("- ", "-")
+    for said, name, below in re.findall(r"^# (.*)\n(\w+)[^:\n]*:(.*)$", (ROOT / "crates.txt").read_text(), re.M):
+        found = re.search(rf"\b{name} {re.escape(said)}(?: on (\w+(?:, \w+)*))?", picture)
+        if not found or not {*re.findall(r"\w+", found[1] or "")} <= {*below.split()}:
+            yield f"docs/pictures/layers.svg doesn't say of {name} what crates.txt says"
+
+
 def looked_at():
     listed = subprocess.run(["git", "ls-files", "-co", "--exclude-standard", "*.md"], cwd=ROOT, check=True, text=True,
                             capture_output=True).stdout.split()
     pages = [ROOT / name for name in listed if (ROOT / name).exists()]
-    return f"{len(pages)} pages", {}, [fault for page in pages for fault in faults_of(page)]
+    return f"{len(pages)} pages", {}, [*faults_of_picture(), *(fault for page in pages for fault in faults_of(page))]

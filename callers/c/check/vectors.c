@@ -1,15 +1,16 @@
-/* NIST's vectors of GCM through the library: `vectors FILE ..` reads files as NIST publishes them, as
- * gcmEncryptExtIV128.rsp. Each message is sealed and opened again, and refused with a bit changed in each of its parts;
+/* NIST's vectors of GCM, CBC and key wrap through the libraries: `vectors FILE ..` reads files as NIST publishes them, as
+ * gcmEncryptExtIV128.rsp, CBCMMT128.rsp or KWP_AE_128.txt. Of GCM each message is sealed and opened again, and refused with a bit changed in each of its parts;
  * a tag that fails in the file is refused. NIST has tags of 4 to 15 bytes too: fotsgure_gcm_open refuses those by their
  * length, fotsgure_gcm_accept_short takes them if they are right, and they have to be the beginning of the tag of 16
  * bytes. No call may write beside its buffers. The last line is `N passed, N failed`. */
+#include <fotsgure_aes.h>
 #include <fotsgure_gcm.h>
 
 #include <stdio.h>
 #include <stdlib.h>
 #include <string.h>
 
-enum { MOST = 256, GUARD = 32 };
+enum { MOST = 640, GUARD = 32, SEMIBLOCK = 8 };
 
 struct bytes {
     uint8_t at[MOST];
@@ -24,6 +25,7 @@ struct record {
 
 static size_t passed, failed, refused, shorts;
 static struct fotsgure_gcm gcm;
+static struct fotsgure_aes aes;
 
 /* The text that calls work on, between guards. */
 static uint8_t arena[MOST + 2 * GUARD];
@@ -146,11 +148,57 @@ static int check_fails(const struct record *r)
         check_short(r);
 }
 
+/* A text through CBC, in two calls. */
+static int chains(enum fotsgure_aes_status (*call)(const struct fotsgure_aes *, struct fotsgure_aes_cbc *, uint8_t *, size_t),
+    const struct record *r, const struct bytes *from, const struct bytes *to)
+{
+    struct fotsgure_aes_cbc cbc;
+    size_t blocks = from->count / 16, first = blocks / 2;
+    uint8_t *at = text(from);
+    memcpy(cbc.previous, r->iv.at, 16);
+    return call(&aes, &cbc, at, first) == FOTSGURE_AES_DONE && call(&aes, &cbc, at + 16 * first, blocks - first) == FOTSGURE_AES_DONE &&
+        text_is(to);
+}
+
+static int check_cbc(const struct record *r)
+{
+    return chains(fotsgure_aes_cbc_encrypt, r, &r->plain, &r->cipher) && chains(fotsgure_aes_cbc_decrypt, r, &r->cipher, &r->plain);
+}
+
+/* A key that is wrapped, and unwrapped. One that fails is refused, and leaves zeros. */
+static int check_wrap(const struct record *r, int is_padded)
+{
+    size_t count = r->cipher.count / SEMIBLOCK, length = 1;
+    struct bytes unwrapped = {.count = r->cipher.count - SEMIBLOCK};
+    enum fotsgure_aes_status status;
+    uint8_t *to = text(&(struct bytes){.count = 0});
+    memcpy(unwrapped.at, r->plain.at, r->plain.count);
+    status = is_padded ? fotsgure_aes_unwrap_padded(&aes, r->cipher.at, count, to, count - 1, &length) :
+        fotsgure_aes_unwrap(&aes, r->cipher.at, count, to, count - 1);
+    if (r->fails)
+        return status == FOTSGURE_AES_REFUSED && text_is(&unwrapped) && length == !is_padded;
+    if (status != FOTSGURE_AES_DONE || !text_is(&unwrapped) || (is_padded && length != r->plain.count))
+        return 0;
+    to = text(&(struct bytes){.count = 0});
+    status = is_padded ? fotsgure_aes_wrap_padded(&aes, r->plain.at, r->plain.count, to, count) :
+        fotsgure_aes_wrap(&aes, r->plain.at, count - 1, to, count);
+    return status == FOTSGURE_AES_DONE && text_is(&r->cipher);
+}
+
+static int is_right(const struct record *r, const char *file)
+{
+    const char *slash = strrchr(file, '/'), *name = slash ? slash + 1 : file;
+    if (strncmp(name, "gcm", 3) == 0)
+        return fotsgure_gcm_set_key(&gcm, r->key.at, r->key.count) == FOTSGURE_GCM_DONE && (r->fails ? check_fails(r) : check_right(r));
+    return fotsgure_aes_set_key(&aes, r->key.at, r->key.count) == FOTSGURE_AES_DONE &&
+        (strncmp(name, "CBC", 3) == 0 ? check_cbc(r) : check_wrap(r, strncmp(name, "KWP", 3) == 0));
+}
+
 static void check(const struct record *r, const char *file, size_t line)
 {
-    int right = fotsgure_gcm_set_key(&gcm, r->key.at, r->key.count) == FOTSGURE_GCM_DONE &&
-        (r->fails ? check_fails(r) : check_right(r));
+    int right = is_right(r, file);
     fotsgure_gcm_wipe(&gcm);
+    fotsgure_aes_wipe(&aes);
     if (right) {
         passed++;
     } else if (failed++ < 5) {
@@ -174,8 +222,9 @@ static int from_hex(struct bytes *bytes, const char *digits)
 static int take(struct record *r, const char *line)
 {
     const struct { const char *name; struct bytes *value; } fields[] = {
-        {"Key = ", &r->key}, {"IV = ", &r->iv}, {"AAD = ", &r->additional},
-        {"PT = ", &r->plain}, {"CT = ", &r->cipher}, {"Tag = ", &r->tag},
+        {"Key = ", &r->key}, {"KEY = ", &r->key}, {"K = ", &r->key}, {"IV = ", &r->iv}, {"AAD = ", &r->additional},
+        {"PT = ", &r->plain}, {"PLAINTEXT = ", &r->plain}, {"P = ", &r->plain}, {"CT = ", &r->cipher},
+        {"CIPHERTEXT = ", &r->cipher}, {"C = ", &r->cipher}, {"Tag = ", &r->tag},
     };
     for (size_t i = 0; i < sizeof fields / sizeof *fields; i++)
         if (strncmp(line, fields[i].name, strlen(fields[i].name)) == 0)
@@ -197,7 +246,7 @@ static int read_file(const char *name)
         return 0;
     while (fgets(line, sizeof line, file) != NULL) {
         number++;
-        if (strncmp(line, "Count = ", 8) == 0) {
+        if (strncmp(line, "Count = ", 8) == 0 || strncmp(line, "COUNT = ", 8) == 0) {
             if (begun)
                 check(&record, name, number);
             memset(&record, 0, sizeof record);

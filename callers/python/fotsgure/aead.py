@@ -85,7 +85,7 @@ class _Aead(Secret):
 
 
 class AESGCMSIV(_Aead):
-    """A key of 16 or 32 bytes. Nonces have 12; one that comes twice only shows whether the two messages are the same."""
+    """A key of 16 or 32 bytes. Nonces have 12; one that is used twice only shows whether the two messages are the same."""
 
     _sizes = (128, 256)
     _sizes_in_words = "128 or 256"

@@ -14,16 +14,16 @@
             message.verify(bytes) .., message.accept(tag), message.decrypt(bytes) ..    the same text in both passes
         nonce, message = gcm.begin_next()               under the next nonce
 
-A key is os.urandom(32), kept where nobody else reads it; a password is none. In GCM no nonce may be used twice under a key.
-Random ones have 12 bytes or more; if any nonce of a key is random or has another length than 12 bytes, take a new key
-before 2^32 messages. In AES-GCM-SIV a nonce that comes twice only shows whether the two messages are the same.
+A key is os.urandom(32), kept where nobody else reads it. A password is no key. In GCM no nonce may be used twice under a key.
+Random ones have 12 bytes or more; if any nonce of a key is random or has another length than 12 bytes, use a new key
+before 2^32 messages. In AES-GCM-SIV a nonce that is used twice only shows whether the two messages are the same.
 
 What counts as bytes: bytes, a bytearray, and whatever else has a length and a C-contiguous buffer of one dimension or
-more that holds numbers or single bytes, as a memoryview, an array.array or an array of numpy. It is taken by its bytes. A
+more that holds numbers or single bytes, as a memoryview, an array.array or an array of numpy. Its bytes are used. A
 view with gaps raises BufferError, and anything else TypeError: a number is no bytes, not even one of numpy or ctypes.
 
-FOTSGURE_GCM names the library's file; without it the one that pip built is taken, or the loader searches. Python copies bytes as it likes, so only the
-prepared key is wiped.
+FOTSGURE_GCM names the library's file. Without it, the module loads the library that pip built, or the loader searches for one.
+Python copies bytes as it likes, so only the prepared key is wiped.
 """
 import contextlib
 import ctypes
@@ -83,7 +83,7 @@ VERSION: int = _c.fotsgure_gcm_version()
 _STATUSES = ("", "a key has 16, 24 or 32 bytes, of AES-GCM-SIV 16 or 32", "the key was wiped",
              "a nonce has one byte or more, in AES-GCM-SIV 12", "a tag has 16 bytes",
              "more bytes than the standard allows, or more than were verified",
-             "the message was changed, or sealed under another key", "no nonce is left: take a new key",
+             "the message was changed, or sealed under another key", "no nonce is left: use a new key",
              "the calls came in the wrong order, for example text after finish, or decrypt before accept",
              "the system gave no randomness for a nonce")
 _NONCE_LENGTH, _TAG_LENGTH = 3, 4

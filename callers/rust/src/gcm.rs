@@ -2,7 +2,7 @@
 //! the speed or the pieces of AES-GCM (SP 800-38D).
 //!
 //! **In GCM never use a nonce twice under one key**, over all messages, programs and restarts. If a nonce of a key is
-//! random, or has another length than 12 bytes, take a new key before 2^32 messages.
+//! random, or has another length than 12 bytes, use a new key before 2^32 messages.
 
 use crate::{boxed, Aes, InvalidLength};
 use fotsgure_sys::{fotsgure_gcm_siv_seal_random, gcm as c};
@@ -15,7 +15,7 @@ pub enum NotSealed {
     NonceLength,
     /// The text has more than 2^36 - 32 bytes; in AES-GCM-SIV, text or additional data have more than 2^36.
     TooLong,
-    /// The counter has come to its end: take a new key.
+    /// The counter has come to its end: use a new key.
     NoncesEnd,
     /// The system gave no randomness for a nonce.
     NoRandomness,
@@ -118,7 +118,7 @@ impl GcmSiv {
         Ok((nonce, tag))
     }
 
-    /// The same under a nonce of yours. One that comes twice only shows whether the two messages are the same.
+    /// The same under a nonce of yours. One that is used twice only shows whether the two messages are the same.
     ///
     /// # Errors
     ///
@@ -210,7 +210,7 @@ impl fmt::Debug for GcmSiv {
 }
 
 /// The next nonce of a key: one number, highest byte first. Store `next` after each message and before it is sent, and
-/// begin with what was stored after a restart; if it is lost, take a new key. It can't be cloned: a copy would give
+/// begin with what was stored after a restart; if it is lost, use a new key. It can't be cloned: a copy would give
 /// out the same nonces again.
 #[repr(C)]
 #[derive(Debug, PartialEq, Eq)]

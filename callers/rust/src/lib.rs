@@ -1,6 +1,6 @@
 //! AES (FIPS 197), proved, with counter mode, CBC and key wrap; with the feature `gcm` AES-GCM-SIV and AES-GCM too.
 //!
-//! A block cipher alone protects no message: for messages take `gcm::GcmSiv`.
+//! A block cipher alone protects no message: for messages use `gcm::GcmSiv`.
 //!
 #![cfg_attr(feature = "gcm", doc = "```")]
 #![cfg_attr(not(feature = "gcm"), doc = "```ignore")]
@@ -24,7 +24,7 @@
 //!
 //! # Where it works
 //!
-//! On x86-64 (Linux, Android, the BSDs, Windows), on 64-bit ARM and RISC-V, and on 32-bit ARM (Linux). rustc assembles the code, so no C compiler is needed. No instructions for AES are used, and no tables.
+//! On x86-64 (Linux, Android, the BSDs, Windows), on 64-bit ARM and RISC-V, and on 32-bit ARM (Linux). rustc assembles the code, so no C compiler is needed. No instructions for AES are used, and no tables in memory.
 //!
 //! Keys are on the heap, so that a move leaves no copy, and are wiped when a value is dropped.
 

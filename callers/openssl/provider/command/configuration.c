@@ -62,8 +62,8 @@ static int keeps_its_settings(struct names *names, const char *file)
 
 static void print(const char *module, const char *file, const struct names *names)
 {
-    printf("# Every program that reads this file takes AES from the provider: OPENSSL_CONF=/path/of/this/file PROGRAM\n"
-        "# '?' prefers fotsgure, and takes from OpenSSL's own provider what fotsgure doesn't have.\n");
+    printf("# Every program that reads this file gets AES from the provider: OPENSSL_CONF=/path/of/this/file PROGRAM\n"
+        "# '?' prefers fotsgure. What fotsgure doesn't have comes from OpenSSL's own provider.\n");
     if (names->opens_init)
         printf("openssl_conf = %s\n", names->init);
     /* The other file comes first. Then its sections are opened once more: of a name that stands again, the last value is taken. */

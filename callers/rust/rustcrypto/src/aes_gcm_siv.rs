@@ -1,4 +1,4 @@
-//! AES-GCM-SIV (RFC 8452), under the names of the crate `aes-gcm-siv`. A nonce that comes twice under a key shows whether
+//! AES-GCM-SIV (RFC 8452), under the names of the crate `aes-gcm-siv`. A nonce that is used twice under a key shows whether
 //! the two messages, with their additional data, are the same, and nothing else.
 //!
 //! ```

@@ -97,7 +97,7 @@ void there_and_back(const Gcm &gcm) {
     last.fill(0xff);
     Counter end(last);
     Text text = plain;
-    expect(throws<std::length_error>("no nonce is left: take a new key", [&] { (void)gcm.seal_next(end, {}, text); }) &&
+    expect(throws<std::length_error>("no nonce is left: use a new key", [&] { (void)gcm.seal_next(end, {}, text); }) &&
         text == plain && end.next() == last, "the end of the nonces");
 }
 
