@@ -15,7 +15,7 @@ This page is made by `tools/pages` of [cases.py](cases.py). [The first page](REA
 
 Each row is a statement: a method of `KeyedAes`, `KeyedGcm` or `KeyedSiv`, which stands beside the header's sentence. A name with `any_` is
 proved at every length of the form that the row names. Others have the lengths that are listed. Entries of a list end with a semicolon.
-`_to` and `_with` are the calls with these endings.
+`_to` and `_with` are the calls with these endings. *Wraps*: J_0 ends in 0700ffff and a counter that wraps around in the text.
 
 - *Each*: keys of 16 bytes, with each build.
 - *Most*: also with keys of 16 bytes and the builds but `_v1` and those for Windows.
@@ -36,15 +36,9 @@ def value_said(value):
         return None
     if value == gcm.UNKNOWN:
         return "any J_0"
-    if isinstance(value, tuple):  # a nonce: how many bytes it has, and what J_0 ends in
+    if isinstance(value, tuple):  # a nonce: how many bytes it has, and how J_0 ends
         length, *ends = value
-        if not ends:
-            return f"nonce of {length}"
-        counter, *before = ends
-        if counter is None:
-            return f"nonce of {length}, any J_0"
-        end = bytes(before[0] if before else ()) + counter.to_bytes(4, "big")
-        return f"nonce of {length}, J_0 ends in {end.hex()}"
+        return f"nonce of {length}" + (", any J_0" if None in ends else ", wraps" if ends else "")
     if value is None:
         return "no carry"
     if isinstance(value, int) and value >= 1 << 20:
