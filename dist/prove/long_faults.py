@@ -153,6 +153,7 @@ LONG_FAULTS = {
         ("a batch left out at 2^20 blocks", IN_BATCHES, r"(\tadd\t(x\d+), \2, #8\n)(?=[\s\S]*?\tadd\t(x\d+), \3, #128\n)",
          r"\1\tcmp\t\2, #256, lsl #12\n\tb.ne\t77f\n\tadd\t\2, \2, #8\n\tadd\t\3, \3, #128\n77:\n", CASE),
         ("a step's number of 32 bits in key wrap", WRAP_TURNS, r"\trev\tx9, x(\d+)\n", r"\tmov\tw9, w\1\n\trev\tx9, x9\n", "any_wrap_padded 3"),
+        ("the length of 65,279 bytes of additional data in six", CCM_TAG, r"cmp\tx(\d+), #254\n", r"cmp\tx\1, #253\n", "any_ccm_open 8 15 33 8"),
     ],
     "x86_64/gcm": [
         ("bits 32 to 39 of a text's length left out of the tag", PUT_TAG, r"shrq\t\$29, %(r\w+)\n",
