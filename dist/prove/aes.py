@@ -459,29 +459,30 @@ class Keyed:
         """Block k, and the value before it, have the number of the block before them, so that none is left of what no pass needs."""
         return self.at_block(m, bytes_, k - 1)
 
-    def any_turns(self, wraps, count, first, last, alone=None, start=0):
+    def any_turns(self, wraps, count, first, last, alone, start=0):
         """The steps of W, or of its inverse, which begins with A ^ [6n], from phase `start` on; before that the semiblocks are put there.
-        `first` and `last` are A before and after all. Of one semiblock, with `alone`, there is one step, without a number (6.3)."""
+        `first` and `last` are A before and after all. Of one semiblock there is one step, without a number (6.3): from `alone`."""
         a, r, before, after, turns = self.semiblocks()
+        way = "encrypt" if wraps else "decrypt"
 
         def steps(m):
-            i, n, turn, final = m.done, m.known(count), m.phase - start, 5
+            i, n, turn = m.done, m.known(count), m.phase - start
+            final = 0 if n == 1 else 5
             number = lambda t: m.to_bytes(t if wraps else 6 * n - t, 8)[::-1]
-            if n == 1:
-                first_a, final, done = alone, 0, lambda: last
-            else:
-                first_a, done = first, lambda: self.aes.xor(self.at_link(m, a, i + 1), number(n * turn + i + 1))
             if turn < 0:
                 return "whole", "output", (before, after)
             if turn > final or not m.is_below(i, n + 2) or m.is_below(i, n) is None:
                 return "nothing", (), ()
-            if i == n + (final > 0):
+            if i == n + (n != 1):
                 return "whole", "output", (before, after) if turn < final else (after,) if wraps else (after, [0] * 8, True)
             if i == n:
                 added = ZEROS[:8] if wraps else number(n * turn + n)
-                return "kept", *(self.aes.xor(x, added) for x in (self.at_link(m, a, n), turns[turn] if turn < final else m.known_bytes(last)))
-            block = self.cipher_of((a if i != 0 else turns[turn - 1] if turn else m.known_bytes(first_a)) + r, "encrypt" if wraps else "decrypt")
-            return self.found_in, self.at_link(m, block, i), m.known_bytes(done()) + [self.domain.moved(b, i - m.first_block) for b in after]
+                done_a = m.known_bytes(last) if turn == final else turns[turn]
+                return "kept", self.aes.xor(self.at_link(m, a, n), added), self.aes.xor(done_a, added)
+            given = alone if n == 1 else first if turn == 0 else turns[turn - 1]
+            block = self.cipher_of((a if i != 0 else m.known_bytes(given)) + r, way)
+            done_a = m.known_bytes(last) if n == 1 else self.aes.xor(self.at_link(m, a, i + 1), number(n * turn + i + 1))
+            return self.found_in, self.at_link(m, block, i), done_a + [self.domain.moved(b, i - m.first_block) for b in after]
         return steps
 
     def any_wrap(self):

@@ -12,13 +12,15 @@ class Arithmetic:
         named = self.size_of(value)
         if named is None:
             return list(value[:size])
-        if self.any_length and is_pointer(value) and self.counter and value.base == self.counter.word:
-            value = Placed(*value, self.first_block + self.counter.first)
         above = self.domain.undefined if isinstance(value, Number) else 0
+        counter = self.any_length and isinstance(value, (Pointer, Number)) and self.counter
+        if counter and value.base == counter.word and not (value.offset == 0 != counter.first and value.base in self.domain.words):  # (J_0)
+            value = Placed(value, self.first_block + counter.first)
         return [self.domain.opaque((value, k)) for k in range(min(named, size))] + [above] * (size - named)
 
     def size_of(self, value):
         """How many bytes of a value are known by its name; None if it is bytes."""
+        value = value.value if isinstance(value, Placed) else value
         if isinstance(value, (Verdict, Number)):
             return value.size if isinstance(value, Verdict) else 4
         return self.word if isinstance(value, (Pointer, Distance, Linear, Scaled, Shifted)) else None
@@ -28,13 +30,11 @@ class Arithmetic:
             return int.from_bytes(bytes(b), "little")
         if b[0] in self.domain.opaque_of:
             value = self.domain.opaque_of[b[0]][0]
-            if isinstance(value, Placed) or self.any_length and is_pointer(value):
-                same = list(b) == self.names(value)
-                return Pointer(value.base, value.offset) if same else tuple(b)
             named = self.size_of(value)
-            above = {0, self.domain.undefined} if isinstance(value, Number) else {0}
-            if named and len(b) >= named and list(b[:named]) == self.to_bytes(value, named) and {*b[named:]} <= above:
-                return value
+            if named and len(b) >= named and list(b[:named]) == self.names(value):
+                value = value.value if isinstance(value, Placed) else value
+                if {*b[named:]} <= ({0, self.domain.undefined} if isinstance(value, Number) else {0}):
+                    return value
         return tuple(b)
 
     def bits(self, value, size):
@@ -66,14 +66,14 @@ class Arithmetic:
             r = wrapped(a + b, self.most)
             return r & self.most if is_int(r) else r
         if isinstance(a, Number):
-            return Number(a.base, a.offset + b & 0xffffffff)
+            return Number(a.base, wrapped(a.offset + b, 0xffffffff))
         return Pointer(a.base, wrapped(a.offset + b, self.most))
 
     # Sums and differences with their flags: (result, {flag: value}).
     def plus(self, x, y, carry, size):
         mask, top = (1 << 8 * size) - 1, 8 * size - 1
         if self.counter and self.counter.words:
-            x, y = (self.counter.words.get(tuple(v), v) if type(v) is tuple else v for v in (x, y))
+            x, y = (self.counter.words.get(tuple(map(self.domain.plain, v)), v) if type(v) is tuple else v for v in (x, y))
         if is_int(x, y):
             full = (x & mask) + (y & mask) + carry
             r = full & mask
@@ -82,11 +82,12 @@ class Arithmetic:
             x, y = self.ranged(x), self.ranged(y)
             r = self.offset(self.offset(x, carry), y)
             return r, {"c": (self.most, x + y + carry, "below"), **self.zero_and_sign(r, size)} if self.fits(x) and self.fits(y) else {}
+        if Number in (type(x), type(y)):  # modulo 2^32, so of others the lowest bytes do
+            x, y = (v if (whole := self.whole(v, size)) is None else whole for v in (x, y))
+            return self.offset(self.offset(x, carry), y), {}
         part, other = (self.low_part(v, size) for v in (x, y))
         if isinstance(part, Linear) and is_number(other) and size < self.word:
             return tuple(self.any_byte() for _ in range(size)), {"c": (mask, part + (other & mask if is_int(other) else other) + carry, "below")}
-        if Number in (type(x), type(y)):
-            return self.offset(self.offset(x, carry), y), {}
         if isinstance(x, Distance) and is_int(y):
             return x._replace(offset=x.offset + y), {}
         if (is_pointer(x) or is_pointer(y)) and size == self.word:
@@ -97,8 +98,8 @@ class Arithmetic:
                 self.fits(by) and self.implied(counter.last - r.offset))
             return r, {"c": self.wraps(old.offset, r.offset)} if known else {}
         fixed, rest = (x, y) if is_int(x) else (y, x)
-        if self.is_room(rest, fixed, size) and not carry:
-            return tuple(self.any_byte() for _ in range(size)), {"c": (WRAPS, *self.room)}
+        if not carry and (self.is_room(rest, fixed, size) or self.is_room(fixed, rest, size)):
+            return tuple(self.any_byte() for _ in range(size)), {"c": (WRAPS,)}
         try:
             bits, out = self.full_adder(self.bits(x, size), self.bits(y, size), carry)
         except Unproved:  # then nothing is kept of the sum but whether it is 0
@@ -113,18 +114,26 @@ class Arithmetic:
         name = self.domain.opaque_of.get(v[0]) if type(v) is tuple and size == self.word else None
         return name[0] if isinstance(name, tuple) and isinstance(name[0], Linear) and list(v) == self.fewest_bytes(name[0], size) else v
 
+    def whole(self, v, size):
+        """The number that isn't known, of which these are the lowest bytes; or None."""
+        name = self.domain.opaque_of.get(v[0]) if type(v) is tuple and size < self.word else None
+        whole = name[0] if isinstance(name, tuple) else None
+        return whole if isinstance(whole, Linear) and v == tuple(self.to_bytes(whole, self.word)[:size]) else None
+
     def low_part(self, v, size):
         """The number that is in these bytes of one that has no more, or of one that is so much larger."""
-        name = self.domain.opaque_of.get(v[0]) if type(v) is tuple and size < self.word else None
-        whole, most = name[0] if isinstance(name, tuple) else None, (1 << 8 * size) - 1
-        if not isinstance(whole, Linear) or v != tuple(self.to_bytes(whole, self.word)[:size]):
+        whole, most = self.whole(v, size), (1 << 8 * size) - 1
+        if whole is None:
             return v
         fitting = [part for part in (whole, whole - (most + 1)) if self.implied(part) and self.implied(most - part)]
         return fitting[0] if fitting else v
 
     def is_room(self, low, last, size):
         """Whether these are the 32 bits of GCM's counter in its first block, of unknown value, and the number of the text's last block."""
-        return self.room and size == 4 and is_int(last) and (*self.to_bytes(low, size), last & 0xffffffff) == self.room
+        if not self.room or size != 4 or self.to_bytes(low, size) != [*self.room[:-1]]:
+            return False
+        whole = last if is_int(last) else self.whole(last, size)
+        return whole is not None and wrapped(whole - self.room[-1], 0xffffffff) == 0
 
     def wraps(self, block, later):
         """Whether the low half of the counter wraps around between two blocks."""
@@ -173,7 +182,7 @@ class Arithmetic:
         if is_pointer(x) and is_number(y) and size == self.word:
             return self.offset(x, carry - 1 - y), {}
         if is_int(x) and carry and self.is_room(y, ~x, size):
-            return None, {"c": ("not", (WRAPS, *self.room))}
+            return None, {"c": ("not", (WRAPS,))}
         if is_pointer(x) or is_pointer(y):
             raise Unproved("computes with addresses")
         return self.plus(x, ~y if is_int(y) else self.bytewise("xor", self.to_bytes(y, size), [255] * size), carry, size)
@@ -186,6 +195,8 @@ class Arithmetic:
             return {"z": zero} if y == x.right else {"z": contrary(zero)} if is_int(y) and y == x.wrong else {}
         if isinstance(x, Shifted) and y == 0:
             return self.zero_and_sign(x, size)
+        if isinstance(x, Shifted) and is_int(y):
+            x = self.quotient(x.number, 1 << x.count)
         if tuple not in (type(x), type(y)):
             return self.minus(x, y, size)[1]
         never = y == 0 and any(1 in self.domain.bits(b) for b in self.to_bytes(x, size) if b not in self.any_of)

@@ -96,6 +96,13 @@ class Forms:
         """A byte that is a cell of its own; in block 1, if each block has one."""
         return self.byte_of_cell(self.cell(name, of_block, depends), int(of_block))
 
+    def forgotten(self, byte, number):
+        """Any bits in the place of those of a byte that aren't constant. They count as key where they are left."""
+        cell = self.of_forgotten.setdefault(number, len(self.names))
+        if cell == len(self.names):
+            self.cell("forgotten byte %s" % (number,), False, KEY)
+        return self.pack([x if x < 2 else self.bit(cell, table, 0) for x, table in zip(self.bits(byte), LINEAR)])
+
     def byte_of_cell(self, cell, block, tables=LINEAR):
         """The byte of which the bits have these truth tables."""
         return self.pack([self.bit(cell, t, block) for t in tables])
@@ -123,6 +130,10 @@ class Forms:
             if self.products and any(b & BLOCK == PRODUCT << 1 for b in bits):
                 self.with_products.add(byte)
         return byte
+
+    def plain(self, byte):
+        """A byte without its name, if its bits are known."""
+        return self.pack(self.bits_of[byte]) if self.symbolic(byte) else byte
 
     def bits(self, byte):
         if byte < 256:
@@ -199,7 +210,8 @@ class Forms:
         table ^= ONES * complement
         if not table:
             return complement
-        return self.in_block(self.intern({cell: table}) << 9 | complement, block)
+        n = self.ids.get(((cell, table),)) or self.intern({cell: table})
+        return self.in_block(n << 9 | complement, block)
 
     def xor(self, x, y):
         if x < 2 or y < 2:

@@ -102,7 +102,7 @@ class Bytewise:
         """A value shifted to the left ("lsl"), or to the right with zeros ("lsr") or copies of the highest bit ("asr")."""
         if is_int(v) and how == "lsl":
             return v << count & (1 << 8 * size) - 1
-        if isinstance(v, Linear) and size == self.word and how == "lsl":
+        if isinstance(v, Linear) and size == self.word and how == "lsl" and (count < 32 or not self.fits(v)):  # else its lowest bits count
             return self.offset(v * (1 << count), 0)
         divides = isinstance(v, Linear) and (not self.any_length or step_of(v) >> count)
         if divides and size == self.word and how == "lsr" and self.fits(self.ranged(v)):

@@ -89,6 +89,10 @@ def prove(domain, program, call, seed=None):
     m.facts, m.any_length, ends = call.facts, call.any_length, []
     for window in (r for r in regions.values() if isinstance(r, Window)):
         window.waits = call.later is not None
+    streams = [b for b in call.buffers if isinstance(b, Stream)] if call.later is None else []  # (else their bytes are of another domain)
+    cells = [c for b in streams for c in {c for x in b.content for c in domain.cells(x)}]
+    if len(cells) > len({*cells}):
+        raise Unproved("is about two buffers of the same bytes")
     if refuted(call.facts):
         raise Unproved("is about no arguments")
     watches = [step_by_step(call.steps if call.any_length else call.steps())] if call.steps else []
@@ -134,7 +138,7 @@ def prove(domain, program, call, seed=None):
 
 def is_without_room(m):
     """Whether the answers say that the counter wraps around in the text: a statement with `room` is about the others."""
-    return m.room and m.answers.get((WRAPS, *m.room))
+    return m.room and m.answers.get((WRAPS,))
 
 
 def run(m, call, watches):
@@ -229,9 +233,10 @@ def step_by_step(steps):
     (or a function that makes that), and other bytes, which are arbitrary. When the result is there, these bytes take its place everywhere,
     so what is proved from there on holds for any. "hash" is looked for in vector registers, or as two words in either order of bytes;
     products of bits are then forgotten: what still depends on them is lost, and may not even be left. "vector" is looked for in vector
-    registers, "memory" where something was written, "block" in all these places, "kept" in memory outside of Streams; another name is that of a region. In a call of any length
-    `steps` is a function of the machine. Then "here" says that there is a result; "again" begins another phase, in which blocks have new
-    numbers, and so does "whole", as soon as all of a buffer is done; and "nothing" says that what comes next isn't known."""
+    registers, "memory" where something was written, "block" in all these places, "kept" in memory outside of Streams; another name is that
+    of a region. In a call of any length `steps` is a function of the machine. Then "here" says that there is a result; "again" begins
+    another phase, in which blocks have new numbers, and so does "whole", as soon as all of a buffer is done, and "refused", when the call
+    will return that; and "nothing" says that what comes next isn't known."""
     steps = steps if callable(steps) else list(steps)
 
     def watch(m):
@@ -242,10 +247,10 @@ def step_by_step(steps):
             # (Made before the code comes to it, so the code's products have the factors that it names: with_powers.)
             m.want = where, want() if callable(want) else want, new
         where, want, new = m.want
-        if where == "again" or where == "whole" and m.regions[want].is_done(m):
-            m.begin_again(*((want, *new) if where == "whole" else ()))
+        if where == "again" or where == "whole" and m.regions[want].is_done(m) or where == "refused" and m.was_refused():
+            m.begin_again(*((want, *new) if where != "again" else ()))
             m.want = None
-        if where in ("again", "whole", "nothing"):
+        if where in ("again", "whole", "refused", "nothing"):
             return
         if where == "here" or found(m, where, want):
             replaced, lost, on = {}, None, depends(m, *want) if where == "hash" else 0
@@ -286,15 +291,15 @@ def was_written(m, want):
 
 def in_words(m, want):
     """Whether two general registers have the halves of a block."""
-    words = {v for v in m.general.values() if type(v) is tuple}
-    return {tuple(want[:8]), tuple(want[8:])} <= words or {tuple(want[7::-1]), tuple(want[:7:-1])} <= words
+    words = {v for v in m.general.values() if type(v) is tuple and v[0] in (want[0], want[7], want[8], want[15])}
+    return words and ({tuple(want[:8]), tuple(want[8:])} <= words or {tuple(want[7::-1]), tuple(want[:7:-1])} <= words)
 
 
 # What is left.
 def depends(m, *bytes_):
     """What bytes depend on; of a byte that took the place of a result, what that depended on."""
     domain, out, pairs = m.domain, 0, 0
-    for x in (x for b in bytes_ for x in domain.bits(b)):
+    for x in (x for b in bytes_ if domain.symbolic(b) for x in domain.bits(b)):
         linear, products = domain.split(x)
         out, pairs = out | depends_bit(m, linear), pairs | products
     for number in domain.factors(pairs):
@@ -363,11 +368,10 @@ def left(m, call):
                for b in m.wrote.get(a.name, ())]
     places += [("registers", r, b) for r, v in m.general.items() for b in m.to_bytes(v, 8)]
     places += [("registers", "vector %d" % n, b) for n, v in enumerate(m.vectors) for b in v]
-    out = {}
+    out, kinds = {}, {b: tells(m, b, known, plain) for b in {b for _, _, b in places}}
+    if call.any_length and any(max(m.domain.blocks(b), default=0) >= LAST for b in kinds):
+        raise Unproved("leaves a block with a number that isn't known")
     for place, where, b in places:
-        if call.any_length and max(m.domain.blocks(b), default=0) >= LAST:
-            raise Unproved("leaves a block with a number that isn't known")
-        k = tells(m, b, known, plain)
-        if k:
-            out.setdefault((place, k), []).append(where)
+        if kinds[b]:
+            out.setdefault((place, kinds[b]), []).append(where)
     return out

@@ -1,4 +1,4 @@
-"""Which cases there are: the statements for each build and key size, and of which lengths. README has the table."""
+"""Which cases there are: a table of statements, their arguments, and who takes them. The page CASES.md is made of it (tools/pages)."""
 import collections
 import itertools
 
@@ -10,176 +10,199 @@ from headers import version
 from riscv import Riscv
 from x86_64 import X86_64
 
-# Which statements, and of which lengths: all; or those that reach each path and its ends, of which keys of 24 and 32 bytes take a few.
-# README has the table. Each of these gives the names of statements, and their arguments. Keys of 24 bytes take only these names by default:
-OF_24 = ("any_blocks", "add_keystream", "cbc_decrypt", "any_cbc_encrypt", "wrap", "unwrap", "any_cmac", "ccm_seal", "ccm_open", "seal", "open", "any_seal",
-         "wipe", "wipe_message", "set_key_of", "set_key_of_none", "set_key_refused", "key_length", "key_length_of_none", "version")
-# What takes longest, and what keys of 16 bytes show: builds that take few lengths, and keys of 32 bytes, don't take these by default.
-LONG_CASES = "any_open", "unwrap_padded_refused"  # and `any_seal` of the builds that take few lengths
-OF_RISCV = "blocks", "wipe", "set_key_refused", "key_length", "key_length_of_none", "version"  # with keys of 24 and 32 bytes
-LONG = [(0, 16 * n) for n in range(1, 65)] + [(n, 0) for n in range(1, 100, 9)]
+# A statement (a method of KeyedAes, KeyedGcm or KeyedSiv), what its arguments are, and lists of these. Keys of 16 bytes take `few` with each
+# build; `full` with the builds but `_v1` and those for Windows, which are compiled from what these are; `first` with x86_64/aes.s and
+# x86_64/gcm.s alone; and all of them, and `more`, with each build and PROVE=all. Keys of 24 and 32 bytes take `other` with the builds that
+# take `full`: each call once, and the code that loops over round keys; with PROVE=all `few` and `full`, with each build.
+Row = collections.namedtuple("Row", "name what few full first more other", defaults=[(), (), (), (), ()])
+ONCE = [()]  # no arguments
+
+WAYS, DIRECTIONS = ("", "_to", "_with"), ("encrypt", "decrypt")
+SINGLE_ROUNDS = [(name, way) for name in ("cipher_round", "equiv_inv_cipher_round") for way in ("", "_par")]
+COLUMNS = ["mix_columns", "inv_mix_columns"]
+NO_CARRY, BLOCK_BEHIND = aes.NEVER, 9  # a carry nowhere; before a block that a batch has behind the text
+ROUNDS = [Row("a_round", "a round, or eight (`_par`); they need no key", few=SINGLE_ROUNDS), Row("columns", "of a block", few=COLUMNS)]
+
+AES_ROWS = [
+    Row("any_blocks", "16 n + r blocks for every n: the direction, r, into the same buffer or another (`_to`), or under a key (`_with`)",
+        few=[(way, 7, to) for way in DIRECTIONS for to in ("", "_to")] + [(way, 1, "_with") for way in DIRECTIONS],
+        full=[(way, rest) for way in DIRECTIONS for rest in range(16) if rest != 7],
+        first=[(way, rest, "_to") for way in DIRECTIONS for rest in (0, 1, 2, 14)],
+        more=[(way, rest, to) for to in WAYS[1:] for way in DIRECTIONS for rest in range(16)]),
+    Row("blocks", "the direction and the number of blocks", few=[("encrypt", 2), ("encrypt", 1, "_with")],
+        full=[("encrypt", n) for n in (0, 16, 17)],
+        other=[(way, n, to) for way in DIRECTIONS for n, to in ((2, ""), (16, ""), (1, "_to"), (1, "_with"))]),
+    Row("any_low_keystream", "at 16 k + s for every k, 128 n + r bytes for every n: s, r; for every initial counter block whose low half "
+        "doesn't carry", few=[(0, 0)], full=[(5, 122)], first=[(0, 0, "_with")], more=[(0, 33)]),
+    Row("any_keystream", "the same where the low half carries anywhere or nowhere", first=[(0, 0)],
+        more=[(0, 33), (5, 122), *((0, rest) for rest in range(9, 128, 18)), *((skip, 17 * skip % 128) for skip in range(1, 16, 2)), (3, 45, "_to")]),
+    Row("add_keystream", "the position, the number of bytes, and before which block the low half of the counter carries, if anywhere",
+        few=[(0, 33), (2 ** 64 - 21, 20), (5, 40, 2), (21, 40, 1), (16, 64, 1), (0, 16, BLOCK_BEHIND), (3, 33, NO_CARRY, "_to"),
+             (3, 33, NO_CARRY, "_with")],
+        full=[(0, 16), (0, 130), (3, 0, NO_CARRY, "_to"), (3, 130, NO_CARRY, "_to"), (5, 40, BLOCK_BEHIND), (21, 11), (21, 11, 1), (21, 40, 2),
+              (21, 11, 1, "_to"), (21, 11, 1, "_with"), *((16, 64, block) for block in range(2, 6)),
+              # Positions, and numbers of blocks, that don't fit into 32 bits; and one that would be below 0 if it had a sign.
+              (2 ** 32 - 20, 40), (2 ** 63 + 2 ** 36, 64)],
+        more=[(0, 33, 5)], other=[(0, 33), (3, 33, NO_CARRY, "_to"), (3, 33, NO_CARRY, "_with")]),
+    Row("any_cbc_encrypt", "every number of blocks", few=ONCE),
+    Row("any_cbc_decrypt", "64 n + r blocks for every n: r", full=[9], more=range(64)),
+    Row("cbc_encrypt", "the number of blocks", full=[1, 2], other=[1]),
+    Row("cbc_decrypt", "the number of blocks", few=[9], full=[0, 1], other=[1]),
+    Row("any_wrap", "a key of every number of semiblocks", full=ONCE),
+    Row("any_unwrap", "a key of every number of semiblocks, also of what is refused", full=ONCE),
+    Row("any_wrap_padded", "a key of 16 n + r bytes for every n: r", full=[3], first=[9, 16], more=range(1, 17)),
+    Row("any_unwrap_padded", "a key of 8 n + r bytes for every n, also of what is refused: r", full=[3], first=[1, 8], more=range(1, 9)),
+    Row("wrap", "the number of semiblocks", few=[2], other=[2]),
+    Row("unwrap", "the number of semiblocks, also of what is refused", few=[3], other=[3]),
+    Row("wrap_padded", "the number of bytes", few=[9], other=[1]),
+    Row("unwrap_padded", "the number of bytes, also of what is refused", few=[9], other=[1]),
+    Row("unwrap_padded_refused", "a wrong length, of a key of so many semiblocks: any byte of the three higher ones; one more, one less, 2^k "
+        "and 2^k - 1 for every so many k", full=[(1, 8)], first=[(2, 16)], more=[(n, 1) for n in range(1, 4)]),
+    Row("any_cmac", "16 n + r bytes for every n: r", few=[1], full=[16], first=[12, 15], more=range(1, 17)),
+    Row("any_cmac_verify", "the same, also of what is refused: r and the tag's length", few=[(1, 16)], first=[(1, 11)],
+        more=[(4, tag) for tag in modes.CMAC_TAGS]),
+    Row("cmac", "the number of bytes", full=[0, 1, 16], other=[1]),
+    Row("cmac_verify", "the number of bytes and the tag's length, also of what is refused", full=[(0, 4)], other=[(0, 4)]),
+    *(Row(call, "16 a + b bytes of additional data, none if b is 0, and 256 n + r of text for every a and n: the lengths of nonce, b, r, tag; "
+          "the encoded length of additional data takes 2 bytes, or 6 or 10 if it says so", full=full, first=first,
+          more=[(13, 0, 16, 16), (9, 15, 255, 4, 6), (11, 9, 0, 6, 10), (8, 16, 33, 8, 6), (8, 16, 33, 8, 10)])
+      for call, full, first in (("any_ccm_seal", (), [(8, 15, 33, 8), (8, 16, 33, 8, 6), (8, 16, 33, 8, 10)]),
+                                ("any_ccm_open", [(8, 15, 33, 8)], ()))),
+    *(Row(call, "the same", more=[(12, rest, 15 * rest, 12) for rest in range(17)]) for call in ("any_ccm_seal", "any_ccm_open")),
+    *(Row(call, "the lengths of nonce, additional data, text and tag", few=[(13, 8, 33, 8)],
+          full=[(7, 0, 1, 4), (13, 33, 0, 14)],
+          more=[(12, 14, 16, 16), (8, 15, 17, 6), *((nonce, 20, 40, tag) for nonce in modes.NONCES for tag in modes.CCM_TAGS)],
+          other=[(7, 0, 1, 4)])
+      for call in ("ccm_seal", "ccm_open")),
+    *ROUNDS]
+
+# Nonces of other lengths than 12: of so many bytes, where J_0 ends in these bytes; or any J_0 of which the counter doesn't wrap in the text.
+CARRIED = 7, 0, 255, 255
+NONCES = gcm.UNKNOWN, (1, 2 ** 32 - 1, CARRIED), (60, 2 ** 32 - 2, CARRIED)
+CARRIES = [2 ** k - 1 for k in (64, 72, 80, 88)] + [2 ** 96 - 2]  # of the counter of `_next`; None: any without a carry
+MANY = 2 ** 35  # bytes, so that counts and positions don't fit into 32 bits
+WRAPS = 8, 2 ** 32 - 3, CARRIED  # the counter wraps in the text
+TAGS = 4, 8, 12, 13, 14, 15
+WHOLE = "48 a + r bytes of additional data and 768 n + s of text for every a and n: r, s"
+NONCE = "; then the way, and r of a nonce of 48 k + r bytes for every k, in the place of one of 12 bytes"
+OTHER_NONCES = (0, 129, "", 33), (13, 33, "_to", 0)
+PIECE = "%d n + r bytes for every n after 16 k + s for every k, and any J_0 of which the counter doesn't wrap in the text: s, r"
+PHASES = {"encrypt": gcm.ENCRYPTING, "verify": gcm.VERIFYING, "decrypt_unverified": gcm.VERIFYING}
+STATE = "the phase, and how many bytes of additional data and of text came before"
+
+GCM_ROWS = [
+    Row("wipe_message", "", few=ONCE), Row("set_key_of", "", few=ONCE, other=ONCE),
+    Row("set_key_of_none", "", few=ONCE),
+    Row("any_seal", WHOLE + NONCE, full=[(13, 33)], first=[(0, 129), (13, 33, "", 8)],
+        more=[(0, 0), (1, 16), (16, 225), (33, 48), (47, 767), (13, 33, "_to"), *OTHER_NONCES]),
+    Row("any_open", WHOLE + NONCE + "; also of what is refused", full=[(13, 33)], first=[(13, 33, "_to")],
+        more=[(0, 0), (0, 129), (1, 16), (16, 225), (33, 48), (47, 767), (13, 33, "", 8), *OTHER_NONCES]),
+    Row("any_seal_next", WHOLE, first=[(13, 33)], more=[(0, 129)]),
+    Row("any_begin", "a nonce of 48 k + r bytes for every k: r", full=[8], more=[0, 12, 33, 47]),
+    *(Row("any_" + call, PIECE % step, first=[(3, 46)], more=[(1, 15), (9, 23), (15, 48)]) for call, step in (
+        ("additional", 48), ("verify", 48), ("encrypt", 768), ("decrypt", 768), ("decrypt_unverified", 768))),
+    Row("seal", "the lengths of additional data and text, and a nonce of another length", few=[(13, 33), (13, 33, (), "_to")],
+        full=[(0, 0), (1, 1), (49, 1), (0, 0, (), "_to"), *((5, 20, nonce) for nonce in NONCES)],
+        more=[(0, 449, gcm.UNKNOWN), *((5, 40, nonce) for nonce in NONCES), *((5, n, (60, None)) for n in (0, 129, 300))],
+        other=[(13, 33), (0, 129), (0, 0, (), "_to")]),
+    Row("open", "the same, also of what is refused", few=[(13, 33), (13, 33, (), "_to")],
+        full=[(0, 0), (0, 0, (), "_to"), (3, 20, gcm.UNKNOWN)], more=[(3, 20, nonce) for nonce in NONCES[1:]],
+        other=[(13, 33), (0, 0, (), "_to")]),
+    Row("begin", "the nonce", few=[(), *((nonce,) for nonce in NONCES)], other=[()]),
+    Row("seal_next", "the lengths of additional data and text, and the counter", few=[(3, 1, None)],
+        full=[(3, 1, counter) for counter in CARRIES], other=[(3, 1, None)]),
+    Row("begin_next", "the counter", few=[None], full=CARRIES, other=[None]),
+    Row("additional", "how many bytes came before, and how many come", few=[(3, 13)],
+        full=[(3, 100), (0, 0), (0, 5), (32, 48), (2 ** 32 - 3, 13), (MANY, 7)], other=[(3, 13)]),
+    Row("piece", "the call; " + STATE + "; the number of bytes", few=[(call, gcm.ADDITIONAL, 5, 0, 3) for call in PHASES],
+        full=[*((call, phase, 5, 20, 50) for call, phase in PHASES.items()), *((call, gcm.ADDITIONAL, 0, 0, 16) for call in PHASES),
+              *((call, phase, 5, 7, 9) for call, phase in PHASES.items())],
+        other=[(call, gcm.ADDITIONAL, 5, 0, 3) for call in PHASES]),
+    Row("piece", "the same, of no bytes, after many bytes, and where the counter wraps",
+        full=[*((call, phase, 0, 0, 0) for call, phase in PHASES.items()),
+              ("encrypt", gcm.ENCRYPTING, 5, 2 ** 32 - 5, 20, (12,)), ("verify", gcm.VERIFYING, MANY, MANY, 9, (12,)),
+              ("encrypt", gcm.ADDITIONAL, 5, 0, 9, WRAPS), ("encrypt", gcm.ENCRYPTING, 5, 39, 9, WRAPS),
+              ("decrypt_unverified", gcm.VERIFYING, 5, 7, 9, WRAPS)],
+        more=[("encrypt", gcm.ENCRYPTING, 5, 39, 50, WRAPS), ("decrypt_unverified", gcm.VERIFYING, 5, 7, 50, WRAPS)]),
+    Row("decrypt", "the length of the text, how many bytes of it came before, and how many come", few=[(100, 7, 20)],
+        full=[(100, 32, 68), (2 * MANY, MANY - 5, 20, (12,)), (100, 39, 9, WRAPS)], more=[(100, 0, 16), (100, 39, 50, WRAPS)], other=[(100, 7, 20)]),
+    *(Row(call, STATE + also, few=[(phase, 16, 7), *few], other=[(phase, 16, 7), *few],
+          full=[(gcm.ADDITIONAL, 0, 0), (gcm.ADDITIONAL, 5, 0), (phase, 5, 16), (phase, MANY + 16, MANY + 7), (phase, 16, 9, WRAPS), *full])
+      for call, phase, also, few, full in (
+          ("finish", gcm.ENCRYPTING, "", (), ()),
+          ("accept", gcm.VERIFYING, "; also of what is refused, and of a shorter tag", [(gcm.VERIFYING, 16, 7, gcm.UNKNOWN, 12)],
+           [(gcm.VERIFYING, 16, 7, gcm.UNKNOWN, n) for n in TAGS if n != 12])))]
+
+SIV_ROWS = [
+    Row("any_seal", WHOLE + "; both may have 2^36 bytes", full=[(33, 77)], first=[(16, 256), (13, 33, "_to")],
+        more=[(13, 33), (0, 0), (1, 1), (13, 81), (20, 145), (13, 225), (0, 450), (33, 48), (47, 767)]),
+    Row("any_open", WHOLE + "; also of what is refused", first=[(13, 33, "_to"), (13, 225)],
+        more=[(13, 33), (1, 1), (33, 77), (13, 81), (20, 145), (0, 450), (33, 48), (47, 767), (0, 0, "_to")]),
+    Row("seal", "the lengths of additional data and text", few=[(13, 33), (13, 33, "_to")], other=[(13, 33), (13, 33, "_to")]),
+    Row("open", "the same, also of what is refused", few=[(1, 1), (13, 33, "_to")], other=[(1, 1), (13, 33, "_to")])]
 
 
-def common_cases(library, version):
-    yield "wipe", [()]
-    yield "set_key_refused", [()]
-    for name, arguments in (("key_length", ()), ("key_length_of_none", ()), ("version", version)) if library != "siv" else ():
-        yield name, [arguments]
-
-
-def aes_cases(choose):
-    ways = "encrypt", "decrypt"
-    yield "blocks", choose([(direction, n, way) for direction in ways for n in range(65) for way in ("", "_to", "_with")[:3 if n else 2]],
-                           [("encrypt", 2), ("encrypt", 1, "_with")], [("encrypt", n) for n in (0, 16, 17)] + [(way, 17, "_to") for way in ways])
-    counts = 0, 1, 16, 33, 64, 130, 450
-    yield "add_keystream", [(0, n) for n in choose(counts, (33,), (1, 16, 64, 130, 450))] + [(2 ** 64 - 21, 20), (5, 40, 2)]
-    yield "add_keystream", [(3, n, aes.NEVER, "_to") for n in choose(counts, (33,), (0, 130))]
-    after = [(0, 16, 9), (5, 40, 9), (0, 33, 5)]  # the text, where a batch goes on
-    yield "add_keystream", choose(after, after[:1], after[1:2])
-    later = [(21, 11), (21, 11, 1), (21, 40, 1), (21, 40, 2), (21, 11, 1, "_to"), (21, 11, 1, "_with")]  # than the first block
-    yield "add_keystream", choose(later, later[2:3], later[:2] + later[3:])
-    yield "add_keystream", [(3, n, aes.NEVER, "_with") for n in choose(range(0, 1025, 21), (33,))]
-    # A batch of four blocks: a carry before each of its blocks, and before the one behind it.
-    yield "add_keystream", [(16, 64, wrap) for wrap in choose(range(1, 6), (1,), range(2, 6))]
-    # Positions, and numbers of blocks, that don't fit into 32 bits; and one that would be below 0 if it had a sign.
-    far = [(2 ** 32 - 20, 40), (2 ** 63 + 2 ** 36, 64)]
-    yield "add_keystream", choose(far, (), far)
-    # Of every length, by its remainder.
-    others = [rest for rest in range(16) if rest != 7]
-    for way, few, more, of_first in ("", (7,), others, ()), ("_to", (7,), (), (0, 1, 2, 14)), ("_with", (1,), (), ()):
-        yield "any_blocks", [(direction, rest, way) for direction in ways for rest in choose(range(16), few, more, of_first)]
-    yield "any_cbc_encrypt", [()]
-    yield "any_cbc_decrypt", choose(range(64), (), (9,))
-    # And at every position, with a carry anywhere: by the place in a block, and by the remainder.
-    every = [(0, rest) for rest in range(9, 128, 18)] + [(skip, 17 * skip % 128) for skip in range(1, 16, 2)] + [(3, 45, "_to")]
-    yield "any_low_keystream", choose([(0, 0), (0, 33), (5, 122), (0, 0, "_with")], [(0, 0)], (), [(0, 0, "_with")])
-    yield "any_keystream", choose([(0, 0), (0, 33), (5, 122), *every], (), (), [(0, 0)])
-    yield "cbc_decrypt", choose(range(65), (9,), (0, 1, 3, 4, 8, 17))
-    yield "cbc_encrypt", choose(range(65), (), (1, 2))
-    yield "any_wrap", [()]
-    yield "any_unwrap", [()]
-    yield "wrap_padded", choose(range(1, 58), (9,), (1, 8))
-    yield "unwrap_padded", choose(range(1, 58), (9,), (1, 8, 57))
-    yield "unwrap_padded_refused", choose([(n, 1) for n in range(1, 4)], [(1, 8)], (), [(2, 16)])
-    yield "any_cmac", choose(range(1, 17), (1,), (16,), (12, 15))
-    yield "any_cmac_verify", choose([(4, n) for n in modes.CMAC_TAGS], [(1, 16)], (), [(1, 11)])
-    yield "cmac", choose(range(100), (), (0, 1, 16))
-    yield "cmac_verify", choose([(20, n) for n in modes.CMAC_TAGS], (), [(0, 4)])
-    # The lengths of nonce, additional data, text and tag.
-    messages = [(13, 8, 33, 8), (7, 0, 1, 4), (12, 14, 16, 16), (8, 15, 17, 6), (13, 33, 0, 14), (11, 1, 300, 10)]
-    every = [(nonce, 20, 40, tag) for nonce in modes.NONCES for tag in modes.CCM_TAGS] + [(12, n, 60 - n, 12) for n in range(61)]
-    for call in "any_ccm_seal", "any_ccm_open":
-        yield call, choose([(8, 8, 33, 8), (13, 0, 16, 16), (12, 33, 255, 4)], (), (), [(8, 8, 33, 8)])
-    yield "ccm_seal", choose(messages + every, messages[:1], messages[1:])
-    yield "ccm_open", choose(messages + every, messages[:1], messages[1:-1])
-    # These need no key.
-    yield "a_round", choose(*2 * [[(name, way) for name in ("cipher_round", "equiv_inv_cipher_round") for way in ("", "_par")]], ())
-    yield "columns", [("mix_columns",), ("inv_mix_columns",)]
-
-
-def gcm_cases(choose):
-    more = (0, 0), (1, 1), (49, 1), (0, 225), (0, 449, gcm.UNKNOWN)
-    yield "wipe_message", [()]
-    # Of every length, by what is left of additional data of 48 a bytes and of a text of 768 n.
-    every = [(0, 0), (0, 129), (1, 16), (16, 225), (33, 48), (47, 767)]
-    yield "any_seal", choose([(13, 33), *every, (13, 33, "_to")], [(13, 33)], (), [(0, 129)])
-    yield "any_open", choose([(13, 33), *every], [(13, 33)])
-    for call in "any_additional", "any_verify", "any_encrypt", "any_decrypt":
-        yield call, choose([(3, 46), (1, 15), (9, 23), (15, 48)], (), [(3, 46)])
-    yield "seal", choose([(13, 33), (40, 20), (0, 129), *more, *LONG], [(13, 33)], more)
-    yield "open", choose([(0, 0), (13, 33), (40, 129)], [(13, 33)], [(0, 0)])
-    yield "seal", choose([(0, 0, (), "_to"), (13, 33, (), "_to"), (1, 129, (), "_to")], [(13, 33, (), "_to")], [(0, 0, (), "_to")])
-    yield "open", choose([(0, 0, (), "_to"), (13, 33, (), "_to"), (1, 129, (), "_to")], [(13, 33, (), "_to")], [(0, 0, (), "_to")])
-    yield "set_key_of", [()]
-    yield "set_key_of_none", [()]
-    carried = 7, 0, 255, 255
-    nonces = gcm.UNKNOWN, (1, 2 ** 32 - 1, carried), (60, 2 ** 32 - 2, carried)
-    yield "begin", [(), *[(nonce,) for nonce in nonces]]
-    yield "seal", [(5, n, nonce) for n in choose((20, 40), (), (20,)) for nonce in nonces]
-    yield "seal", choose([(5, n, (60, None)) for n in (0, 129, 300)], ())
-    yield "open", [(3, 20, nonce) for nonce in choose(nonces, (), nonces[:1])]
-    carries = [2 ** k - 1 for k in (64, 72, 80, 88)] + [2 ** 96 - 2]
-    counters = choose([None] + carries, (None,), carries)
-    yield "seal_next", [(3, 1, counter) for counter in counters]
-    yield "begin_next", counters
-    # Calls on a message of which so many bytes have come: its phase, additional data, and text.
-    yield "additional", choose([(3, 100), (0, 0), (0, 5), (3, 13), (32, 48)], [(3, 13)], [(3, 100), (0, 0), (0, 5), (32, 48)])
-    for call, phase in ("encrypt", gcm.ENCRYPTING), ("verify", gcm.VERIFYING), ("decrypt_unverified", gcm.VERIFYING):
-        pieces = [(gcm.ADDITIONAL, 5, 0, 3), (phase, 5, 20, 50), (gcm.ADDITIONAL, 0, 0, 16), (phase, 5, 7, 9), (phase, 0, 0, 0)]
-        yield "piece", [(call, *piece) for piece in choose(pieces, pieces[:1], pieces[1:])]
-    yield "decrypt", choose([(100, 0, 16), (100, 7, 20), (100, 32, 68)], [(100, 7, 20)], [(100, 32, 68)])
-    for call, phase in ("finish", gcm.ENCRYPTING), ("accept", gcm.VERIFYING):
-        states = [(phase, 16, 7), (gcm.ADDITIONAL, 0, 0), (gcm.ADDITIONAL, 5, 0), (phase, 5, 16)]
-        yield call, choose(states, states[:1], states[1:])
-    yield "accept", [(gcm.VERIFYING, 16, 7, gcm.UNKNOWN, n) for n in choose((4, 8, 12, 13, 14, 15), (12,), (4, 8, 13, 14, 15))]
-    # After so many bytes that their counts and positions don't fit into 32 bits.
-    for many in choose([2 ** 35], (), [2 ** 35]):
-        yield "additional", [(2 ** 32 - 3, 13), (many, 7)]
-        yield "piece", [("encrypt", gcm.ENCRYPTING, 5, 2 ** 32 - 5, 20, (12,)), ("verify", gcm.VERIFYING, many, many, 9, (12,))]
-        yield "decrypt", [(2 * many, many - 5, 20, (12,))]
-        yield "finish", [(gcm.ENCRYPTING, many + 16, many + 7)]
-        yield "accept", [(gcm.VERIFYING, many + 16, many + 7)]
-    for n in choose((9, 50), (), (9,)):  # the counter wraps in the text
-        nonce = 8, 2 ** 32 - 3, carried
-        yield "piece", [("encrypt", gcm.ADDITIONAL, 5, 0, n, nonce), ("encrypt", gcm.ENCRYPTING, 5, 39, n, nonce),
-                        ("decrypt_unverified", gcm.VERIFYING, 5, 7, n, nonce)]
-        yield "decrypt", [(100, 39, n, nonce)]
-        yield "finish", [(gcm.ENCRYPTING, 16, n, nonce)]
-        yield "accept", [(gcm.VERIFYING, 16, n, nonce)]
-
-
-def siv_cases(choose):
-    lengths = [(13, 33), (0, 0), (1, 1), (13, 81), (20, 145), (13, 225), (0, 450)]
-    yield "seal", choose(lengths + LONG, lengths[:1], lengths[1:])
-    yield "open", choose([*lengths[1:], (149, 13)], [(1, 1)], [(149, 13)])
-    for call in "seal", "open":
-        yield call, choose([(a, n, "_to") for a, n in lengths], [(13, 33, "_to")], [(0, 0, "_to"), (13, 225, "_to")])
-
-
-def riscv_cases(choose, word):
+def riscv_rows(word):
     """Of the library of blocks for RISC-V, with words of so many bytes: not what the README says isn't proved."""
-    for way, counts in (("", choose((0, 1, 2, 3, 8, 17), (2,), (0, 1, 3, 17))), ("_to", choose((1, 2), (1,), (2,))), ("_with", choose((1,), (1,)))):
-        yield "blocks", [(direction, n, way) for direction in ("encrypt", "decrypt") for n in counts]
-    yield "add_keystream", choose([(0, 33)], [(0, 33)], [(0, 0), (0, 1), (7, 40), (5, 40, 2), (21, 11, 1), (21, 40, 1), (16, 64, 3), (2 ** 32 - 20, 40)])
-    if word == 4:
-        yield "add_keystream", choose((), (), [(5, 40, 2, "", full) for full in (1, 2)])  # words above the lowest one that carry too
-        yield "unwrap_padded", choose((1, 9), (1,), (9,))
-        yield "unwrap_padded_refused", choose([(1, 8)], [(1, 8)])
-    yield "add_keystream", choose((), (), [(3, 33, aes.NEVER, "_to"), (21, 11, 1, "_with")])
-    yield "cbc_encrypt", choose((0, 2), (2,), (0,))
-    yield "cbc_decrypt", choose((0, 1, 9), (3,), (0, 1, 9))
-    yield "wrap", choose((2, 3), (2,))
-    yield "unwrap", choose((3, 4), (3,))
-    yield "wrap_padded", choose((1, 9), (1,), (9,))
-    yield "cmac", choose((0, 17), (17,), (0,))
-    yield "cmac_verify", choose([(17, 16), (0, 4)], [(0, 4)], [(17, 16)])
-    for call in "ccm_seal", "ccm_open":
-        yield call, choose([(7, 0, 1, 4)], [(7, 0, 1, 4)], [(13, 8, 33, 8)] * (word == 4))
-    yield "a_round", choose(*2 * [[(name, way) for name in ("cipher_round", "equiv_inv_cipher_round") for way in ("", "_par")]], ())
-    yield "columns", [("mix_columns",), ("inv_mix_columns",)]
+    narrow = word == 4
+    return [
+        Row("blocks", "the direction and the number of blocks",
+            few=[(way, n, to) for way in DIRECTIONS for n, to in ((0, ""), (1, ""), (2, ""), (17, ""), (1, "_to"), (2, "_to"), (1, "_with"))],
+            more=[(way, n) for way in DIRECTIONS for n in (3, 8)],
+            other=[(way, n, to) for way in DIRECTIONS for n, to in ((2, ""), (1, "_to"), (1, "_with"))]),
+        Row("add_keystream", "as above; and how many words above the lowest one carry too",
+            few=[(0, 33), (0, 1), (7, 40), (5, 40, 2), (21, 11, 1), (21, 40, 1), (2 ** 32 - 20, 40), (3, 33, NO_CARRY, "_to"),
+                 (21, 11, 1, "_with"), *[(5, 40, 2, "", 1)] * narrow], more=[(0, 0), (16, 64, 3), *[(5, 40, 2, "", 2)] * narrow]),
+        Row("cbc_encrypt", "the number of blocks", few=[0, 2]), Row("cbc_decrypt", "the number of blocks", few=[0, 1, 3], more=[9]),
+        Row("wrap", "the number of semiblocks", few=[2], more=[3]),
+        Row("unwrap", "the number of semiblocks, also of what is refused", few=[3], more=[4]),
+        Row("wrap_padded", "the number of bytes", few=[1, 9]),
+        Row("unwrap_padded", "the number of bytes, also of what is refused", few=[1, 9] * narrow),
+        Row("unwrap_padded_refused", "as above", few=[(1, 8)] * narrow),
+        Row("cmac", "the number of bytes", few=[0, 17]),
+        Row("cmac_verify", "the number of bytes and the tag's length, also of what is refused", few=[(17, 16), (0, 4)]),
+        *(Row(call, "the lengths of nonce, additional data, text and tag",
+              few=[(7, 0, 1, 4)], more=[(13, 8, 33, 8)] * narrow) for call in ("ccm_seal", "ccm_open")),
+        *ROUNDS]
 
 
-LIBRARIES = {"aes": (modes.KeyedAes, aes_cases), "gcm": (gcm.KeyedGcm, gcm_cases), "siv": (siv.KeyedSiv, siv_cases)}
+def common_rows(library, version):
+    """Of each library: what AES-GCM-SIV has too comes first."""
+    rows = [Row("wipe", "", few=ONCE), Row("set_key_refused", "every length of a key that is refused", few=ONCE)]
+    return rows if library == "siv" else [*rows, Row("key_length", "", few=ONCE, other=ONCE), Row("key_length_of_none", "", few=ONCE),
+                                          Row("version", "the number", few=[version])]
+
+
+LIBRARIES = {"aes": (modes.KeyedAes, AES_ROWS), "gcm": (gcm.KeyedGcm, GCM_ROWS), "siv": (siv.KeyedSiv, SIV_ROWS)}
+
+
+def rows_of(library, machine):
+    return riscv_rows(machine.word) if issubclass(machine, Riscv) else LIBRARIES[library][1]
+
+
+def taken(row, program, key_size, all_):
+    """The arguments with which a build takes a statement."""
+    if key_size != 16:
+        return [*row.few, *row.full] if all_ else () if program.few else row.other
+    if all_:
+        return dict.fromkeys([*row.few, *row.full, *row.first, *row.more])
+    is_first = program.machine is X86_64 and not program.few and program.suffix != "_v3"
+    return [*row.few, *(() if program.few else row.full), *(row.first if is_first else ())]
+
+
+def name_of(row, values):
+    return " ".join([row.name] + [str(v) for v in values if v not in ("", (), NO_CARRY)])
 
 
 def statements(keyed, options, part, parts):
     """(what, Call) of this part of all; set_key was proved before."""
-    few = not options.all and (keyed.program.few or keyed.key_size > 16)
-    named = OF_RISCV if few and keyed.program.machine.relaxed else OF_24 if keyed.key_size == 24 else None
-    long_cases = (*LONG_CASES, "any_seal") if keyed.program.few else LONG_CASES
-    takes = lambda name: not few or name not in long_cases and (not named or name in named)
-    first = not few and keyed.program.machine is X86_64 and keyed.program.suffix != "_v3"
-    choose = lambda all_, few_, more=(), of_first=(): all_ if options.all else few_ if few else [*few_, *more, *(of_first if first else ())]
-    cases, number, machine = LIBRARIES[keyed.library][1], itertools.count(), keyed.program.machine
-    if issubclass(machine, Riscv):
-        cases = lambda choose: riscv_cases(choose, machine.word)
-    for name, arguments in [*common_cases(keyed.library, version(options.dist, keyed.library)), *cases(choose)]:
-        for values in arguments if takes(name) else ():
+    program, number, refusals = keyed.program, itertools.count(), collections.Counter()
+    for row in [*common_rows(keyed.library, version(options.dist, keyed.library)), *rows_of(keyed.library, program.machine)]:
+        for values in taken(row, program, keyed.key_size, options.all):
             values = values if isinstance(values, tuple) else (values,)
-            what = " ".join([name] + [str(v) for v in values if v not in ("", (), aes.NEVER)])
+            what = name_of(row, values)
             if options.only in what and next(number) % parts == part:
-                yield what, getattr(keyed, name)(*values)
-    refusals = collections.Counter()  # of each call by its name
+                yield what, getattr(keyed, row.name)(*values)
     for call in keyed.refused():
         refusals[call.name] += 1
         if options.only in call.name + " refused" and next(number) % parts == part:

@@ -13,6 +13,7 @@ class Domain(Forms, Products, Names):
         Forms.__init__(self)
         # Results that were computed once, by the operands (entries and shifted: in bytewise.py).
         self.ands, self.byte_xors, self.byte_ands, self.lookups, self.moves, self.entries, self.shifted = ({} for _ in range(7))
+        self.repeats, self.in_planes = {}, {}  # see `alike`
 
     def and_(self, x, y):
         if x < 2 or y < 2:
@@ -34,6 +35,29 @@ class Domain(Forms, Products, Names):
     def or_(self, x, y):
         return self.and_(x ^ 1, y ^ 1) ^ 1
 
+    # A byte of a plane has the same function of each of eight blocks: then one bit says it, with the blocks.
+    def alike(self, a, b):
+        """Such a bit of each of two bytes, without their blocks, and the blocks, which are the same for both; or (None, None)."""
+        (x, p), (y, q) = self.repeated(a), self.repeated(b)
+        return ((x, y), p or q) if x is not None and y is not None and (p == q or not p or not q) else (None, None)
+
+    def repeated(self, byte):
+        if byte not in self.repeats:
+            bits = self.bits(byte)
+            blocks = tuple(x & BLOCK for x in bits)
+            same = len({x & ~BLOCK for x in bits}) == 1 and max(blocks) < PRODUCT << 1
+            self.repeats[byte] = (bits[0] & ~BLOCK, any(blocks) and blocks) if same else (None, None)
+        return self.repeats[byte]
+
+    def in_blocks(self, x, blocks):
+        """A byte that has this function of each of these blocks."""
+        blocks = blocks if x > 1 and self.has_block[x >> 9] else False
+        key = x, blocks
+        if key not in self.in_planes:
+            self.in_planes[key] = self.pack([x | block for block in blocks] if blocks else [x] * 8)
+            self.repeats[self.in_planes[key]] = key
+        return self.in_planes[key]
+
     def xor_byte(self, a, b):
         if a < 256 and b < 256 or not a or not b:
             return a ^ b
@@ -41,8 +65,9 @@ class Domain(Forms, Products, Names):
         known = self.product_xors if a in self.with_products or b in self.with_products else self.byte_xors
         c = known.get(key)
         if c is None:
+            form, blocks = self.alike(a, b)
             xor = self.xor
-            c = known[key] = self.pack([xor(x, y) for x, y in zip(self.bits(a), self.bits(b))])
+            c = known[key] = self.in_blocks(xor(*form), blocks) if form else self.pack(list(map(xor, self.bits(a), self.bits(b))))
         return c
 
     def and_byte(self, a, b):
@@ -54,8 +79,9 @@ class Domain(Forms, Products, Names):
         known = self.byte_ands if key == (a, b) else self.product_ands
         c = known.get(key)
         if c is None:
-            and_ = self.and_
-            c = known[key] = self.pack([and_(x, y) for x, y in zip(*map(self.bits, key))])
+            form, blocks = self.alike(*key)
+            alike = form and self.factor_bits.isdisjoint(x & ~1 for x in form)
+            c = known[key] = self.in_blocks(self.and_(*form), blocks) if alike else self.pack(list(map(self.and_, *map(self.bits, key))))
         return c
 
     def with_factors(self, a, b):

@@ -5,7 +5,7 @@ by what a function does, and not by the registers that the compiler took, where 
 
 def function(path):
     """The label of a function: of the first one, where several differ in their types."""
-    return r'"?(?:\w+\.)?%s(?:::<[^"\n]*>|\.\d+)?"?:' % path.replace("::", r"(?:::|\.)")
+    return r"(?:\w+\.)?%s(?:\.\d+)?:" % path.replace("::", r"\.")
 
 
 def second(label):
@@ -18,7 +18,7 @@ def exported(name):
 
 def call(path):
     """A call of a function, and its line."""
-    return r'\tcallq\t"?(?:\w+\.)?%s(?:::<.*|\.\d+.*|".*|[ \t].*|)\n' % path.replace("::", r"(?:::|\.)")
+    return r"\tcallq\t(?:\w+\.)?%s(?:\.\d+)?(?:[ \t].*|)\n" % path.replace("::", r"\.")
 
 
 def low(register, size="d"):
@@ -178,7 +178,7 @@ FAULTS = {
         ("a branch on the first semiblock before the padding", PADDED_DIFFERENCE, r"(addl\t\$1504093786, .*\n)", r"\1\tjne\t77f\n77:\n",
          "unwrap_padded 9"),
         ("a byte of the padding not compared", PADDED_DIFFERENCE, "(%s)" % call("key_wrap::padded::mask_below"), r"\1\txorl\t%eax, %eax\n",
-         "unwrap_padded 1"),
+         "any_unwrap_padded 1"),
         ("a single round without its round key", ROUND, r"\tmovdqu\t\(%rsi\), (%xmm\d+)\n", r"\tpxor\t\1, \1\n", "a_round cipher_round"),
         ("the bytes of a tag moved by one", exported("aes_cmac"), r"(\tmovaps\t\(%rsp\), (%xmm\d+)\n)", r"\1\tpsrldq\t$1, \2\n", "cmac 1"),
         ("another constant for subkeys", CMAC_TAG, r"andl\t\$135, ", "andl\t$134, ", "cmac 16"),
@@ -228,7 +228,7 @@ FAULTS = {
         ("fewer bytes of a key copied", exported("gcm_set_key_of"), r"\$240, ", "$224, ", "set_key_of"),
     ],
     "x86_64/siv": [
-        ("another half of a derived block", DERIVE, r"movq\t32\((%rbx)\), ", r"movq\t40(\1), ", "seal 0 0"),
+        ("another half of a derived block", DERIVE, r"movq\t32\((%rbx)\), ", r"movq\t40(\1), ", "seal 13 33"),
         ("a counter of 16 bits", APPLY, r"leal\t1(\(%r\w+,%r\w+\)), %e?(\w+)", lambda found: "leal\t%s, %%%s\n\tincw\t%%%s" % (
             found[1], found[0].rpartition("%")[2], low("r" + found[2].lstrip("r").removesuffix("d"), "w")), "seal 13 33"),
         ("a refused text not encrypted again", SIV_OPEN, r"(test[bl]\t%(\w+), %\2\n)\tj(?:e|ne)\t", r"\1\tjmp\t", "open 1 1"),

@@ -6,9 +6,10 @@ import functools
 import itertools
 from collections import namedtuple
 
-from aes import BATCH, DONE, NEVER, PTRDIFF_MAX, STRUCT as AES_STRUCT, CounterWord, Keyed, between, lengths_but, nothing, unequal, unread
+from aes import BATCH, DONE, NEVER, PTRDIFF_MAX, STRUCT as AES_STRUCT, CounterWord, between, lengths_but, nothing, unequal, unread
 from bits import DATA, KEY, PUBLIC
 from calls import ANY, Buffer, Call, Stream
+from hashing import Hashing, KeyedHash, threes
 from linear import WORD, unknown
 from operands import Content, Pointer
 from standards import ZEROS, number, padded, product
@@ -22,71 +23,18 @@ NONE, ADDITIONAL, ENCRYPTING, VERIFYING, DECRYPTING = range(5)  # phases of a me
 MOST, MOST_ADDITIONAL, MOST_NONCE = 2 ** 36 - 32, 2 ** 61 - 1, 2 ** 61 - 1
 
 
-def threes(blocks):
-    """The groups of blocks whose products with powers of H are added at once."""
-    return [blocks[i:i + 3] for i in range(0, len(blocks), 3)]
-
-
-class Hashing:
-    """GHASH (6.4) from a value on, group by group; each value that depends on the key becomes an arbitrary block.
-    `plan` has the steps: the value before, the group, and the block that the value after it becomes; `made` counts these blocks."""
-
-    def __init__(self, keyed, value, made=0):
-        self.keyed, self.value, self.plan, self.made = keyed, value, [], made
-
-    def take(self, groups):
-        for group in groups if not self.keyed.program.narrow else ([block] for group in groups for block in group):
-            if any(self.value) or any(map(any, group)):
-                self.made += 1
-                after = self.keyed.of(self.keyed.hash_value, self.made)
-                self.plan.append((self.value, group, after))
-                self.value = after
-        return self
-
-    def end_as(self, block):
-        """The last value becomes this block."""
-        self.plan[-1] = *self.plan[-1][:2], block
-        return self
-
-    def steps(self, begin=0, end=None):
-        for value, group, after in self.plan[begin:end]:
-            yield "hash", functools.partial(self.sum, value, group), after
-
-    def sum(self, value, group):
-        """(Y + X_1) H^m + X_2 H^(m-1) + .. + X_m H"""
-        return self.keyed.with_powers([self.keyed.aes.xor(value, group[0]), *group[1:]])
-
-
 UNKNOWN = 8, None  # a nonce of 8 bytes, and any J_0, also that of a nonce of 12 bytes; see nonce_of
+OF_J_0 = "J_0 low, at every length"
+# For calls of every length: the arguments, how many phases come before the message, and their steps; Cipher of J_0 and of a later block,
+# and what else the call and its arguments need.
+AnyNonce = namedtuple("AnyNonce", "arguments phases steps mask stream more facts")
 # J_0: twelve bytes and the number that its last four are; how GHASH makes it of a nonce of another length; the arguments of a call.
 PreCounter = namedtuple("PreCounter", "bytes counter hashing arguments")
 
 
-class KeyedGcm(Keyed):
+class KeyedGcm(KeyedHash):
     """key_length, wipe and what set_key refuses are stated in aes.py: these sentences of the two headers are alike."""
-    library, prefix, schedules = "gcm", "gcm", 1
-
-    def __init__(self, program, key_size):
-        super().__init__(program, key_size)
-        d = self.domain
-        self.powers = [[d.fresh("H^%d byte %d" % (n, i), KEY) for i in range(16)] for n in self.kept_powers()]
-        self.nonce = [d.fresh("nonce byte %d" % i, PUBLIC) for i in range(12)]
-        self.pre_counter = [d.fresh("J_0 byte %d" % i, KEY | PUBLIC) for i in range(12)]
-        block = lambda name, depends: [d.fresh("%s byte %d" % (name, i), depends, True) for i in range(16)]
-        self.text, self.sealed, self.tag = (block(name, DATA) for name in ("text", "encrypted", "tag"))
-        self.additional_bytes, self.long_nonce = block("additional", DATA), block("long nonce", PUBLIC)
-        self.hash_value, self.rest = block("hash", KEY | DATA), block("rest", KEY | DATA)
-
-    def kept_powers(self):
-        return (1,) if self.program.narrow else (1, 2, 3)
-
-    def with_powers(self, blocks):
-        """X_1 H^m + .. + X_m H, and factors named so that the same cells come with the same power."""
-        factors, sums = self.domain.name_factors(sum(blocks[::-1], [])), self.domain.sums
-        if tuple(factors) not in sums:
-            products = (product(self.domain, factors[16 * i:16 * i + 16], self.powers[i]) for i in range(len(blocks)))
-            sums[tuple(factors)] = functools.reduce(self.aes.xor, products)
-        return sums[tuple(factors)]
+    library = prefix = "gcm"
 
     # The struct. What these builds don't keep of it they neither read nor write.
     def size_of_struct(self):
@@ -249,85 +197,83 @@ class KeyedGcm(Keyed):
         low, high = ([1, 0, 0, 0] + self.nonce[:7:-1], Pointer("any J_0 low", 0)), (self.nonce[7::-1], Pointer("nonce high", 0))
         return CounterWord("any J_0 low", 1, NEVER, size.divided(16)[0] + 2 + BATCH, {tuple(b): word for b, word in (low, high)})
 
-    def any_group(self, m, before, bytes_, size, end, after):
-        """What GHASH does next with so many bytes: three blocks, as long as there are so many; then the rest and the blocks `end`. A value
-        becomes the block with which the next group begins; the last one becomes `after`."""
-        group, size = m.done, m.known(size)
-        whole, rest = divmod(size, 48) if isinstance(size, int) else size.divided(48)
-        value_of = lambda group: before if group == 0 else self.at_block(m, self.hash_value, group * 3)
-        below = m.is_below(group, whole)
-        if below:
-            return self.group_step(value_of(group), [self.at_block(m, bytes_, group * 3 + k) for k in range(3)], value_of(group + 1))
-        if below is None or not isinstance(group - whole, int):
-            return "nothing", (), ()
-        tail = [b for k in range(3) for b in self.at_block(m, bytes_, whole * 3 + k)][:rest]
-        groups = threes(padded(tail) + end)
-        at = group - whole
-        if at < len(groups):
-            return self.group_step(value_of(group), groups[at], value_of(group + 1) if groups[at + 1:] else after)
-        if not groups and at == 0:  # the last value was that of a whole group
-            return "here", value_of(group), after
-        return "again", (), ()
+    # A nonce of 12 bytes, or of 48 k + `rest` of them for every k: then J_0 is any block of which the counter doesn't wrap around in the text.
+    def any_nonce(self, rest, size):
+        first = self.nonce_of()
+        if rest is None:
+            return AnyNonce(first.arguments, 0, None, self.stream(first, 0), self.once("any counters", self.any_counters),
+                            {"counter": self.any_counter_word(size)}, set())
+        length, blocks, (block, mask, stream) = unknown("k") * 48 + rest, (size + 31).divided(16)[0], self.once("any J_0", self.any_pre_counter)
+        hashed = self.once("hashed nonce", lambda: [self.domain.fresh("hashed nonce byte %d" % i, KEY | PUBLIC) for i in range(16)])
 
-    def group_step(self, value, blocks, after):
-        return "hash", functools.partial(self.with_powers, [self.aes.xor(value, blocks[0]), *blocks[1:]]), after
+        def steps(m):
+            if m.phase == 0:
+                return self.any_group(m, ZEROS, self.long_nonce, length, self.at_once(m, ()), [], hashed)
+            lengths = [0] * 8 + m.to_bytes(m.known(length) * 8, 8)[::-1]
+            step = self.group_step(hashed, [lengths], block) if m.done == 0 else ("again", (), ())
+            return step if m.phase == 1 else ("nothing", (), ())
+        more = {"counter": CounterWord(OF_J_0, 1, NEVER, blocks + 1 + BATCH), "room": (*block[:11:-1], blocks - 1)}
+        facts = {unknown("k"), length - (13 if rest == 12 else 1), MOST_NONCE - length, PTRDIFF_MAX - length}
+        return AnyNonce([Stream("nonce", length, self.pattern(self.long_nonce)), length], 2, steps, mask, stream, more, facts)
 
-    def middle_value(self):
-        return self.once("middle value", lambda: [self.domain.fresh("middle hash byte %d" % i, KEY | DATA) for i in range(16)])
+    def any_pre_counter(self):
+        """J_0, Cipher of it, and of a later block: a number of its own, as are those of blocks."""
+        d, own = self.domain, [self.domain.fresh("J_0 byte %d" % i, KEY | PUBLIC) for i in range(12, 16)]
+        low = [d.fresh("counter byte %d of J_0" % i, KEY | PUBLIC, True) for i in range(4)]
+        word = lambda last, k: last[3 - k] if k < 4 else self.pre_counter[15 - k]
+        d.placed[OF_J_0] = lambda number, k: d.bits(d.byte_in_block(word(low, k), number))
+        d.words[OF_J_0] = lambda offset, k: d.bits(word(own, k)) if offset == 0 else None
+        block = self.pre_counter[:8] + [d.opaque((Pointer(OF_J_0, 0), k)) for k in range(8)][::-1]
+        return block, self.aes.cipher(block, self.w), self.aes.cipher(self.pre_counter + low, self.w)
 
-    def last_value(self):
-        return self.once("last value", lambda: [self.domain.fresh("last hash byte %d" % i, KEY | DATA) for i in range(16)])
-
-    def any_hash(self, m, phase, sizes):
-        """GHASH of additional data (phase 0) and of a text, each of such a size."""
-        middle, last = self.middle_value(), self.last_value()
-        if phase > 1:
-            return "nothing", (), ()
-        if phase == 0:
-            return self.any_group(m, ZEROS, self.additional_bytes, sizes[0], [], middle)
-        before = ZEROS if m.known(sizes[0]) == 0 else middle
-        lengths = [b for n in sizes for b in m.to_bytes(m.known(n) * 8, 8)[::-1]]
-        return self.any_group(m, before, self.sealed, sizes[1], [lengths], last)
-
-    def any_tag(self, m, sizes, first):
-        """(GHASH of nothing is that of a block of zeros.)"""
-        nothing = all(m.known(size) == 0 for size in sizes)
-        return self.aes.xor(ZEROS if nothing else self.last_value(), self.stream(first, 0))
-
-    def any_whole(self, rest_of_additional, rest):
-        """What statements of every length have in common: sizes, the counter, and the patterns of text, keystream and encrypted text."""
-        sizes = unknown("a") * 48 + rest_of_additional, unknown("n") * 768 + rest
-        first, stream = self.nonce_of(), self.once("any counters", self.any_counters)
-        self.stream(first, 0)  # gives the inputs of its S-boxes names
-        return sizes, first, *(self.pattern(b) for b in (self.text, stream, self.sealed))
+    def any_begin(self, rest):
+        nonce, state = self.any_nonce(rest, unknown("n") * 16), self.state(ADDITIONAL, 0, 0)[:32]
+        message = self.message(self.undefined(MESSAGE), state + self.once("any J_0", self.any_pre_counter)[0] + 2 * ZEROS)
+        return Call("gcm_begin", [self.schedule(), message, *nonce.arguments], DONE, steps=nonce.steps, facts=nonce.facts)
 
     def any_facts(self, sizes):
         """The additional data may be as long as a buffer, and as the standard allows; the text a little shorter than that."""
         most = MOST - 16 * (BATCH + 2)
         return {unknown("a"), PTRDIFF_MAX - sizes[0], MOST_ADDITIONAL - sizes[0], unknown("n"), most - sizes[1]}
 
-    def any_seal(self, rest_of_additional, rest, way=""):
-        sizes, first, text, stream, sealed = self.any_whole(rest_of_additional, rest)
+    def any_tag(self, m, sizes, nonce):
+        return self.aes.xor(self.any_sum(m, sizes), nonce.mask)
 
-        def steps(m):
-            return ("whole", "output" if way else "text", (sealed,)) if m.phase == 0 else self.any_hash(m, m.phase - 1, sizes)
+    def any_whole(self, additional, text, nonce):
+        """What statements of every length have in common: sizes, the nonce, and the patterns of text, keystream and encrypted text."""
+        sizes = unknown("a") * 48 + additional, unknown("n") * 768 + text
+        nonce = self.any_nonce(nonce, sizes[1])
+        return sizes, nonce, *(self.pattern(b) for b in (self.text, nonce.stream, self.sealed))
+
+    def any_seal_next(self, additional, text):
+        first, assumes = self.counted()
+        return self.any_seal(additional, text, name="gcm_seal_next", arguments=first.arguments, assumes=assumes, may_stay={"flags": 4})
+
+    def any_seal(self, additional, text, way="", nonce=None, name="gcm_seal", **more):
+        sizes, nonce, text, stream, sealed = self.any_whole(additional, text, nonce)
+
+        def steps(m, phase):
+            return ("whole", "output" if way else "text", (sealed,)) if phase == 0 else self.any_hash(m, phase - 1, sizes)
         texts = self.streams_of(way, "text", sizes[1], sizes[1], text, [self.aes.xor(text, stream), sealed], lambda m, number: [0] * 16)
-        tag = Buffer("tag", self.undefined(16), lambda m: self.any_tag(m, sizes, first))
-        return self.of_any_message("gcm_seal" + way, sizes, first, stream, [*texts, tag], steps, text)
+        tag = Buffer("tag", self.undefined(16), lambda m: self.any_tag(m, sizes, nonce))
+        return self.of_any_message(name + way, sizes, nonce, stream, [*texts, tag], steps, text, **more)
 
-    def any_open(self, rest_of_additional, rest):
-        sizes, first, _, stream, sealed = self.any_whole(rest_of_additional, rest)
+    def any_open(self, additional, text, way="", nonce=None):
+        sizes, nonce, _, stream, sealed = self.any_whole(additional, text, nonce)
         text = self.aes.xor(sealed, stream)
         tag = self.once("any tag", lambda: [self.domain.fresh("tag byte %d" % i, DATA) for i in range(16)])
-        texts = [Stream("text", sizes[1], sealed, text), sizes[1], Buffer("tag", tag), 16]
-        return self.of_any_message("gcm_open", sizes, first, stream, texts, lambda m: self.any_hash(m, m.phase, sizes), text,
-                                   reveals=lambda m: self.aes.xor(tag, self.any_tag(m, sizes, first)), refused=REFUSED)
+        texts = [*self.streams_of(way, "text", sizes[1], sizes[1], sealed, text), Buffer("tag", tag), 16]
 
-    def of_any_message(self, name, sizes, first, stream, texts, steps, plain, **more):
+        def steps(m, phase):
+            return ("refused", "output", (sealed, ZEROS, True)) if way and phase == 2 else self.any_hash(m, phase, sizes)
+        return self.of_any_message("gcm_open" + way, sizes, nonce, stream, texts, steps, text,
+                                   reveals=lambda m: self.aes.xor(tag, self.any_tag(m, sizes, nonce)), refused=REFUSED)
+
+    def of_any_message(self, name, sizes, nonce, stream, texts, steps, plain, arguments=None, **more):
         additional = Stream("additional", sizes[0], self.pattern(self.additional_bytes))
-        return Call(name, [self.schedule(), *first.arguments, additional, sizes[0], *texts], DONE, steps=steps,
-                    keystream=self.of_all(stream), plain=self.of_all(plain), counter=self.any_counter_word(sizes[1]),
-                    facts=self.any_facts(sizes), **more)
+        return Call(name, [self.schedule(), *(arguments or nonce.arguments), additional, sizes[0], *texts], DONE,
+                    steps=lambda m: nonce.steps(m) if m.phase < nonce.phases else steps(m, m.phase - nonce.phases),
+                    keystream=self.of_all(stream), plain=self.of_all(plain), facts=self.any_facts(sizes) | nonce.facts, **nonce.more, **more)
 
     def seal_next(self, additional_length, text_length, counter=None):
         """The same under the counter's next nonce, which it writes to `nonce`; the counter then moves on by one. .. DONE"""
@@ -434,15 +380,25 @@ class KeyedGcm(Keyed):
         before, size = unknown("u") * 16 + filled, unknown("n") * step + rest
         return before, size, {unknown("u"), unknown("n"), PTRDIFF_MAX - size}
 
-    def any_piece_hash(self, m, bytes_, size, filled, whole=None):
-        """The next step of GHASH; or, with `whole`, the last value, and how many bytes are left of a block."""
-        value, left = lambda group: self.at_block(m, self.hash_value, 1 + group * 3), m.known(size) + filled - 16
-        groups, left = divmod(left, 48) if isinstance(left, int) else left.divided(48)
-        block = lambda k: self.at_block(m, bytes_, k)
-        blocks = lambda group: [block(group * 3 + 1 + k) for k in range(3)]
-        if whole:
-            return value(groups + (left >= 16)), left % 16
-        group, full = m.done - 2, self.once("full block", lambda: [self.domain.fresh("full block byte %d" % i, DATA) for i in range(16)])
+    def groups_of_piece(self, m, size, filled):
+        """How many groups of blocks GHASH takes of a piece behind its first block, and how many bytes are left then."""
+        left, many = m.known(size) + filled - 16, self.at_once(m, ())
+        return divmod(left, 16 * many) if isinstance(left, int) else left.divided(16 * many)
+
+    def end_of_piece(self, m, size, filled):
+        """How many values there are after that of the first block, and how many bytes are left of a block."""
+        groups, left = self.groups_of_piece(m, size, filled)
+        return groups + (left >= 16), left % 16
+
+    def value_in_piece(self, m, group):
+        return self.at_block(m, self.hash_value, 1 + group * self.at_once(m, ()))
+
+    def any_piece_hash(self, m, bytes_, size, filled):
+        """The next step of GHASH."""
+        (groups, left), many = self.groups_of_piece(m, size, filled), self.at_once(m, ())
+        value, block = functools.partial(self.value_in_piece, m), lambda k: self.at_block(m, bytes_, k)
+        blocks = lambda group: [block(group * many + 1 + k) for k in range(many)]
+        group, full = m.done - 2, self.once("full block", self.full_block)
         if isinstance(group, int) and group < 0:
             so_far, part = self.before_piece()
             return self.group_step(so_far, [full], value(0)) if m.done else ("memory", part[:filled] + block(0)[filled:], full)
@@ -458,28 +414,31 @@ class KeyedGcm(Keyed):
 
     def message_after(self, m, numbers, which, bytes_, size, filled):
         """A message of which one number is higher by the size of a piece that GHASH has taken."""
-        value, count = self.any_piece_hash(m, bytes_, size, filled, whole=True)
-        text, end = m.regions["text"], m.known(size) - count
-        rest = [self.domain.opaque((Content("text", end + k, "content %d" % text.turn), 0)) for k in range(count)]
-        if rest != m.regions["message"].content[REST:REST + count]:  # then it was read where the block is known
-            rest = text.initial_at(m, "text", end, count)
-        return self.counts_after(m, numbers, which, size) + value + rest + [None] * (16 - count)
+        group, count = self.end_of_piece(m, size, filled)
+        rest, known = self.left_of_piece(m, m.known(size) - count, count)
+        if rest != m.regions["message"].content[REST:REST + count]:
+            rest = known
+        return self.counts_after(m, numbers, which, size) + self.value_in_piece(m, group) + rest + [None] * (16 - count)
+
+    def left_of_piece(self, m, end, count):
+        """So many bytes of the text from there on, as they are where it isn't known of which block they are, and where it is."""
+        text = m.regions["text"]
+        names = [self.domain.opaque((Content("text", end + k, "content %d" % text.turn), 0)) for k in range(count)]
+        return names, text.initial_at(m, "text", end, count)
 
     def counts_after(self, m, numbers, which, size):
         counts = [m.to_bytes(m.known(n + size if k == which else n), 8) for k, n in enumerate(numbers)]
-        return sum(counts, []) + self.counter_block(self.nonce_of(), 0)
+        return sum(counts, []) + self.once("any J_0", self.any_pre_counter)[0]
 
-    def any_crypted(self, call, filled, rest):
+    def any_crypted(self, filled, rest):
         """The keystream of a piece: its pattern, and what the call needs of the counter."""
         before, size, facts = self.any_numbers(filled, rest, 768)
-        most = MOST - 16 * (BATCH + 2)
-        stream = self.in_places(self.once("any counters", self.any_counters), filled)
-        end = before + size
-        return before, size, stream, dict(keystream=self.of_all(stream), facts=facts | {most - end}, counter=self.any_counter_word(end)._replace(
-            first=unknown("u") + 1))
+        nonce = self.any_nonce(0, before + size)
+        stream, more = self.in_places(nonce.stream, filled), dict(nonce.more, counter=nonce.more["counter"]._replace(first=unknown("u") + 1))
+        return before, size, stream, dict(more, keystream=self.of_all(stream), facts=facts | {MOST - 16 * (BATCH + 2) - before - size})
 
     def any_encrypt(self, filled, rest):
-        before, size, stream, more = self.any_crypted("encrypt", filled, rest)
+        before, size, stream, more = self.any_crypted(filled, rest)
         numbers, text, sealed = (7, before, 0, ENCRYPTING), self.in_places(self.text, filled), self.in_places(self.sealed, filled)
         texts = Stream("text", size, text, [self.aes.xor(text, stream), sealed], lambda m, number: [0] * 16)
         steps = lambda m: self.any_piece_hash(m, self.sealed, size, filled) if m.phase else ("whole", "text", (sealed,))
@@ -487,17 +446,36 @@ class KeyedGcm(Keyed):
                                [texts, size], steps=steps, plain=self.of_all(text), **more)
 
     def any_decrypt(self, filled, rest):
-        before, size, stream, more = self.any_crypted("decrypt", filled, rest)
+        before, size, stream, more = self.any_crypted(filled, rest)
         numbers, sealed = (7, before + size + unknown("more"), before, DECRYPTING), self.in_places(self.sealed, filled)
         plain, state = self.aes.xor(sealed, stream), sum(self.before_piece(), [])
         more["facts"] |= {unknown("more"), MOST - numbers[1]}
         return self.on_message("decrypt", self.any_before(numbers), lambda m: self.counts_after(m, numbers, 2, size) + state,
                                [Stream("text", size, sealed, plain), size], plain=self.of_all(plain), **more)
 
+    def any_decrypt_unverified(self, filled, rest):
+        """GHASH comes first. Its value, and the part of a block that is left, become arbitrary bytes before blocks are numbered anew."""
+        before, size, stream, more = self.any_crypted(filled, rest)
+        numbers, sealed, block = (7, before, 0, VERIFYING), self.in_places(self.sealed, filled), self.once("full block", self.full_block)
+        plain, count = self.aes.xor(sealed, stream), (filled + rest) % 16
+
+        def steps(m):
+            group, _ = self.end_of_piece(m, size, filled)
+            done = m.done - 2 - group
+            if m.phase or done not in (0, 1):
+                return ("nothing", (), ()) if m.phase else self.any_piece_hash(m, self.sealed, size, filled)
+            value, left = self.value_in_piece(m, group), sum(self.left_of_piece(m, m.known(size) - count, count), [])
+            return ("again", (), ()) if done else ("here", value + left, self.last_value() + 2 * block[:count])
+        return self.on_message("decrypt_unverified", self.any_before(numbers), lambda m: self.counts_after(m, numbers, 1, size)
+                               + self.last_value() + block[:count] + [None] * (16 - count),
+                               [Stream("text", size, sealed, plain), size], steps=steps, plain=self.of_all(plain), **more)
+
+    def full_block(self):
+        return [self.domain.fresh("full block byte %d" % i, DATA) for i in range(16)]
+
     def any_before(self, numbers):
         word = lambda n: number(n, 8)[::-1] if isinstance(n, int) else [self.domain.opaque((n, k)) for k in range(8)]
-        first = self.counter_block(self.nonce_of(), 0)
-        return [b for n in numbers for b in word(n)] + first + sum(self.before_piece(), [])
+        return [b for n in numbers for b in word(n)] + self.once("any J_0", self.any_pre_counter)[0] + sum(self.before_piece(), [])
 
     def before_piece(self):
         """Any value of GHASH, and any part of a block: bytes of no block, which are kept when blocks are numbered anew."""

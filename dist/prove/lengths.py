@@ -9,7 +9,7 @@ from collections import namedtuple
 
 from bits import LOST, Unproved
 from linear import is_number, refuted, replaced, terms, unknown, wrapped
-from operands import FARTHEST, Pointer, is_int, is_pointer, lanes
+from operands import FARTHEST, Number, Pointer, is_int, is_pointer, lanes
 from regions import Window
 from unknowns import WRAPPED
 
@@ -87,7 +87,7 @@ def renumbered(m, general, passes):
 
 def passes_to(m, general):
     """After how many passes from a general state a machine may be in it: as a register or what is done of a buffer says."""
-    state, out = general.state, []
+    state = general.state
     pairs = [(w.origin, m.regions[name].origin) for name, w in state.regions.items() if isinstance(w, Window)]
     pairs += [(v, m.general[r]) for r, v in state.general.items()]
     for a, b in pairs:
@@ -137,6 +137,7 @@ def moved_on(m, blocks):
             return d.moved(b, -blocks)
         except Unproved:
             return m.any_byte()
+    m.forget_differences()
     m.each_byte(moved)
     m.first_block += blocks
     m.origins = {(c, block and block - blocks): on for (c, block), on in m.origins.items() if not block or block > blocks}
@@ -164,9 +165,9 @@ def generally(a, b, passes, most):
     if is_number(a, b):
         by = wrapped(b - a, most)
         return wrapped(a + passes * by, most) if is_int(by) and abs(by) <= FARTHEST else None
-    if is_pointer(a, b) and a.base == b.base:
+    if type(a) is type(b) and isinstance(a, (Pointer, Number)) and a.base == b.base:
         offset = generally(a.offset, b.offset, passes, most)
-        return None if offset is None else Pointer(a.base, offset)
+        return None if offset is None else a._replace(offset=offset)
     return None
 
 
@@ -202,7 +203,10 @@ def general_state(known, key, visit, now, wrong=frozenset()):
     passes, first = unknown(name), visit.first
     blocks = in_a_pass(first, now.first)
     second, g = moved_on(now.first, blocks), first.copied()
-    g.first_block, g.origins = first.first_block + passes * blocks, {**second.origins, **first.origins}
+    g.first_block = first.first_block + passes * blocks
+    g.origins = {(c, b): on for (c, block), on in (*second.origins.items(), *first.origins.items())  # and what earlier passes have left
+                 for b in (range(block, 0, -blocks) if block and blocks else [block])}
+    g.forget_differences()
     g.done = generally(first.done, second.done, passes, g.most)
     for r, v in first.general.items():
         general = generally(v, second.general[r], passes, g.most)
@@ -213,7 +217,8 @@ def general_state(known, key, visit, now, wrong=frozenset()):
         other = second.regions[name_]
         if len(region.content) != len(other.content):
             raise Unproved("two passes of a loop don't access the same of %s" % name_)
-        region.content = general_bytes(g, region.content, other.content, passes, changed)
+        begin = min(first.accessed_from(name_), second.accessed_from(name_))
+        region.content[begin:] = general_bytes(g, region.content[begin:], other.content[begin:], passes, changed)
         if isinstance(region, Window):
             region.origin = generally(region.origin, other.origin, passes, g.most)
             if region.origin is None:
@@ -252,12 +257,13 @@ def is_instance(m, general, passes):
     want.replace_unknown(general.name, passes)
 
     def same(a, b):
-        return len(a) == len(b) and all(x in (any_, y) for x, y in zip(a, b))
+        return len(a) == len(b) and (a == b or all(x == y or x == any_ for x, y in zip(a, b)))
     wrong = [r for r, v in want.general.items() if not same(want.to_bytes(v, m.word), m.to_bytes(m.general[r], m.word))]
     wrong += ["vector register %d" % n for n, (v, w) in enumerate(zip(want.vectors, m.vectors)) if not same(v, w)]
     window = lambda r: [r.size, r.end, r.origin, r.initial, r.writable] if isinstance(r, Window) else []
     pairs = [(name, r, m.regions[name]) for name, r in want.regions.items()]
-    wrong += [name for name, r, s in pairs if not same(r.content, s.content) or window(r) != window(s)]
+    of = lambda region, name: region.content[want.accessed_from(name):]
+    wrong += [name for name, r, s in pairs if not same(of(r, name), of(s, name)) or window(r) != window(s)]
     alike = "first_block", "domain", "entered", "top", "done", "phase", "next_address", "counter"
     wrong += [what for what in alike if getattr(want, what) != getattr(m, what)]
     wrong += ["a fact"] * (not all(m.implied(f) for f in want.facts)) + ["a flag"] * any(f is not None for f in want.flags.values())

@@ -19,9 +19,9 @@ from x86_64 import X86_64, Windows
 HOST = "start", "area", "odd"  # names of host.c
 HERE = os.path.dirname(os.path.abspath(__file__))
 # Those that take longest come first. siv: the calls of AES-GCM-SIV in gcm.s
-BUILDS = {"%s/%s%s" % (folder, library, wide): machine for library in ("gcm", "siv", "aes") for folder, machine, wide in (
-    ("aarch64", Aarch64, ""), *((folder, machine, wide) for folder, machine in (("x86_64", X86_64), ("windows_x86_64", Windows))
-                               for wide in ("", "_v3", "_v1")))}
+BUILDS = {"%s/%s%s" % (folder, library, wide): machine for library in ("aes", "siv", "gcm") for folder, machine, wide in (
+    ("x86_64", X86_64, ""), ("aarch64", Aarch64, ""), ("x86_64", X86_64, "_v3"), ("x86_64", X86_64, "_v1"),
+    *(("windows_x86_64", Windows, wide) for wide in ("_v1", "", "_v3")))}
 BUILDS |= {"riscv32/aes": Riscv32, "riscv64/aes_narrow": Riscv64}
 MACHINES = {build.split("/")[0]: machine for build, machine in BUILDS.items()}
 

@@ -1,7 +1,7 @@
 """Faults that show at long lengths only: a statement of every length refuses each, and calls of some lengths up to 64 blocks are proved.
 As in faults.py: (what, behind which label, what is looked for there, what it becomes, the case that has to refuse it)."""
-from faults import (BATCHES, BLOCKS, BLOCKS_TO, BLOCKS_WITH, CBC, CCM_OPEN, CCM_STREAM, ENTRY, IN_BATCHES, WIPE_STACK, WIPE_WORDS, call,
-                    exported, function, low)
+from faults import (BATCHES, BLOCKS, BLOCKS_TO, BLOCKS_WITH, CBC, CCM_OPEN, CCM_STREAM, ENTRY, GCTR, IN_BATCHES, MEMSET, SIV_OPEN, UNWRAP,
+                    WIPE_STACK, WIPE_WORDS, call, exported, function, low, second)
 
 ENCRYPT, DECRYPT = (function("aes_hybrid::closures::call_to_" + name) for name in ("encrypt", "decrypt"))
 KEYSTREAM = exported("aes_add_keystream")
@@ -21,9 +21,23 @@ PUT_TAG, HASH_ON = function("gcm::mode::BorrowedGcm::put_tag"), function("gcm::h
 THREES = r"\taddq\t\$48, %(?P<at>r\w+)\n\tdecq\t%(?P<left>r\w+)\n"
 LEFT_OUT = (r"\g<0>\tcmpq\t$65536, %\g<left>\n\tjne\t77f\n\taddq\t$48, %\g<at>\n\tdecq\t%\g<left>\n"
             r"77:\n\ttestq\t%\g<left>, %\g<left>\n")
+# In POLYVAL with room for three blocks at once, of additional data and then of a text. In AES-GCM-SIV's `open`, where a refused text is
+# encrypted again: where the end is, and the place of the text's length.
+POLYVAL, SIV_COUNTERS = second(function("gcm_siv::message::put_tag")), second(ENCRYPT)
+TEXT_THREES = r"\taddq\t\$48, [\s\S]*?" + THREES
+SIV_AGAIN = r"(test[bl]\t%(\w+), %\2\n\tje\t(\S+)\n)(?=[\s\S]*?\tmovq\t(\d+\(%rsp\)), %rcx\n)"
 # In CMAC's chain: the number of blocks that are done. In CCM's `decrypt`: the call that encrypts a refused text again.
 CHAIN, HASH_PIECE = function("cmac::chaining::chain"), function("gcm::hash_room::hash_piece")
 AGAIN = r"(?P<before>%s[\s\S]*?)(?P<call>%s)" % (CCM_STREAM, CCM_STREAM)
+STANDS_STILL = r"(shrq\t\$4, %(r\w+)\n)", r"\1\tcmpq\t$1048576, %\2\n\tjb\t77f\n\tmovq\t$1048576, %\2\n77:\n"
+FEWER_ZEROS = MEMSET, r"\tcmpq\t$1048576, %rdx\n\tjbe\t77f\n\tmovl\t$1048576, %edx\n77:\n\g<0>"
+# In key wrap: the number of a step, in W and in its inverse; in a turn of W the end of the loop, with the register of the next semiblock,
+# of which the first one is on the stack; in CCM, a length of additional data is compared with that for which it takes more bytes.
+WRAP_TURNS, UNWRAP_TURNS = (function("key_wrap::steps::%swrap_in_place" % un) for un in ("", "un"))
+NUMBER = r"\tmovq\t%r\w+, %rax\n(?=\tbswapq\t%rax\n)"
+TURN = r"(\taddq\t\$8, %(?P<at>r\w+)\n\tdecq\t%(?P<left>r\w+)\n)\tjne\t(?P<loop>\S+)\n"
+WRAP, WRAP_PADDED, UNWRAP_PADDED = (function("key_wrap::" + name) for name in ("wrapping::wrap", "padded::wrap_padded", "padded::unwrap_padded"))
+CCM_TAG, IN_TWO = function("ccm::message::put_tag"), r"cmpq\t\$65279, "
 ON_PLANES, MEMMOVE = call("aes_hybrid::batches::process_on_planes"), r"(\tcallq\t\*memmove.*\n)"
 
 
@@ -87,8 +101,7 @@ LONG_FAULTS = {
         ("a copy of 32 bits of the length", BLOCKS_TO, MEMMOVE, r"\tmovl\t%edx, %edx\n\1", CASE_TO),
         ("a block number of 32 bits", ENCRYPT, r"shrq\t\$4, %(r\w+)\n",
          lambda found: "shrq\t$4, %%%s\n\tmovl\t%%%s, %%%s\n" % (found[1], low(found[1]), low(found[1])), "any_keystream 0 0"),
-        ("a counter that stands still from block 2^20 on", ENCRYPT, r"(shrq\t\$4, %(r\w+)\n)",
-         r"\1\tcmpq\t$1048576, %\2\n\tjb\t77f\n\tmovq\t$1048576, %\2\n77:\n", "any_keystream 0 0"),
+        ("a counter that stands still from block 2^20 on", ENCRYPT, *STANDS_STILL, "any_keystream 0 0"),
         ("no carry into a block's high half from block 2^16 on", ENCRYPT, CARRY % 5,
          r"\g<before>\tjae\t77f\n\tcmpq\t$1048576, %\g<done>\n\tjae\t77f\n\tincq\t%\g<high>\n77:\n", "any_keystream 0 0"),
         ("a position of 32 bits", KEYSTREAM, r"addq\t%(r\w+), 16\((%r\w+)\)",
@@ -102,9 +115,30 @@ LONG_FAULTS = {
         ("a count of 32 bits in CMAC", CHAIN, r"incq\t%(r\w+)\n", in_32_bits("incl\t%%%s\n"), "any_cmac 1"),
         ("a block left out of CMAC after 2^20", CHAIN, r"(\tincq\t%(r\w+)\n)", r"\1\tcmpq\t$1048576, %\2\n\tjne\t77f\n\1\n77:\n",
          "any_cmac_verify 1 16"),
-        ("the same in CCM", CHAIN, r"(\tincq\t%(r\w+)\n)", r"\1\tcmpq\t$1048576, %\2\n\tjne\t77f\n\1\n77:\n", "any_ccm_seal 8 8 33 8"),
+        ("the same in CCM", CHAIN, r"(\tincq\t%(r\w+)\n)", r"\1\tcmpq\t$1048576, %\2\n\tjne\t77f\n\1\n77:\n", "any_ccm_seal 8 15 33 8"),
+        ("the length of 65,280 bytes of additional data in two bytes", CCM_TAG, IN_TWO, "cmpq\t$65280, ", "any_ccm_seal 8 16 33 8 6"),
+        ("that of 65,279 bytes in six", CCM_TAG, IN_TWO, "cmpq\t$65278, ", "any_ccm_seal 8 15 33 8"),
+        ("that of 2^32 bytes in six", CCM_TAG, r"(shrq\t\$)32(, %\w+\n\tjne)", r"\g<1>33\2", "any_ccm_seal 8 16 33 8 10"),
+        ("a step's number of 8 bits in key wrap", WRAP_TURNS, NUMBER, r"\g<0>\tandl\t$255, %eax\n", "any_wrap"),
+        ("one of 16 bits", WRAP_TURNS, NUMBER, r"\g<0>\tandl\t$65535, %eax\n", "any_wrap"),
+        ("one of 32 bits", WRAP_TURNS, NUMBER, r"\g<0>\tmovl\t%eax, %eax\n", "any_wrap"),
+        ("the same in unwrapping", UNWRAP_TURNS, NUMBER, r"\g<0>\tmovl\t%eax, %eax\n", "any_unwrap"),
+        ("a turn of key wrap that ends after 64 semiblocks", WRAP_TURNS, TURN, r"\1\tje\t77f\n\tmovq\t%\g<at>, %rax\n\tsubq\t(%rsp), %rax\n"
+         r"\tcmpq\t$512, %rax\n\tjne\t\g<loop>\n77:\n", "any_wrap"),
+        ("a semiblock that key wrap takes twice after 2^20", WRAP_TURNS, TURN, r"\tmovq\t%\g<at>, %rax\n\tsubq\t(%rsp), %rax\n"
+         r"\tcmpq\t$8388608, %rax\n\tjne\t77f\n\tsubq\t$8, %\g<at>\n77:\n\g<0>", "any_wrap_padded 9"),
+        ("a semiblock that unwrapping leaves out before the last 2^16", UNWRAP_TURNS, r"\taddq\t\$-8, %(r\w+)\n\tdecq\t%(r\w+)\n",
+         r"\g<0>\tcmpq\t$65536, %\2\n\tjne\t77f\n\taddq\t$-8, %\1\n\tdecq\t%\2\n77:\n\ttestq\t%\2, %\2\n", "any_unwrap_padded 3"),
+        ("a copy of 2^20 semiblocks at most in key wrap", WRAP, MEMMOVE,
+         r"\tcmpq\t$8388608, %rdx\n\tjbe\t77f\n\tmovl\t$8388608, %edx\n77:\n\1", "any_wrap"),
+        ("at most 2^20 semiblocks of zeros after a refusal", UNWRAP, "(%s)" % MEMSET,
+         r"\tcmpq\t$8388608, %rdx\n\tjbe\t77f\n\tmovl\t$8388608, %edx\n77:\n\1", "any_unwrap"),
+        ("a length of 16 bits in a padded key", WRAP_PADDED, r"\torq\t%rdx, %rax\n", r"\tmovzwl\t%dx, %r10d\n\torq\t%r10, %rax\n",
+         "any_wrap_padded 9"),
+        ("one of 24 bits looked at in unwrapping", UNWRAP_PADDED, r"\tmovl\t%(\w+), 4\(%(\w+)\)\n(?=\tjmp)",
+         r"\tandl\t$0xffffff, %\1\n\g<0>", "any_unwrap_padded 3"),
         ("a refused text of more than 2^20 bytes not encrypted again", CCM_OPEN, AGAIN,
-         r"\g<before>\tcmpq\t$1048576, %r8\n\tja\t77f\n\g<call>77:\n", "any_ccm_open 8 8 33 8"),
+         r"\g<before>\tcmpq\t$1048576, %r8\n\tja\t77f\n\g<call>77:\n", "any_ccm_open 8 15 33 8"),
         ("another status for 2^32 blocks and more under a key", BLOCKS_WITH, ENTRY,
          r"\1\tmovq\t%rcx, %rax\n\tshrq\t$32, %rax\n\tje\t77f\n\tmovl\t$2, %eax\n\tretq\n77:\n", "any_blocks encrypt 1 _with"),
     ],
@@ -112,22 +146,46 @@ LONG_FAULTS = {
         ("a count of 32 bits that wraps around", IN_BATCHES, r"addq\t\$16, %(r\w+)\n", in_32_bits("addl\t$16, %%%s\n"), CASE),
         ("a batch left out at 2^20 blocks", IN_BATCHES, r"(\taddq\t\$16, %(r\w+)\n\taddq\t\$256, %(r\w+).*\n)",
          r"\1\tcmpq\t$1048576, %\2\n\tjne\t77f\n\taddq\t$16, %\2\n\taddq\t$256, %\3\n77:\n", CASE),
+        ("a step's number of 16 bits in unwrapping", UNWRAP_TURNS, NUMBER, r"\g<0>\tandl\t$65535, %eax\n", "any_unwrap"),
     ],
     "aarch64/aes": [
         ("a count of 32 bits that wraps around", IN_BATCHES, r"add\tx(\d+), x\1, #8\n", r"add\tw\1, w\1, #8\n", CASE),
         ("a batch left out at 2^20 blocks", IN_BATCHES, r"(\tadd\t(x\d+), \2, #8\n)(?=[\s\S]*?\tadd\t(x\d+), \3, #128\n)",
          r"\1\tcmp\t\2, #256, lsl #12\n\tb.ne\t77f\n\tadd\t\2, \2, #8\n\tadd\t\3, \3, #128\n77:\n", CASE),
+        ("a step's number of 32 bits in key wrap", WRAP_TURNS, r"\trev\tx9, x(\d+)\n", r"\tmov\tw9, w\1\n\trev\tx9, x9\n", "any_wrap_padded 3"),
+        ("the length of 65,279 bytes of additional data in six", CCM_TAG, r"cmp\tx(\d+), #254\n", r"cmp\tx\1, #253\n", "any_ccm_open 8 15 33 8"),
     ],
     "x86_64/gcm": [
         ("bits 32 to 39 of a text's length left out of the tag", PUT_TAG, r"shrq\t\$29, %(r\w+)\n",
          lambda found: "xorl\t%%%s, %%%s\n" % (low(found[1]), low(found[1])), "any_seal 13 33"),
         ("three blocks left out of the hash of a text after 2^16", PUT_TAG, THREES, LEFT_OUT, "any_open 13 33"),
         ("the same of additional data", HASH_ON, THREES, LEFT_OUT, "any_seal 13 33"),
-        ("a counter that stands still from block 2^20 on", ENCRYPT, r"(shrq\t\$4, %(r\w+)\n)",
-         r"\1\tcmpq\t$1048576, %\2\n\tjb\t77f\n\tmovq\t$1048576, %\2\n77:\n", "any_seal 13 33"),
+        ("a counter that stands still from block 2^20 on", ENCRYPT, *STANDS_STILL, "any_seal 13 33"),
         ("a branch on the hash of a text after 2^16 groups", PUT_TAG, THREES,
          r"\tcmpq\t$65536, %\g<left>\n\tjne\t77f\n\ttestb\t$1, (%rsp)\n\tje\t77f\n77:\n\g<0>", "any_seal 13 33"),
         ("three blocks left out of the hash of a piece after 2^16", HASH_ON, THREES, LEFT_OUT, "any_additional 3 46"),
         ("a piece's length in 32 bits", HASH_PIECE, ENTRY, r"\1\tmovl\t%r9d, %r9d\n", "any_verify 3 46"),
+        ("zeros in 2^20 bytes of a refused output at most", exported("gcm_open_to"), *FEWER_ZEROS, "any_open 13 33 _to"),
+        ("a count of 32 bits of a piece that is decrypted", exported("gcm_decrypt_unverified"), r"addq\t%(r\w+), 8\((%r\w+)\)",
+         lambda found: "addl\t%%%s, 8(%s)" % (low(found[1]), found[2]), "any_decrypt_unverified 3 46"),
+        ("three blocks left out of the hash of a nonce after 2^16", HASH_ON, THREES, LEFT_OUT, "any_begin 8"),
+        ("a wrap of the counter that isn't seen beyond 2^20 blocks", GCTR, r"\tshrq\t\$4, %(r\w+)\n",
+         lambda found: found[0] + "\tandl\t$1048575, %%%s\n" % low(found[1]), "any_seal 13 33 8"),
+        ("a nonce's length in 32 bits", function("gcm::mode::BorrowedGcm::put_pre_counter"), r"\tmovq\t%(r\w+), (%xmm\d+)\n",
+         lambda found: "\tmovd\t%%%s, %s\n" % (low(found[1]), found[2]), "any_begin 8"),
+    ],
+    "x86_64/siv": [
+        ("a block number of 16 bits", SIV_COUNTERS, r"shrq\t\$4, %(r\w+)\n",
+         lambda found: "shrq\t$4, %%%s\n\tmovzwl\t%%%s, %%%s\n" % (found[1], low(found[1], "w"), low(found[1])), "any_seal 33 77"),
+        ("a counter that stands still from block 2^20 on", SIV_COUNTERS, *STANDS_STILL, "any_open 13 33 _to"),
+        ("three blocks left out of POLYVAL of a text after 2^16", POLYVAL, TEXT_THREES, LEFT_OUT, "any_open 13 33 _to"),
+        ("the same of additional data", POLYVAL, THREES, LEFT_OUT, "any_seal 33 77"),
+        ("bits 32 to 39 of a text's length left out of the tag", POLYVAL, r"shrq\t\$29, %(r\w+)\n",
+         lambda found: "xorl\t%%%s, %%%s\n" % (low(found[1]), low(found[1])), "any_seal 33 77"),
+        ("additional data of 2^36 bytes refused", exported("gcm_siv_seal"), r"\tseta\t", r"\tsetae\t", "any_seal 16 256"),
+        ("a text of 2^36 bytes refused", exported("gcm_siv_seal"), r"(\tseta\t[\s\S]*?)\tseta\t", r"\1\tsetae\t", "any_seal 16 256"),
+        ("a refused text of more than 2^20 bytes not encrypted again", second(SIV_OPEN), SIV_AGAIN, r"\1\tcmpq\t$1048576, \4\n\tja\t\3\n",
+         "any_open 13 225"),
+        ("zeros in 2^20 bytes of a refused output at most", exported("gcm_siv_open_to"), *FEWER_ZEROS, "any_open 13 33 _to"),
     ],
 }

@@ -66,7 +66,7 @@ class Machine(Arithmetic, Unknowns, Bytewise, Access):
         self.stale = set()  # bytes of the stack that may have been overwritten by others since they were written
         self.room = self.counter = None  # see calls.Call
         # See lengths.py.
-        self.facts, self.decided, self.loops, self.replaced, self.first_block, self.generals = frozenset(), [], {}, [], 0, ()
+        self.facts, self.decided, self.loops, self.replaced, self.first_block, self.generals, self.forgets = frozenset(), [], {}, [], 0, (), 0
         self.any_length = False
         self.path = []
         self.enter(arguments)
@@ -144,6 +144,10 @@ class Machine(Arithmetic, Unknowns, Bytewise, Access):
         if flag not in self.answers:
             raise Question(flag)
         return self.answers[flag]
+
+    def was_refused(self):
+        """Whether it was asked if a key or a tag is right, and it isn't."""
+        return any(q[0] == "zero" and not answer and not self.is_public(q[1:]) for q, answer in self.answers.items())
 
     def copied(self):
         m = copy.copy(self)
@@ -272,8 +276,9 @@ class Machine(Arithmetic, Unknowns, Bytewise, Access):
 
         def all_of(b):
             return [memo[x] if x in memo else memo.setdefault(x, convert(x)) for x in b]
-        for region in self.regions.values():
-            region.content = all_of(region.content)
+        for name, region in self.regions.items():
+            begin = self.accessed_from(name) if domain is self.domain else 0
+            region.content[begin:] = all_of(region.content[begin:])
         self.vectors = [all_of(v) for v in self.vectors]
         for r, v in self.general.items():
             if type(v) is tuple or isinstance(v, Verdict) and domain is not self.domain:

@@ -7,7 +7,7 @@ import itertools
 from aes import BATCH, DONE, NEVER, NO_KEY, NONCE_LENGTH, PTRDIFF_MAX, REFUSED, TAG_LENGTH, TOO_LONG, CounterWord, Keyed, between, nothing
 from bits import DATA, KEY, PUBLIC
 from calls import Buffer, Call, Stream
-from linear import unknown
+from linear import WORD, unknown
 from operands import Pointer
 from single_rounds import SingleRounds
 from standards import ZEROS, doubled, number, padded
@@ -181,61 +181,63 @@ class KeyedAes(SingleRounds, Keyed):
         words = {tuple(low[::-1]): Pointer("CCM low, %d" % of, 0), tuple(high[::-1]): Pointer("CCM high, %d" % of, 0)}
         return CounterWord("CCM low, %d" % of, 1, NEVER, size.divided(16)[0] + 2 + BATCH, words)
 
-    def any_ccm_chain(self, m, head, size, last_value):
-        """The steps through the blocks `head` and a text of this size."""
-        early = self.once("early", lambda: [self.fresh_block("early value %d" % k) for k in range(9)])
+    def any_string(self, m, k, size, cells, first, last_value, begin=()):
+        """The step at block k of a string of this size, which may begin with other bytes than those cells. Before it is the value `first`."""
         whole, rest = divmod(size, 16) if isinstance(size, int) else size.divided(16)
-        k = m.done - len(head)
-        if isinstance(k, int) and k < 0:
-            value = early[m.done - 1] if m.done else ZEROS
-            return "block", self.cipher_of(self.aes.xor(head[m.done], value)), early[m.done]
-        first = early[len(head) - 1]
+        block = [*begin, *cells[len(begin):]] if isinstance(k, int) and k == 0 else cells
         if m.is_below(k, whole):
-            return self.any_link(m, k, first)
+            return self.any_link(m, k, first, block)
         if k == whole and rest:
-            return self.any_link(m, k, first, self.block_bytes[:rest] + ZEROS[rest:], last_value)
+            return self.any_link(m, k, first, block[:rest] + ZEROS[rest:], last_value)
         if k == whole:
             return "here", first if k == 0 else self.at_link(m, self.chain()[0], k), last_value
         return "again" if k == whole + 1 else "nothing", (), ()
 
-    def fresh_block(self, name):
-        return [self.domain.fresh("%s, byte %d" % (name, i), KEY | DATA) for i in range(16)]
+    def fresh_block(self, name, *of_block):
+        return self.once(name, lambda: [self.domain.fresh("%s, byte %d" % (name, i), KEY * (not of_block) | DATA, *of_block) for i in range(16)])
 
-    def any_ccm(self, nonce_length, additional_length, rest, tag_length):
+    def any_ccm(self, nonce_length, additional, rest, tag_length, encoded=2):
         """What both calls have in common: the arguments before the text, its size, the patterns of a text and of keystream, the steps of the
-        chain, the tag, and what else they need."""
-        nonce, size = self.nonce[:nonce_length], unknown("n") * 256 + rest
-        additional = self.once("additional", lambda: [self.domain.fresh("additional byte %d" % i, DATA) for i in range(99)])[:additional_length]
+        chain in its phases, how many these are, the tag, and what else they need. There are no additional data, or 16 a + `additional`
+        bytes for every a, of which the length takes so many bytes (A.2.2)."""
+        nonce, size, length = self.nonce[:nonce_length], unknown("n") * 256 + rest, unknown("a") * 16 + additional
         stream = self.pattern(self.once(("CCM counters", nonce_length), lambda: self.ccm_counters(nonce)))
-        text, last_value = self.pattern(self.block_bytes, -1), self.once("last value", lambda: self.fresh_block("last value"))
-        flags = 64 * (additional_length > 0) + 8 * ((tag_length - 2) // 2) + 14 - nonce_length
-        data = padded(number(additional_length, 2) + additional) if additional else []
+        text, cells = self.pattern(self.block_bytes, -1), self.fresh_block("additional data", True)
+        first, middle, last_value = (self.fresh_block(name) for name in ("first value", "value behind additional data", "last value"))
+        flags = 64 * (additional > 0) + 8 * ((tag_length - 2) // 2) + 14 - nonce_length
+        begin = {2: [], 6: [255, 254], 10: [255, 255]}[encoded] + self.highest_first(length, encoded - 2 or 2)
+        lengths = {2: between(length, 1, 0xfeff), 6: between(length, 0xff00, WORD >> 32), 10: between(length, 1 << 32, PTRDIFF_MAX)}
         tag = self.aes.xor(last_value, self.counter_stream(nonce, 0))[:tag_length]
 
-        def chain(m):
-            length = m.to_bytes(m.known(size), 8)[14 - nonce_length::-1]
-            return self.any_ccm_chain(m, [[flags, *nonce, *length], *data], m.known(size), last_value)
-        arguments = [self.schedule(), Buffer("nonce", nonce), nonce_length, Buffer("additional", additional), additional_length]
-        return arguments, size, text, stream, chain, tag, dict(
+        def chain(m, phase):
+            k = m.done - (phase == 0)
+            if isinstance(k, int) and k < 0:
+                return "block", self.cipher_of([flags, *nonce, *m.to_bytes(m.known(size), 8)[14 - nonce_length::-1]]), first
+            if additional and phase == 0:
+                return self.any_string(m, k, m.known(length) + encoded, cells, first, middle, m.known_bytes(begin))
+            return self.any_string(m, k, m.known(size), self.block_bytes, middle if additional else first, last_value)
+        data = Stream("additional", length, [self.pattern([cells[i % 16]], i // 16 - 1)[0] for i in range(encoded, encoded + 16)])
+        arguments = [self.schedule(), Buffer("nonce", nonce), nonce_length, *([data, length] if additional else [nothing("additional", False), 0])]
+        return arguments, size, text, stream, chain, 1 + (additional > 0), tag, dict(
             keystream=self.of_all(stream), counter=self.ccm_counter_word(nonce, size),
-            facts={unknown("n"), PTRDIFF_MAX - size, (1 << 8 * (15 - nonce_length)) - 1 - size})
+            facts={unknown("n"), PTRDIFF_MAX - size, (1 << 8 * (15 - nonce_length)) - 1 - size, *(lengths[encoded] if additional else ())})
 
     def any_ccm_seal(self, *lengths):
-        arguments, size, text, stream, chain, tag, more = self.any_ccm(*lengths)
-        steps = lambda m: chain(m) if m.phase == 0 else ("nothing", (), ())
+        arguments, size, text, stream, chain, phases, tag, more = self.any_ccm(*lengths)
+        steps = lambda m: chain(m, m.phase) if m.phase < phases else ("nothing", (), ())
         return Call("aes_ccm_seal", [*arguments, Stream("text", size, text, self.aes.xor(text, stream)), size,
                                      Buffer("tag", self.undefined(len(tag)), tag), len(tag)], DONE, steps=steps, plain=self.of_all(text), **more)
 
     def any_ccm_open(self, *lengths):
         """When all of the text is decrypted, it becomes arbitrary bytes; with the keystream once more it is what it was."""
-        arguments, size, text, stream, chain, right, more = self.any_ccm(*lengths)
+        arguments, size, text, stream, chain, phases, right, more = self.any_ccm(*lengths)
         tag, sealed = self.tag[:len(right)], self.pattern(self.sealed)
         opened, undone = self.aes.xor(sealed, stream), self.aes.xor(text, stream)
 
         def steps(m):
             if m.phase == 0:
                 return "whole", "text", (text, undone, True)
-            return chain(m) if m.phase == 1 else ("nothing", (), ())
+            return chain(m, m.phase - 1) if m.phase <= phases else ("nothing", (), ())
         return Call("aes_ccm_open", [*arguments, Stream("text", size, sealed, opened), size, Buffer("tag", tag), len(tag)], DONE,
                     steps=steps, reveals=self.aes.xor(tag, right), refused=REFUSED, plain=self.of_all(text + opened),
                     between=self.of_all(undone), undone=True, **more)

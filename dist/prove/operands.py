@@ -6,7 +6,7 @@ from bits import Unproved
 
 Pointer = namedtuple("Pointer", "base offset")  # base: the name of a region, or of a register's value before the call
 Distance = namedtuple("Distance", "base other offset")  # the address of a buffer, less that of another, plus a constant
-Number = namedtuple("Number", "base offset")  # 32 bits: a number of unknown value, plus a constant; higher bytes aren't known
+Number = namedtuple("Number", "base offset")  # 32 bits: a number of unknown value, plus another; higher bytes aren't known
 # So many bytes of which only this is known: they are the number `right` if all the differences are 0, else another one, which is `wrong` if
 # that is known; zeros above.
 Verdict = namedtuple("Verdict", "right differences size wrong", defaults=[None])
@@ -42,11 +42,17 @@ WORD = (1 << 64) - 1
 
 
 def is_int(*values):
-    return all(isinstance(v, int) for v in values)
+    for v in values:  # (Not by `all`: this is asked of each instruction.)
+        if not isinstance(v, int):
+            return False
+    return True
 
 
 def is_pointer(*values):
-    return all(isinstance(v, Pointer) for v in values)
+    for v in values:
+        if not isinstance(v, Pointer):
+            return False
+    return True
 
 
 def constant(what, value):
@@ -112,12 +118,12 @@ class Table(dict):
         return add
 
 
-class Placed(namedtuple("Placed", "base offset first")):
+class Placed(namedtuple("Placed", "value first")):
     """The counter (of Machine.counter) of a block, of which the bytes are those of a number: it counts from the block with number LEAD."""
 
     def byte(self, domain, k):
-        number = self.offset - self.first + LEAD
-        return domain.placed[self.base](number, k) if is_int(number) else None
+        number = self.value.offset - self.first + LEAD
+        return domain.placed[self.value.base](number, k) if is_int(number) else None
 
 
 # A byte of a buffer that is as it was, at an offset of which the block isn't known. (`what` tells its name from that of an address.)

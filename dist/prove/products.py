@@ -11,7 +11,7 @@ class Products:
     def __init__(self):
         self.products, self.product_ids, self.product_xors, self.product_ands, self.with_products = [], {}, {}, {}, set()
         self.linear_tables, self.linear_parts, self.column_parts, self.rows, self.row_keys = {}, {}, {}, {}, []
-        self.sums, self.factor_of, self.factor_cells, self.factor_bits = {}, {}, {}, set()
+        self.sums, self.factor_of, self.factor_cells, self.factor_bits, self.of_forgotten = {}, {}, {}, set(), {}
 
     def bit_number(self, cell, block, j):
         return (block << 24 | cell) << 3 | j

@@ -66,7 +66,7 @@ class Riscv(Machine):
 
     def get(self, o):
         v = super().get(o)
-        return v & self.most if is_int(v) else v
+        return v & self.most if isinstance(v, int) else v
 
     def put(self, o, v):
         if o.name != "zero":

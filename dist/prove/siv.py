@@ -4,16 +4,18 @@ When a call has derived the keys of a message, they become arbitrary bytes, and 
 other, each value of POLYVAL, the block of which the tag is the cipher, and the tag."""
 import functools
 
-from aes import between, nothing, unequal, unread
+from aes import NEVER, CounterWord, between, nothing, unequal, unread
 from bits import DATA, KEY
-from calls import Buffer, Call, compare
-from gcm import DONE, NO_KEY, REFUSED, TOO_LONG, UNEQUAL_LENGTHS, Hashing, KeyedGcm, threes
+from calls import Buffer, Call, Stream, compare
+from gcm import DONE, NO_KEY, REFUSED, TOO_LONG, UNEQUAL_LENGTHS
+from hashing import Hashing, KeyedHash, threes
 from linear import WORD, unknown
 from operands import Number
 from standards import ZEROS, dot, mulx_ghash, padded, product
 
 STRUCTS = {"fotsgure_gcm_siv": (484, {"key_length": 0, "round_keys": 4})}
 MOST = 2 ** 36
+COUNTER = CounterWord("counter of the tag, at any length", 0, NEVER, None)
 FEW = 160  # so many bytes are hashed block by block; of more, three blocks at once
 
 
@@ -22,7 +24,7 @@ def little(n, size):
     return list(n.to_bytes(size, "little"))
 
 
-class KeyedSiv(KeyedGcm):
+class KeyedSiv(KeyedHash):
     """wipe and what set_key refuses are stated in aes.py."""
     library, prefix, key_sizes = "siv", "gcm_siv", (16, 32)
 
@@ -32,7 +34,7 @@ class KeyedSiv(KeyedGcm):
     def set_key(self, seed=None):
         """Prepares a key in *siv (KeyExpansion, FIPS 197, 5.2). *siv may be uninitialized: none of it is read. Nothing of what it held is
         left. DONE if key_length is 16 or 32"""
-        m = super(KeyedGcm, self).set_key(seed)
+        m = super().set_key(seed)
         self.once("message", self.make_message)
         return m
 
@@ -53,7 +55,8 @@ class KeyedSiv(KeyedGcm):
         factor = mulx_ghash(d, h[::-1])
         compare(d, dot(d, x, h)[::-1], product(d, x[::-1], factor), "a product of appendix A")
         self.powers = [factor] + [self.fresh("power %d" % n, KEY) for n in self.kept_powers()[1:]]
-        counter = [d.fresh("tag byte %d, as a counter" % i, DATA, True) for i in range(4)]
+        self.hashed_text = self.text
+        self.counter = counter = [d.fresh("tag byte %d, as a counter" % i, DATA, True) for i in range(4)]
         d.numbers.update({d.cell_of(b)[0]: (k, counter) for k, b in enumerate(counter)})
         d.words["counter of the tag"] = lambda offset, k: d.bits(d.byte_in_block(counter[k], offset + 1))
         self.own_tag = [d.opaque((Number("counter of the tag", 0), k)) for k in range(4)] + self.fresh("tag", DATA)[4:]
@@ -85,17 +88,17 @@ class KeyedSiv(KeyedGcm):
         groups = [[b] for b in first + second + [lengths]] if few else threes(first) + threes(second + [lengths])
         return few, hashing.take(groups)
 
-    def tagged(self, hashing):
+    def tagged(self, value):
         """Of what block the tag is Cipher: of this sum and the nonce, with the highest bit 0. That block as arbitrary bytes, and Cipher of
         these."""
-        block = self.aes.xor(hashing.value[::-1], self.nonce + [0] * 4)
+        block = self.aes.xor(value[::-1], self.nonce + [0] * 4)
         block[15] = self.domain.and_byte(block[15], 127)
         any_ = [b if b < 256 else t for b, t in zip(block, self.tag_input)]
         return block, any_, self.once(("tag", *any_), lambda: self.aes.cipher(any_, self.message_w))
 
-    def first_counter(self):
+    def first_counter(self, tag):
         """The tag with its highest bit set."""
-        same, last = self.own_tag[:15], self.own_tag[15]
+        same, last = tag[:15], tag[15]
         return "memory", same + [self.domain.or_byte(last, 128)], same + [self.highest]
 
     def crypted_by_tag(self, text):
@@ -107,14 +110,14 @@ class KeyedSiv(KeyedGcm):
         _to: The same from one buffer to another of the same length"""
         additional, text = self.many(self.additional_bytes, additional_length), self.many(self.text, text_length)
         few, hashing = self.polyval(additional, text)
-        block, any_block, tag = self.tagged(hashing)
+        block, any_block, tag = self.tagged(hashing.value)
 
         def steps():
             yield from self.derivation(few)
             yield from hashing.steps()
             yield "memory", block, any_block
             yield "memory", tag, self.own_tag
-            yield self.first_counter()
+            yield self.first_counter(self.own_tag)
         arguments = [self.schedule(), Buffer("nonce", self.nonce), Buffer("additional", additional), additional_length,
                      *self.changed(way, "text", text, self.crypted_by_tag(text), text_length)]
         arguments.append(Buffer("tag", self.undefined(16), self.own_tag))
@@ -127,17 +130,17 @@ class KeyedSiv(KeyedGcm):
         additional, sealed = self.many(self.additional_bytes, additional_length), self.many(self.sealed, text_length)
         text = self.many(self.text, text_length)
         few, hashing = self.polyval(additional, text)
-        block, any_block, right = self.tagged(hashing)
+        block, any_block, right = self.tagged(hashing.value)
         place = "output" if way else "text"
 
         def steps():
             yield from self.derivation(few)
-            yield self.first_counter()
+            yield self.first_counter(self.own_tag)
             if text:
                 yield place, self.crypted_by_tag(sealed), text
             yield from hashing.steps()
             yield "memory", block, any_block
-            yield self.first_counter()
+            yield self.first_counter(self.own_tag)
             if text:  # it became the sum of `sealed` and keystream; with the keystream once more it is `sealed`
                 yield place, self.crypted_by_tag(text), sealed
         arguments = [self.schedule(), Buffer("nonce", self.nonce), Buffer("additional", additional), additional_length,
@@ -145,6 +148,59 @@ class KeyedSiv(KeyedGcm):
         reveals = self.aes.xor(self.own_tag, right)
         return Call("gcm_siv_open" + way, arguments, DONE, steps=steps, reveals=reveals, refused=REFUSED,
                     refused_after={"output": [0] * text_length}, plain=text, undone=True)
+
+    # Texts of every length (lengths.py). The tag begins with a number of unknown value, to which the number of a block is added modulo 2^32.
+    def any_own_tag(self):
+        d, name = self.domain, COUNTER.word
+        d.placed[name] = lambda number, k: d.bits(d.byte_in_block(self.counter[k], number))
+        d.words[name] = lambda offset, k: d.bits(first[k]) if offset == 0 else None
+        first = self.fresh("tag", DATA, 4)
+        return [d.opaque((Number(name, 0), k)) for k in range(4)] + self.own_tag[4:]
+
+    def hashed(self, block):
+        return block[::-1]
+
+    def any_lengths(self, m, sizes):
+        return super().any_lengths(m, sizes[::-1])
+
+    def at_once(self, m, sizes):
+        return 1 if m.is_below(m.known(sizes[0] + sizes[1]), FEW + 1) else super().at_once(m, sizes)
+
+    def any_seal(self, additional, text, way=""):
+        sizes, plain, sealed, tag = self.any_texts(additional, text)
+
+        def last(m):
+            block, any_block, right = self.tagged(self.any_sum(m, sizes))
+            return [("memory", block, any_block), ("memory", right, tag), self.first_counter(tag)]
+        return self.any_message("seal", way, sizes, plain, sealed, [("again", (), ())], last, Buffer("tag", self.undefined(16), tag), plain)
+
+    def any_open(self, additional, text, way=""):
+        """When all of the text is decrypted, it becomes arbitrary bytes; with the keystream once more it is what it was."""
+        sizes, plain, undone, tag = self.any_texts(additional, text)
+        sealed, place, right = self.pattern(self.sealed), "output" if way else "text", lambda m: self.tagged(self.any_sum(m, sizes))
+        opened, zeros = self.aes.xor(sealed, self.pattern(self.own_stream)), [("whole", place, (sealed, ZEROS, True))] * bool(way)
+        return self.any_message(
+            "open", way, sizes, sealed, opened, [self.first_counter(tag), ("whole", place, (plain, undone, True))],
+            lambda m: [("memory", *right(m)[:2]), self.first_counter(tag), *zeros], Buffer("tag", tag), plain + opened,
+            reveals=lambda m: self.aes.xor(tag, right(m)[2]), refused=REFUSED, undone=True, between=self.of_all(undone))
+
+    def any_texts(self, additional, text):
+        """The sizes, the patterns of a plain text and of what is made of it, and the tag."""
+        plain = self.pattern(self.text)
+        sealed = self.aes.xor(plain, self.pattern(self.own_stream))
+        return (unknown("a") * 48 + additional, unknown("n") * 768 + text), plain, sealed, self.once("any own tag", self.any_own_tag)
+
+    def any_message(self, name, way, sizes, content, want, first, last, tag, plain, **more):
+        """A call of which the steps are the derivation of keys and those of `first`, GHASH, and those of `last`."""
+        def steps(m):
+            if m.phase in (1, 2):
+                return self.any_hash(m, m.phase - 1, sizes)
+            phase = [*self.derivation(self.at_once(m, sizes) == 1), *first] if m.phase == 0 else last(m) if m.phase == 3 else []
+            return phase[m.done] if m.done < len(phase) else ("nothing", (), ())
+        arguments = [self.schedule(), Buffer("nonce", self.nonce), Stream("additional", sizes[0], self.pattern(self.additional_bytes)), sizes[0],
+                     *self.streams_of(way, "text", sizes[1], sizes[1], content, want), tag]
+        return Call("gcm_siv_" + name + way, arguments, DONE, steps=steps, counter=COUNTER, plain=self.of_all(plain),
+                    facts={unknown("a"), unknown("n"), *(MOST - size for size in sizes)}, **more)
 
     def refused(self):
         """TOO_LONG or NO_KEY: .. A call that doesn't return DONE has changed nothing. With _to: UNEQUAL_LENGTHS, TOO_LONG or NO_KEY"""

@@ -51,8 +51,12 @@ class Task:
             if self.build == "x86_64/" + self.library and self.part == 0:
                 self.vectors = checked(keyed)
             for what, call in statements(keyed, self.options, self.part, self.parts):
+                self.calls |= keyed.calls
                 self.case(what, lambda seed: keyed.proved(call, seed))
-            self.calls, self.kept_key = keyed.calls, keyed.kept_key()
+                if "refused" in what:
+                    keyed.calls = set()
+            self.calls |= keyed.calls
+            self.kept_key = keyed.kept_key()
         self.ran, self.went = set(program.cache), program.went  # (what was decoded ran)
 
     def case(self, what, prove):

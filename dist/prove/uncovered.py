@@ -17,13 +17,14 @@ UNCOVERED = [
      "AES-GCM-SIV derives keys, which are six at most."),
     (".*/gcm.*", r"hash_on|hash_piece|put_tag|put_tag_so_far", 30, 8, "A string ends in any part of three blocks: not each is tried."),
     (".*/gcm.*", r"siv\.\w+|keys\.derive|gcm_siv\.message\.\w+", 70, 16, "The same of AES-GCM-SIV, which has fixed lengths."),
-    (".*/aes.*", r"key_wrap\.\w+\.\w+", 24, 4, "A wrapped key has few lengths here, and a copy may be of any."),
+    (".*/aes.*", r"key_wrap\.\w+\.\w+", 63, 4, "There are loops for copies that overlap, which the header excludes: only a few semiblocks "
+     "are copied so."),
 ]
 
 
 def plain(name):
-    """A function's name without the hash or the number of its types, and without what tells the builds of a library apart."""
-    return re.sub(r"::<.*|\.\d+$|_v\d$", "", name).replace("::", ".")
+    """A function's name without the number of its types, and without what tells the builds of a library apart."""
+    return re.sub(r"\.\d+$|_v\d$", "", name)
 
 
 def of_text(program, ran, went):

@@ -1,7 +1,7 @@
 """Numbers that aren't known (linear.py), in a machine: what is known of them are facts, numbers that are 0 or more."""
 from bits import LOST, Unproved
 from linear import Linear, implied, refuted, replaced, step_of, terms, tightened, unknown
-from operands import Content, Distance, Placed, Pointer, Question, Scaled, Shifted, Verdict, constant, is_int, is_pointer, joined, lanes
+from operands import Content, Distance, Number, Placed, Pointer, Question, Scaled, Shifted, Verdict, constant, is_int, is_pointer, joined, lanes
 from regions import Window
 
 WRAPPED = "wrapped"  # an unknown: the block from which on the counter has wrapped around, if that is in what is done
@@ -21,9 +21,11 @@ class Unknowns:
         return self.to_bytes(x, sizes[0])[:sizes[0]] + [0] * (size - sizes[0]) if sizes else self.to_bytes(x, size)
 
     def ranged(self, x):
-        """A number as the machine has it, from 0 on: whether it has wrapped around is a question. (Not so in loops, of which the
-        passes have to be alike.)"""
-        while not self.any_length and not self.fits(x):
+        """A number as the machine has it, from 0 on: whether it has wrapped around is a question. (It isn't asked in loops, of which
+        the passes have to be alike.)"""
+        while not self.fits(x):
+            if self.any_length and None in (self.is_below(x, 0), self.is_below(self.most, x)):
+                break
             if self.compare_numbers(x, 0, "below"):
                 x += self.most + 1
             elif self.compare_numbers(self.most, x, "below"):
@@ -32,7 +34,7 @@ class Unknowns:
 
     def quotient(self, x, by):
         """Of a number and a power of two: another number, if it isn't one in the same unknowns."""
-        if self.any_length or all(k % by == 0 for _, k in x.terms):
+        if all(k % by == 0 for _, k in x.terms):
             return x.divided(by)[0]
         q = unknown("(%s) / %d" % (x, by))
         self.facts |= {x - q * by, q * by + by - 1 - x}
@@ -93,11 +95,15 @@ class Unknowns:
     def assume(self, fact):
         """Takes one more fact; if it says what an unknown is, this takes the unknown's place everywhere."""
         fact = tightened(fact)
-        if self.implied(-fact):
-            for name, k in reversed(fact.terms):
-                if k in (1, -1):
-                    return self.replace_unknown(name, unknown(name) - fact * k)
-        self.facts |= {fact}
+        one = [(name, k) for name, k in fact.terms if k in (1, -1)] if self.implied(-fact) else []
+        if one:
+            name, k = one[-1]
+            self.replace_unknown(name, unknown(name) - fact * k)
+        else:
+            self.facts |= {fact}
+        for lowest in [f for f in self.facts if [*terms(f).values()] == [1]]:  # its unknown is at least so much
+            if self.implied(-lowest):
+                self.replace_unknown(lowest.terms[0][0], -lowest.constant)
 
     def replace_unknown(self, name, by):
         """Puts a number in the place of an unknown."""
@@ -111,14 +117,14 @@ class Unknowns:
         for region in self.regions.values():
             if isinstance(region, Window):
                 region.size, region.end, region.origin = new(region.size), new(region.end), new(region.origin)
-        self.counter, self.done = new(self.counter), new(self.done)
+        self.counter, self.done, self.room = new(self.counter), new(self.done), new(self.room)
         self.loops, self.replaced, self.want = {}, [*self.replaced, (name, by)], None
 
     def renumbered(self, b, new):
         """A byte, with another number in the place of that of which it is one."""
         d = self.domain
         value, k = d.opaque_of[b] if isinstance(d.opaque_of.get(b), tuple) else (None, 0)
-        by = new(value) if isinstance(value, (Linear, Pointer, Distance, Placed, Scaled, Shifted, Content)) else value
+        by = new(value) if isinstance(value, (Linear, Pointer, Number, Distance, Placed, Scaled, Shifted, Content)) else value
         if by != value:
             return self.to_bytes(by, self.word)[k] if is_int(by) else d.opaque((by, k))
         others = {c: (new(d.unknowns[c][0]), d.unknowns[c]) for c in d.unknown_cells(b)} if d.unknowns else {}
@@ -137,14 +143,16 @@ class Unknowns:
 
     def settle(self):
         """At the head of a loop. (Bytes of counters stay so only in whole words.)"""
-        def settled(b):
-            words = ((x, self.from_bytes(x)) for x in lanes(b, self.word))
-            return joined(self.names(v) if is_pointer(v) else map(self.without_name, x) for x, v in words)
-        for region in self.regions.values():
+        def settled(b, sizes=(self.word, 4)):
+            words = ((x, self.from_bytes(x)) for x in lanes(b, sizes[0]))
+            return joined(self.names(v) if is_pointer(v) or isinstance(v, Number) and len(x) == 4 else settled(x, sizes[1:])
+                          if sizes[1:] else map(self.without_name, x) for x, v in words)
+        for name, region in self.regions.items():
             if isinstance(region, Window):
                 region.settle(self)
             elif self.counter:
-                region.content = settled(region.content)
+                begin = self.accessed_from(name)
+                region.content[begin:] = settled(region.content[begin:])
         if self.counter:
             self.vectors = [settled(v) for v in self.vectors]
             self.forget_wrap()
@@ -163,10 +171,10 @@ class Unknowns:
 
     def without_name(self, byte):
         placed = isinstance(self.domain.opaque_of.get(byte, [0])[0], Placed)
-        return self.domain.pack(self.domain.bits_of[byte]) if placed and self.domain.bits_of[byte] else byte
+        return self.domain.plain(byte) if placed else byte
 
     def names(self, value):
-        return [self.domain.opaque((value, k)) for k in range(self.word)]
+        return [self.domain.opaque((value, k)) for k in range(self.size_of(value))]
 
     def window(self, pointer):
         """The buffer behind whose head a pointer points."""
@@ -182,12 +190,18 @@ class Unknowns:
 
     def fill(self, to, value, count):
         """So many bytes of a buffer that is as it was become what they have to be, its first ones."""
-        a = self.window(to)
-        if not (a and a.is_untouched() and a.want == self.to_bytes(value, 1) * a.unit and self.implied(a.size - count) and self.implied(count)):
+        a, byte = self.window(to), self.to_bytes(value, 1)
+        if not (a and a.writable and a.is_untouched() and self.implied(a.size - count) and self.implied(count)):
+            raise Unproved("fills a number of bytes that isn't known, and not of a whole buffer")
+        whole, rest = divmod(count, a.unit) if is_int(count) else count.divided(a.unit)
+        if a.want != byte * a.unit or a.backwards and rest:
             raise Unproved("a number of bytes that isn't known is overwritten, and not as it has to be")
-        if (count % a.unit if is_int(count) else count.divided(a.unit)[1]) != 0:
-            raise Unproved("part of a block is overwritten")
-        a.origin, a.end = (0, a.size - count) if a.backwards else (count, a.size)
+        if a.backwards:
+            a.end = a.size - count
+        else:
+            self.forget_blocks(whole)
+            a.origin = whole * a.unit
+            self.store(to._replace(offset=a.head + a.origin), byte * rest)
 
     def overlaps(self, x, y, what):
         """Whether a flag says that two buffers overlap, which the header excludes where one is written to: that the first one, or what
@@ -207,14 +221,32 @@ class Unknowns:
         """What is left of blocks is forgotten, and they are numbered anew. A buffer with this name begins again as `new` says; others that
         were made of the same cells can't be read any more."""
         self.phase, self.done = self.phase + 1, 0
+        self.forget_differences()
         cells = {c for b in new[0] for c in self.domain.cells(b)} if name else set()
         for window in (r for r in self.regions.values() if isinstance(r, Window)):
             if not all(cells.isdisjoint(self.domain.cells(b)) for b in window.initial):
                 window.initial = [self.any_byte()] * window.unit
         if name:
             self.regions[name].begin_again(*new)
-        self.each_byte(lambda b: self.any_byte() if self.domain.blocks(b) else b)
-        self.first_block, self.origins = 0, {place: on for place, on in self.origins.items() if not place[1]}
+        self.forget_blocks(0)
+
+    def forget_blocks(self, first):
+        """From now on this is the first block. What is left of others in a register may be any bits, with which the code may go on."""
+        d, self.forgets = self.domain, self.forgets + 1  # so these bits are others than those of the last time
+        for r, v in self.general.items():
+            if type(v) is tuple:
+                self.general[r] = self.from_bytes([d.forgotten(b, (self.forgets, r, i)) if d.blocks(b) else b for i, b in enumerate(v)])
+        self.each_byte(lambda b: self.any_byte() if d.blocks(b) else b)
+        self.first_block, self.origins = first, {place: on for place, on in self.origins.items() if not place[1]}
+
+    def forget_differences(self):
+        """Whether bytes of blocks are zero, when these get other numbers."""
+        of_blocks = lambda bytes_: any(map(self.domain.blocks, bytes_))
+        is_lost = lambda v: isinstance(v, Verdict) and of_blocks(v.differences)
+        self.any_of = {b: some for b, some in self.any_of.items() if not of_blocks(some)}
+        self.equalities = {b: equal for b, equal in self.equalities.items() if not of_blocks(equal[:1])}
+        self.each_byte(lambda b: self.any_byte() if is_lost(self.domain.opaque_of.get(b, [0])[0]) else b)
+        self.general = {r: (self.any_byte(),) * self.word if is_lost(v) else v for r, v in self.general.items()}
 
     def each_byte(self, convert):
         """Puts other bytes in the place of those of registers and memory."""
@@ -222,12 +254,17 @@ class Unknowns:
 
         def all_of(b):
             return [memo[x] if x in memo else memo.setdefault(x, convert(x)) for x in b]
-        for region in self.regions.values():
-            region.content = all_of(region.content)
+        for name, region in self.regions.items():
+            begin = self.accessed_from(name)
+            region.content[begin:] = all_of(region.content[begin:])
         self.vectors = [all_of(v) for v in self.vectors]
         for r, v in self.general.items():
             if type(v) is tuple:
                 self.general[r] = self.from_bytes(all_of(v))
+
+    def accessed_from(self, name):
+        """From where on a region may hold something else than before the call: the stack lies untouched below what was accessed."""
+        return self.lowest // self.word * self.word if name == "stack" else 0
 
     def judged(self, differences, equal):
         """Puts numbers in the place of Verdicts of these bytes, when it is known whether all are 0."""
