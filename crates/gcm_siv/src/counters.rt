@@ -36,14 +36,12 @@ struct FirstBits {
 impl CounterBlocks for FirstBits {
     ghost block = { λ counters. counter_block counters.start };
 
-    #[tactic(auto, using(crate::proofs::CounterBlocks::counted))]
+    #[tactic(auto, unfolding(crate::specs::GcmSiv::counter, crate::specs::GcmSiv::counter_block))]
     #[inline(always)]
-    fn put(&self, first: u64, blocks: &mut [Block]) {
-        let mut counter = counter_of(&self.start).wrapping_add((first % (1 << 32)) as u32);
-        for i in 0..blocks.len() {
-            blocks[i] = with_counter(counter, &self.start);
-            counter = counter.wrapping_add(1);
-        }
+    fn at(&self, first: u64, i: usize) -> Block {
+        let number = (first as u128 + i as u128) % (1 << 32);
+        let counter = counter_of(&self.start).wrapping_add(number as u32);
+        with_counter(counter, &self.start)
     }
 }
 
