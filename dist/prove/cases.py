@@ -39,7 +39,7 @@ AES_ROWS = [
     Row("add_keystream", "the position, the number of bytes, and before which block the low half of the counter carries, if anywhere",
         few=[(0, 33), (2 ** 64 - 21, 20), (5, 40, 2), (21, 40, 1), (16, 64, 1), (0, 16, BLOCK_BEHIND), (3, 33, NO_CARRY, "_to"),
              (3, 33, NO_CARRY, "_with")],
-        full=[(0, 16), (0, 130), (3, 0, NO_CARRY, "_to"), (3, 130, NO_CARRY, "_to"), (5, 40, BLOCK_BEHIND), (21, 11), (21, 11, 1), (21, 40, 2),
+        full=[(0, 1), (0, 16), (0, 64), (0, 130), (3, 0, NO_CARRY, "_to"), (3, 130, NO_CARRY, "_to"), (5, 40, BLOCK_BEHIND), (21, 11), (21, 11, 1), (21, 40, 2),
               (21, 11, 1, "_to"), (21, 11, 1, "_with"), *((16, 64, block) for block in range(2, 6)),
               # Positions, and numbers of blocks, that don't fit into 32 bits; and one that would be below 0 if it had a sign.
               (2 ** 32 - 20, 40), (2 ** 63 + 2 ** 36, 64)],
@@ -47,7 +47,7 @@ AES_ROWS = [
     Row("any_cbc_encrypt", "every number of blocks", few=ONCE),
     Row("any_cbc_decrypt", "64 n + r blocks for every n: r", full=[9], more=range(64)),
     Row("cbc_encrypt", "the number of blocks", full=[1, 2], other=[1]),
-    Row("cbc_decrypt", "the number of blocks", few=[9], full=[0, 1], other=[1]),
+    Row("cbc_decrypt", "the number of blocks", few=[9], full=[0, 1, 3, 4, 8, 17], other=[1]),
     Row("any_wrap", "a key of every number of semiblocks", full=ONCE),
     Row("any_unwrap", "a key of every number of semiblocks, also of what is refused", full=ONCE),
     Row("any_wrap_padded", "a key of 16 n + r bytes for every n: r", full=[3], first=[9, 16], more=range(1, 17)),
@@ -70,8 +70,8 @@ AES_ROWS = [
                                 ("any_ccm_open", [(8, 15, 33, 8)], ()))),
     *(Row(call, "the same", more=[(12, rest, 15 * rest, 12) for rest in range(17)]) for call in ("any_ccm_seal", "any_ccm_open")),
     *(Row(call, "the lengths of nonce, additional data, text and tag", few=[(13, 8, 33, 8)],
-          full=[(7, 0, 1, 4), (13, 33, 0, 14)],
-          more=[(12, 14, 16, 16), (8, 15, 17, 6), *((nonce, 20, 40, tag) for nonce in modes.NONCES for tag in modes.CCM_TAGS)],
+          full=[(7, 0, 1, 4), (12, 14, 16, 16), (8, 15, 17, 6), (13, 33, 0, 14)],
+          more=[(nonce, 20, 40, tag) for nonce in modes.NONCES for tag in modes.CCM_TAGS],
           other=[(7, 0, 1, 4)])
       for call in ("ccm_seal", "ccm_open")),
     *ROUNDS]
@@ -93,7 +93,7 @@ STATE = "the phase, and how many bytes of additional data and of text came befor
 GCM_ROWS = [
     Row("wipe_message", "", few=ONCE), Row("set_key_of", "", few=ONCE, other=ONCE),
     Row("set_key_of_none", "", few=ONCE),
-    Row("any_seal", WHOLE + NONCE, full=[(13, 33)], first=[(0, 129), (13, 33, "", 8)],
+    Row("any_seal", WHOLE + NONCE, few=[(13, 33)], first=[(0, 129), (13, 33, "", 8)],
         more=[(0, 0), (1, 16), (16, 225), (33, 48), (47, 767), (13, 33, "_to"), *OTHER_NONCES]),
     Row("any_open", WHOLE + NONCE + "; also of what is refused", full=[(13, 33)], first=[(13, 33, "_to")],
         more=[(0, 0), (0, 129), (1, 16), (16, 225), (33, 48), (47, 767), (13, 33, "", 8), *OTHER_NONCES]),
@@ -102,8 +102,8 @@ GCM_ROWS = [
     *(Row("any_" + call, PIECE % step, first=[(3, 46)], more=[(1, 15), (9, 23), (15, 48)]) for call, step in (
         ("additional", 48), ("verify", 48), ("encrypt", 768), ("decrypt", 768), ("decrypt_unverified", 768))),
     Row("seal", "the lengths of additional data and text, and a nonce of another length", few=[(13, 33), (13, 33, (), "_to")],
-        full=[(0, 0), (1, 1), (49, 1), (0, 0, (), "_to"), *((5, 20, nonce) for nonce in NONCES)],
-        more=[(0, 449, gcm.UNKNOWN), *((5, 40, nonce) for nonce in NONCES), *((5, n, (60, None)) for n in (0, 129, 300))],
+        full=[(0, 0), (1, 1), (49, 1), (0, 449, gcm.UNKNOWN), (0, 0, (), "_to"), *((5, 20, nonce) for nonce in NONCES)],
+        more=[*((5, 40, nonce) for nonce in NONCES), *((5, n, (60, None)) for n in (0, 129, 300))],
         other=[(13, 33), (0, 129), (0, 0, (), "_to")]),
     Row("open", "the same, also of what is refused", few=[(13, 33), (13, 33, (), "_to")],
         full=[(0, 0), (0, 0, (), "_to"), (3, 20, gcm.UNKNOWN)], more=[(3, 20, nonce) for nonce in NONCES[1:]],
@@ -136,7 +136,7 @@ GCM_ROWS = [
 SIV_ROWS = [
     Row("any_seal", WHOLE + "; both may have 2^36 bytes", full=[(33, 77)], first=[(16, 256), (13, 33, "_to")],
         more=[(13, 33), (0, 0), (1, 1), (13, 81), (20, 145), (13, 225), (0, 450), (33, 48), (47, 767)]),
-    Row("any_open", WHOLE + "; also of what is refused", first=[(13, 33, "_to"), (13, 225)],
+    Row("any_open", WHOLE + "; also of what is refused", full=[(13, 33, "_to")], first=[(13, 225)],
         more=[(13, 33), (1, 1), (33, 77), (13, 81), (20, 145), (0, 450), (33, 48), (47, 767), (0, 0, "_to")]),
     Row("seal", "the lengths of additional data and text", few=[(13, 33), (13, 33, "_to")], other=[(13, 33), (13, 33, "_to")]),
     Row("open", "the same, also of what is refused", few=[(1, 1), (13, 33, "_to")], other=[(1, 1), (13, 33, "_to")])]

@@ -123,11 +123,14 @@ class Unknowns:
     def renumbered(self, b, new):
         """A byte, with another number in the place of that of which it is one."""
         d = self.domain
-        value, k = d.opaque_of[b] if isinstance(d.opaque_of.get(b), tuple) else (None, 0)
-        by = new(value) if isinstance(value, (Linear, Pointer, Number, Distance, Placed, Scaled, Shifted, Content)) else value
-        if by != value:
-            return self.to_bytes(by, self.word)[k] if is_int(by) else d.opaque((by, k))
-        others = {c: (new(d.unknowns[c][0]), d.unknowns[c]) for c in d.unknown_cells(b)} if d.unknowns else {}
+        name, cells = d.opaque_of.get(b), d.unknown_cells(b) if d.unknowns else ()
+        if isinstance(name, tuple) and isinstance(name[0], (Linear, Pointer, Number, Distance, Placed, Scaled, Shifted, Content)):
+            (value, k), by = name, new(name[0])
+            if by != value:
+                return self.to_bytes(by, self.word)[k] if is_int(by) else d.opaque((by, k))
+        if not cells:
+            return b
+        others = {c: (new(d.unknowns[c][0]), d.unknowns[c]) for c in cells}
         others = {c: self.to_bytes(by, self.word)[k] for c, (by, (number, k)) in others.items() if by != number}
         return d.put_in(b, others) if others else b
 
@@ -143,10 +146,15 @@ class Unknowns:
 
     def settle(self):
         """At the head of a loop. (Bytes of counters stay so only in whole words.)"""
+        named, undefined = self.domain.opaque_of.keys(), self.domain.undefined
+
         def settled(b, sizes=(self.word, 4)):
-            words = ((x, self.from_bytes(x)) for x in lanes(b, sizes[0]))
-            return joined(self.names(v) if is_pointer(v) or isinstance(v, Number) and len(x) == 4 else settled(x, sizes[1:])
-                          if sizes[1:] else map(self.without_name, x) for x, v in words)
+            return joined(x if x.count(undefined) == len(x) or named.isdisjoint(x) else of_word(x, sizes) for x in lanes(b, sizes[0]))
+
+        def of_word(x, sizes):
+            v = self.from_bytes(x)
+            is_counter = is_pointer(v) or isinstance(v, Number) and len(x) == 4
+            return self.names(v) if is_counter else settled(x, sizes[1:]) if sizes[1:] else map(self.without_name, x)
         for name, region in self.regions.items():
             if isinstance(region, Window):
                 region.settle(self)
