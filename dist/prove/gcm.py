@@ -203,16 +203,16 @@ class KeyedGcm(KeyedHash):
         if rest is None:
             return AnyNonce(first.arguments, 0, None, self.stream(first, 0), self.once("any counters", self.any_counters),
                             {"counter": self.any_counter_word(size)}, set())
-        length, (block, mask, stream) = unknown("k") * 48 + rest, self.once("any J_0", self.any_pre_counter)
-        last, middle = size + 16 + 15, self.once("hashed nonce", lambda: [self.domain.fresh("hashed nonce byte %d" % i, KEY | PUBLIC) for i in range(16)])
+        length, blocks, (block, mask, stream) = unknown("k") * 48 + rest, (size + 31).divided(16)[0], self.once("any J_0", self.any_pre_counter)
+        hashed = self.once("hashed nonce", lambda: [self.domain.fresh("hashed nonce byte %d" % i, KEY | PUBLIC) for i in range(16)])
 
         def steps(m):
             if m.phase == 0:
-                return self.any_group(m, ZEROS, self.long_nonce, length, self.at_once(m, ()), [], middle)
-            if m.phase > 1:
-                return "nothing", (), ()
-            return self.group_step(middle, [[0] * 8 + m.to_bytes(m.known(length) * 8, 8)[::-1]], block) if m.done == 0 else ("again", (), ())
-        more = {"counter": CounterWord(OF_J_0, 1, NEVER, size.divided(16)[0] + 2 + BATCH), "room": (*block[:11:-1], last.divided(16)[0] - 1)}
+                return self.any_group(m, ZEROS, self.long_nonce, length, self.at_once(m, ()), [], hashed)
+            lengths = [0] * 8 + m.to_bytes(m.known(length) * 8, 8)[::-1]
+            step = self.group_step(hashed, [lengths], block) if m.done == 0 else ("again", (), ())
+            return step if m.phase == 1 else ("nothing", (), ())
+        more = {"counter": CounterWord(OF_J_0, 1, NEVER, blocks + 1 + BATCH), "room": (*block[:11:-1], blocks - 1)}
         facts = {unknown("k"), length - (13 if rest == 12 else 1), MOST_NONCE - length, PTRDIFF_MAX - length}
         return AnyNonce([Stream("nonce", length, self.pattern(self.long_nonce)), length], 2, steps, mask, stream, more, facts)
 

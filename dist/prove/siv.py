@@ -167,49 +167,40 @@ class KeyedSiv(KeyedHash):
         return 1 if m.is_below(m.known(sizes[0] + sizes[1]), FEW + 1) else super().at_once(m, sizes)
 
     def any_seal(self, additional, text, way=""):
-        plain, sealed, tag, place = self.any_texts(way)
-        first = lambda m, sizes: [*self.derivation(self.at_once(m, sizes) == 1), ("again", (), ())]
+        sizes, plain, sealed, tag = self.any_texts(additional, text)
 
-        def last(m, sizes):
+        def last(m):
             block, any_block, right = self.tagged(self.any_sum(m, sizes))
             return [("memory", block, any_block), ("memory", right, tag), self.first_counter(tag)]
-        return self.any_message("seal" + way, additional, text, plain, sealed, first, last, Buffer("tag", self.undefined(16), tag), plain=plain)
+        return self.any_message("seal", way, sizes, plain, sealed, [("again", (), ())], last, Buffer("tag", self.undefined(16), tag), plain)
 
     def any_open(self, additional, text, way=""):
         """When all of the text is decrypted, it becomes arbitrary bytes; with the keystream once more it is what it was."""
-        plain, undone, tag, place = self.any_texts(way)
-        sealed = self.pattern(self.sealed)
-        right = lambda m, sizes: self.tagged(self.any_sum(m, sizes))
+        sizes, plain, undone, tag = self.any_texts(additional, text)
+        sealed, place, right = self.pattern(self.sealed), "output" if way else "text", lambda m: self.tagged(self.any_sum(m, sizes))
+        opened, zeros = self.aes.xor(sealed, self.pattern(self.own_stream)), [("whole", place, (sealed, ZEROS, True))] * bool(way)
+        return self.any_message(
+            "open", way, sizes, sealed, opened, [self.first_counter(tag), ("whole", place, (plain, undone, True))],
+            lambda m: [("memory", *right(m)[:2]), self.first_counter(tag), *zeros], Buffer("tag", tag), plain + opened,
+            reveals=lambda m: self.aes.xor(tag, right(m)[2]), refused=REFUSED, undone=True, between=self.of_all(undone))
 
-        def first(m, sizes):
-            return [*self.derivation(self.at_once(m, sizes) == 1), self.first_counter(tag), ("whole", place, (plain, undone, True))]
-
-        def last(m, sizes):
-            steps = [("memory", *right(m, sizes)[:2]), self.first_counter(tag)]
-            return steps + [("whole", place, (sealed, ZEROS, True))] if way else steps
-        opened = self.aes.xor(sealed, self.pattern(self.own_stream))
-        return self.any_message("open" + way, additional, text, sealed, opened, first, last, Buffer("tag", tag), refused=REFUSED, undone=True,
-                                plain=plain + opened, between=self.of_all(undone), reveals=lambda m, sizes: self.aes.xor(tag, right(m, sizes)[2]))
-
-    def any_texts(self, way):
-        """The patterns of a plain text and of what is made of it, the tag, and where the text is."""
+    def any_texts(self, additional, text):
+        """The sizes, the patterns of a plain text and of what is made of it, and the tag."""
         plain = self.pattern(self.text)
         sealed = self.aes.xor(plain, self.pattern(self.own_stream))
-        return plain, sealed, self.once("any own tag", self.any_own_tag), "output" if way else "text"
+        return (unknown("a") * 48 + additional, unknown("n") * 768 + text), plain, sealed, self.once("any own tag", self.any_own_tag)
 
-    def any_message(self, name, additional, text, content, want, first, last, tag, plain, reveals=None, **more):
-        """A call of which the steps are those of `first`, GHASH, and those of `last`."""
-        sizes = unknown("a") * 48 + additional, unknown("n") * 768 + text
-
+    def any_message(self, name, way, sizes, content, want, first, last, tag, plain, **more):
+        """A call of which the steps are the derivation of keys and those of `first`, GHASH, and those of `last`."""
         def steps(m):
             if m.phase in (1, 2):
                 return self.any_hash(m, m.phase - 1, sizes)
-            phase = first(m, sizes) if m.phase == 0 else last(m, sizes) if m.phase == 3 else []
+            phase = [*self.derivation(self.at_once(m, sizes) == 1), *first] if m.phase == 0 else last(m) if m.phase == 3 else []
             return phase[m.done] if m.done < len(phase) else ("nothing", (), ())
-        way, hashed = "_to" * name.endswith("_to"), Stream("additional", sizes[0], self.pattern(self.additional_bytes))
-        return Call("gcm_siv_" + name, [self.schedule(), Buffer("nonce", self.nonce), hashed, sizes[0], *self.streams_of(
-            way, "text", sizes[1], sizes[1], content, want), tag], DONE, steps=steps, counter=COUNTER, plain=self.of_all(plain),
-            reveals=reveals and (lambda m: reveals(m, sizes)), facts={unknown("a"), unknown("n"), *(MOST - size for size in sizes)}, **more)
+        arguments = [self.schedule(), Buffer("nonce", self.nonce), Stream("additional", sizes[0], self.pattern(self.additional_bytes)), sizes[0],
+                     *self.streams_of(way, "text", sizes[1], sizes[1], content, want), tag]
+        return Call("gcm_siv_" + name + way, arguments, DONE, steps=steps, counter=COUNTER, plain=self.of_all(plain),
+                    facts={unknown("a"), unknown("n"), *(MOST - size for size in sizes)}, **more)
 
     def refused(self):
         """TOO_LONG or NO_KEY: .. A call that doesn't return DONE has changed nothing. With _to: UNEQUAL_LENGTHS, TOO_LONG or NO_KEY"""
