@@ -91,6 +91,8 @@ class Access:
                 region = self.regions[base + HEAD]
             else:
                 offset = region.turned(offset - region.head, size)
+                if region.end != region.size and not self.implied(region.end - offset - size):
+                    raise Unproved("accesses %s where all is done" % base)
                 if not write and region.is_untouched():
                     return region.initial_at(self, base, offset, size), 0
                 offset = region.reached(self, offset, size)

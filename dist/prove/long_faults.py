@@ -133,6 +133,8 @@ LONG_FAULTS = {
          r"\tcmpq\t$8388608, %rdx\n\tjbe\t77f\n\tmovl\t$8388608, %edx\n77:\n\1", "any_wrap"),
         ("at most 2^20 semiblocks of zeros after a refusal", UNWRAP, "(%s)" % MEMSET,
          r"\tcmpq\t$8388608, %rdx\n\tjbe\t77f\n\tmovl\t$8388608, %edx\n77:\n\1", "any_unwrap"),
+        ("a byte written after these zeros, of more than 2^20", UNWRAP, r"\tmovq\t\$0, -8\(%(r\w+),%(r\w+),8\)\n",
+         r"\g<0>\tcmpq\t$1048576, %\2\n\tjb\t77f\n\tmovb\t$1, 8(%\1)\n77:\n", "any_unwrap"),
         ("a length of 16 bits in a padded key", WRAP_PADDED, r"\torq\t%rdx, %rax\n", r"\tmovzwl\t%dx, %r10d\n\torq\t%r10, %rax\n",
          "any_wrap_padded 9"),
         ("one of 24 bits looked at in unwrapping", UNWRAP_PADDED, r"\tmovl\t%(\w+), 4\(%(\w+)\)\n(?=\tjmp)",
