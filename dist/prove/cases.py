@@ -39,8 +39,8 @@ AES_ROWS = [
     Row("add_keystream", "the position, the number of bytes, and before which block the low half of the counter carries, if anywhere",
         few=[(0, 33), (2 ** 64 - 21, 20), (5, 40, 2), (21, 40, 1), (16, 64, 1), (0, 16, BLOCK_BEHIND), (3, 33, NO_CARRY, "_to"),
              (3, 33, NO_CARRY, "_with")],
-        full=[(0, 1), (0, 16), (0, 64), (0, 130), (3, 0, NO_CARRY, "_to"), (3, 130, NO_CARRY, "_to"), (5, 40, BLOCK_BEHIND), (21, 11), (21, 11, 1), (21, 40, 2),
-              (21, 11, 1, "_to"), (21, 11, 1, "_with"), *((16, 64, block) for block in range(2, 6)),
+        full=[(0, 1), (0, 16), (0, 64), (0, 130), (3, 0, NO_CARRY, "_to"), (3, 130, NO_CARRY, "_to"), (5, 40, BLOCK_BEHIND), (21, 11),
+              (21, 11, 1), (21, 40, 2), (21, 11, 1, "_to"), (21, 11, 1, "_with"), *((16, 64, block) for block in range(2, 6)),
               # Positions, and numbers of blocks, that don't fit into 32 bits; and one that would be below 0 if it had a sign.
               (2 ** 32 - 20, 40), (2 ** 63 + 2 ** 36, 64)],
         more=[(0, 33, 5)], other=[(0, 33), (3, 33, NO_CARRY, "_to"), (3, 33, NO_CARRY, "_with")]),

@@ -484,7 +484,8 @@ class KeyedGcm(KeyedHash):
 
     def any_additional(self, filled, rest):
         before, size, facts = self.any_numbers(filled, rest)
-        return self.any_taken("additional", (before, 0, 0, ADDITIONAL), 0, self.additional_bytes, size, filled, facts | {MOST_ADDITIONAL - before - size})
+        return self.any_taken("additional", (before, 0, 0, ADDITIONAL), 0, self.additional_bytes, size, filled,
+                              facts | {MOST_ADDITIONAL - before - size})
 
     def any_verify(self, filled, rest):
         before, size, facts = self.any_numbers(filled, rest)
