@@ -89,7 +89,8 @@ def prove(domain, program, call, seed=None):
     m.facts, m.any_length, ends = call.facts, call.any_length, []
     for window in (r for r in regions.values() if isinstance(r, Window)):
         window.waits = call.later is not None
-    cells = [c for b in call.buffers if isinstance(b, Stream) for c in {c for x in b.content for c in domain.cells(x)}]
+    streams = [b for b in call.buffers if isinstance(b, Stream)] if call.later is None else []  # (else their bytes are of another domain)
+    cells = [c for b in streams for c in {c for x in b.content for c in domain.cells(x)}]
     if len(cells) > len({*cells}):
         raise Unproved("is about two buffers of the same bytes")
     if refuted(call.facts):
@@ -232,9 +233,10 @@ def step_by_step(steps):
     (or a function that makes that), and other bytes, which are arbitrary. When the result is there, these bytes take its place everywhere,
     so what is proved from there on holds for any. "hash" is looked for in vector registers, or as two words in either order of bytes;
     products of bits are then forgotten: what still depends on them is lost, and may not even be left. "vector" is looked for in vector
-    registers, "memory" where something was written, "block" in all these places, "kept" in memory outside of Streams; another name is that of a region. In a call of any length
-    `steps` is a function of the machine. Then "here" says that there is a result; "again" begins another phase, in which blocks have new
-    numbers, and so does "whole", as soon as all of a buffer is done, and "refused", when the call will return that; and "nothing" says that what comes next isn't known."""
+    registers, "memory" where something was written, "block" in all these places, "kept" in memory outside of Streams; another name is that
+    of a region. In a call of any length `steps` is a function of the machine. Then "here" says that there is a result; "again" begins
+    another phase, in which blocks have new numbers, and so does "whole", as soon as all of a buffer is done, and "refused", when the call
+    will return that; and "nothing" says that what comes next isn't known."""
     steps = steps if callable(steps) else list(steps)
 
     def watch(m):

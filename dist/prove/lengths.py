@@ -87,7 +87,7 @@ def renumbered(m, general, passes):
 
 def passes_to(m, general):
     """After how many passes from a general state a machine may be in it: as a register or what is done of a buffer says."""
-    state, out = general.state, []
+    state = general.state
     pairs = [(w.origin, m.regions[name].origin) for name, w in state.regions.items() if isinstance(w, Window)]
     pairs += [(v, m.general[r]) for r, v in state.general.items()]
     for a, b in pairs:
