@@ -18,11 +18,6 @@ DECLARED = "".join(f"\t.functype\t{it} (i32) -> (i32)\n" for it in ("report_bran
     f"\t.functype\treport_{it} (i32, i32, i32) -> (i32)\n" for it in ("memcpy", "memmove", "memset"))
 
 
-def of_general_registers(text):
-    """Assembly that calls memory.c in the place of libc."""
-    return re.sub(r"\b(bl?\t)(mem(?:cpy|move|set))\b", r"\1of_general_registers_\2", text)
-
-
 def planted(machine, text):
     """Assembly whose exports leave in registers what its compiler left there, and have names of their own."""
     lines = "\n".join(registers.emptying(machine.folder, False, machine.ending != "_narrow")) + "\n"

@@ -1,6 +1,6 @@
 /* A plugin of qemu that follows what runs between two marks: how many instructions, which ones in which order, and which
  * addresses they read and write. Each time it meets the second mark it writes a line with tabs: instructions, a hash of
- * their addresses, and a hash of the addresses that they read and write. It is compiled with RISCV for that machine, else for ARM.
+ * their addresses, and a hash of the addresses that they read and write. It is for RISC-V and ARM.
  * usage: qemu-arm -plugin plugin.so,out=FILE PROGRAM .. */
 #include <stddef.h>
 #include <stdint.h>
@@ -27,11 +27,8 @@ uint64_t qemu_plugin_insn_vaddr(const struct qemu_plugin_insn *);
 __attribute__((visibility("default"))) int qemu_plugin_version = 1;
 
 /* The marks are hints that no processor knows, so that they do nothing: see enter.S. */
-#ifdef RISCV
-enum { ADDI = 0x13, BEGIN = ADDI | 112 << 20, END = ADDI | 113 << 20 };
-#else
-enum { HINT = (int)0xe320f000, BEGIN = HINT | 112, END = HINT | 113 };
-#endif
+enum { ADDI = 0x13, HINT = (int)0xe320f000, NUMBER = 112 };
+static uint32_t begin = HINT | NUMBER, end = HINT | (NUMBER + 1);
 
 static FILE *out;
 static uint64_t instructions, order, places;
@@ -72,13 +69,13 @@ static void translated(qemu_plugin_id_t id, struct qemu_plugin_tb *block) {
     size_t count = qemu_plugin_tb_n_insns(block), marks = 0;
     for (size_t i = 0; i < count; i++) {
         uint32_t code = code_of(qemu_plugin_tb_get_insn(block, i));
-        marks += code == BEGIN || code == END;
+        marks += code == begin || code == end;
     }
     if (!marks)
         qemu_plugin_register_vcpu_tb_exec_cb(block, executed, NO_REGISTERS, numbered(count, qemu_plugin_tb_vaddr(block)));
     for (size_t i = 0; i < count; i++) {
         struct qemu_plugin_insn *it = qemu_plugin_tb_get_insn(block, i);
-        void (*call)(unsigned, void *) = code_of(it) == BEGIN ? began : code_of(it) == END ? ended : executed;
+        void (*call)(unsigned, void *) = code_of(it) == begin ? began : code_of(it) == end ? ended : executed;
         if (marks)
             qemu_plugin_register_vcpu_insn_exec_cb(it, call, NO_REGISTERS, numbered(1, qemu_plugin_insn_vaddr(it)));
         qemu_plugin_register_vcpu_mem_cb(it, accessed, NO_REGISTERS, READS_AND_WRITES, NULL);
@@ -89,9 +86,11 @@ static void closed(qemu_plugin_id_t id, void *nothing) {
     fclose(out);
 }
 
-__attribute__((visibility("default"))) int qemu_plugin_install(qemu_plugin_id_t id, const void *about, int count,
+/* What is known of the emulator begins with the name of its machine. */
+__attribute__((visibility("default"))) int qemu_plugin_install(qemu_plugin_id_t id, const char *const *about, int count,
     char **words) {
-    (void)about;
+    if (strncmp(*about, "riscv", 5) == 0)
+        begin = ADDI | NUMBER << 20, end = ADDI | (NUMBER + 1) << 20;
     if (count != 1 || strncmp(words[0], "out=", 4) || !(out = fopen(words[0] + 4, "w")))
         return 1;
     qemu_plugin_register_vcpu_tb_trans_cb(id, translated);

@@ -23,18 +23,15 @@ uint32_t report_place(uint32_t address) {
     places = mixed(places, address);
     return address;
 }
-void *report_memcpy(void *to, const void *from, size_t count) {
-    report_table(count);
-    report_place((uint32_t)from);
-    report_place((uint32_t)to);
-    return memcpy(to, from, count);
-}
-void *report_memmove(void *to, const void *from, size_t count) {
-    report_table(count);
-    report_place((uint32_t)from);
-    report_place((uint32_t)to);
-    return memmove(to, from, count);
-}
+#define REPORTED(copy) \
+    void *report_##copy(void *to, const void *from, size_t count) { \
+        report_table(count); \
+        report_place((uint32_t)from); \
+        report_place((uint32_t)to); \
+        return copy(to, from, count); \
+    }
+REPORTED(memcpy)
+REPORTED(memmove)
 void *report_memset(void *to, int what, size_t count) {
     report_table(count);
     report_place((uint32_t)to);

@@ -156,7 +156,7 @@ def page(rows):
     """docs/MEASUREMENTS.md with these tables in the place of the first ones of their sections."""
     text = tools.MEASUREMENTS.read_text()
     for what, lines in (("it", table(rows)), ("GCM", gcm_table(rows))):
-        heading = rf"## How fast is {what} beside what I use now\?\n"
+        heading = rf"## How fast is {what} compared with what I use now\?\n"
         text, count = re.subn(rf"^({heading}(?:(?!#|\|).*\n)*)(?:\|.*\n)+", lambda it: "\n".join([it[1] + lines[0], *lines[1:], ""]), text, flags=re.M)
         if count != 1:
             tools.stop(f"{tools.MEASUREMENTS} has no table below {heading}")
