@@ -1549,38 +1549,47 @@ gcm.gcm.multiples.Multiples.two_products: // @gcm.gcm.multiples.Multiples.two_pr
 .Lgcm_func_end9:
 	.size	gcm.gcm.multiples.Multiples.two_products, .Lgcm_func_end9-gcm.gcm.multiples.Multiples.two_products
                                         // -- End function
-	.section	.text.gcm.aes_cipher.zeroize.stack.wipe_stack.520,"ax",@progbits
-	.p2align	2                               // -- Begin function aes_cipher::zeroize::stack::wipe_stack::<=520>
-	.type	gcm.aes_cipher.zeroize.stack.wipe_stack.520,@function
-gcm.aes_cipher.zeroize.stack.wipe_stack.520: // @gcm.aes_cipher.zeroize.stack.wipe_stack.520
+	.section	.text.gcm.aes_cipher.zeroize.stack.wipe_stack.512,"ax",@progbits
+	.p2align	2                               // -- Begin function aes_cipher::zeroize::stack::wipe_stack::<=512>
+	.type	gcm.aes_cipher.zeroize.stack.wipe_stack.512,@function
+gcm.aes_cipher.zeroize.stack.wipe_stack.512: // @gcm.aes_cipher.zeroize.stack.wipe_stack.512
 // %bb.0:                               // %start
-	stp	x29, x30, [sp, #-32]!           // 16-byte Folded Spill
-	stp	x28, x19, [sp, #16]             // 16-byte Folded Spill
-	mov	x29, sp
+	str	x30, [sp, #-16]!                // 8-byte Folded Spill
 	sub	sp, sp, #528
-	add	x0, sp, #8
-	mov	w1, wzr
-	mov	w2, #520                        // =0x208
-	add	x19, sp, #8
-	adrp	x16, :got:memset
-	ldr	x16, [x16, :got_lo12:memset]
-	blr	x16
-	str	xzr, [sp]
-	mov	x8, sp
+	movi	v0.2d, #0000000000000000
+	add	x8, sp, #16
+	str	xzr, [sp, #8]
+	add	x9, sp, #8
+	stp	q0, q0, [x8, #128]
+	stp	q0, q0, [x8, #160]
+	stp	q0, q0, [x8, #192]
+	stp	q0, q0, [x8, #224]
+	stp	q0, q0, [x8, #256]
+	stp	q0, q0, [x8, #288]
+	stp	q0, q0, [x8, #320]
+	stp	q0, q0, [x8, #352]
+	stp	q0, q0, [x8, #384]
+	stp	q0, q0, [x8, #416]
+	stp	q0, q0, [x8, #448]
+	stp	q0, q0, [x8, #480]
+	stp	q0, q0, [sp, #16]
+	stp	q0, q0, [sp, #48]
+	stp	q0, q0, [sp, #80]
+	stp	q0, q0, [sp, #112]
 	//APP
 	//NO_APP
-	ldar	x8, [x8]
+	ldar	x9, [x9]
 	//APP
 	//NO_APP
-	cmp	x8, #520
+	cmp	x9, #512
 	b.hs	.Lgcm_BB10_4
 // %bb.1:                               // %then.1
-	ldrb	w8, [x19, x8]
+	ldrb	w8, [x8, x9]
 	//APP
 	//NO_APP
 .Lgcm_BB10_2:                               // %atomicrmw.start
                                         // =>This Inner Loop Header: Depth=1
-	mov	x9, sp
+	add	x9, sp, #8
 	ldaxr	xzr, [x9]
 	stlxr	w10, x8, [x9]
 	cbnz	w10, .Lgcm_BB10_2
@@ -1589,11 +1598,10 @@ gcm.aes_cipher.zeroize.stack.wipe_stack.520: // @gcm.aes_cipher.zeroize.stack.wi
 	//NO_APP
 .Lgcm_BB10_4:                               // %common.ret
 	add	sp, sp, #528
-	ldp	x28, x19, [sp, #16]             // 16-byte Folded Reload
-	ldp	x29, x30, [sp], #32             // 16-byte Folded Reload
+	ldr	x30, [sp], #16                  // 8-byte Folded Reload
 	ret
 .Lgcm_func_end10:
-	.size	gcm.aes_cipher.zeroize.stack.wipe_stack.520, .Lgcm_func_end10-gcm.aes_cipher.zeroize.stack.wipe_stack.520
+	.size	gcm.aes_cipher.zeroize.stack.wipe_stack.512, .Lgcm_func_end10-gcm.aes_cipher.zeroize.stack.wipe_stack.512
                                         // -- End function
 	.section	.text.gcm.gcm.mode.BorrowedGcm.put_tag_so_far,"ax",@progbits
 	.p2align	2                               // -- Begin function gcm::mode::BorrowedGcm::put_tag_so_far::<#221fbc00d1292367>
@@ -12352,7 +12360,7 @@ gcm.fotsgure_gcm_begin:                     // @gcm.fotsgure_gcm_begin
 	stp	q0, q0, [x19, #48]
 	b.eq	.Lgcm_BB63_7
 // %bb.6:                               // %then.1.i.i.i
-	bl	gcm.aes_cipher.zeroize.stack.wipe_stack.520
+	bl	gcm.aes_cipher.zeroize.stack.wipe_stack.512
 .Lgcm_BB63_7:
 	ldp	x20, x19, [sp, #64]             // 16-byte Folded Reload
 	ldp	x29, x30, [sp, #48]             // 16-byte Folded Reload
@@ -12639,7 +12647,7 @@ gcm.fotsgure_gcm_finish:                    // @gcm.fotsgure_gcm_finish
 	add	x2, sp, #8
 	mov	x19, x1
 	bl	gcm.gcm.mode.BorrowedGcm.put_tag_so_far
-	bl	gcm.aes_cipher.zeroize.stack.wipe_stack.520
+	bl	gcm.aes_cipher.zeroize.stack.wipe_stack.512
 	mov	x0, x19
 	bl	gcm.gcm.message.MessageZeroize.zeroize
 	ldur	q0, [sp, #8]
@@ -12807,7 +12815,7 @@ gcm.fotsgure_gcm_set_key:                   // @gcm.fotsgure_gcm_set_key
 	str	w19, [x21]
 	add	w1, w8, #7
 	bl	gcm.gcm.mode.put_subkey
-	bl	gcm.aes_cipher.zeroize.stack.wipe_stack.520
+	bl	gcm.aes_cipher.zeroize.stack.wipe_stack.512
 	mov	w0, wzr
 	ldp	x20, x19, [sp, #32]             // 16-byte Folded Reload
 	ldr	x21, [sp, #16]                  // 8-byte Reload
@@ -12982,7 +12990,7 @@ gcm.fotsgure_gcm_set_key_of:                // @gcm.fotsgure_gcm_set_key_of
 	stur	q1, [x19, #20]
 	stur	q0, [x19, #4]
 	bl	gcm.gcm.mode.put_subkey
-	bl	gcm.aes_cipher.zeroize.stack.wipe_stack.520
+	bl	gcm.aes_cipher.zeroize.stack.wipe_stack.512
 	mov	w0, wzr
 	ldr	x19, [sp, #16]                  // 8-byte Reload
 	ldp	x29, x30, [sp], #32             // 16-byte Folded Reload
@@ -14945,7 +14953,7 @@ gcm.fotsgure_gcm_additional:                // @gcm.fotsgure_gcm_additional
 	add	x4, x10, x9
 	mov	x5, x19
 	bl	gcm.gcm.hash_room.hash_piece
-	bl	gcm.aes_cipher.zeroize.stack.wipe_stack.520
+	bl	gcm.aes_cipher.zeroize.stack.wipe_stack.512
 	ldr	x9, [x20]
 	mov	w8, wzr
 	add	x9, x9, x19
@@ -15594,7 +15602,7 @@ gcm.fotsgure_gcm_verify:                    // @gcm.fotsgure_gcm_verify
 	ldr	x8, [x20, #8]
 	add	x8, x8, x19
 	str	x8, [x20, #8]
-	bl	gcm.aes_cipher.zeroize.stack.wipe_stack.520
+	bl	gcm.aes_cipher.zeroize.stack.wipe_stack.512
 	mov	w8, wzr
 	ldp	x20, x19, [sp, #80]             // 16-byte Folded Reload
 	mov	w0, w8
@@ -15772,7 +15780,7 @@ gcm.fotsgure_gcm_accept:                    // @gcm.fotsgure_gcm_accept
 	mov	w19, w0
 	sub	x0, x29, #16
 	bl	gcm.aes_cipher.zeroize.elements.zeroize_elements.3
-	bl	gcm.aes_cipher.zeroize.stack.wipe_stack.520
+	bl	gcm.aes_cipher.zeroize.stack.wipe_stack.512
 	cbz	w19, .Lgcm_BB82_9
 // %bb.5:
 	mov	w8, #6                          // =0x6
@@ -16082,7 +16090,7 @@ gcm.fotsgure_gcm_accept_short:              // @gcm.fotsgure_gcm_accept_short
 	bl	gcm.aes_cipher.zeroize.elements.zeroize_elements.3
 	sub	x0, x29, #32
 	bl	gcm.aes_cipher.zeroize.elements.zeroize_elements.3
-	bl	gcm.aes_cipher.zeroize.stack.wipe_stack.520
+	bl	gcm.aes_cipher.zeroize.stack.wipe_stack.512
 	cbz	w19, .Lgcm_BB83_9
 // %bb.6:
 	mov	w8, #6                          // =0x6
@@ -16313,5 +16321,5 @@ gcm.fotsgure_gcm_accept_short:              // @gcm.fotsgure_gcm_accept_short
 	.long	9, 116, 1
 	.asciz	"Fotsgure"
 	.p2align	2, 0x0
-	.asciz	"fotsgure_gcm 0.4.0, aarch64/gcm.s, sources SHA-256 b304b46c21388cead66af5758090649f00f84deb047fe72a599f56524f4a45be"
+	.asciz	"fotsgure_gcm 0.4.0, aarch64/gcm.s, sources SHA-256 28c12be2f4bfc28a8a06eb00306373acec804025e88b32ce899c9d5f4834c60c"
 	.p2align	2, 0x0

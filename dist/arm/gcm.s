@@ -3228,20 +3228,20 @@ gcm.gcm.holes.product_of_words:         @ @gcm.gcm.holes.product_of_words
 	.cantunwind
 	.fnend
                                         @ -- End function
-	.section	.text.gcm.aes_cipher.zeroize.stack.wipe_stack.520,"ax",%progbits
-	.p2align	2                               @ -- Begin function aes_cipher::zeroize::stack::wipe_stack::<=520>
-	.type	gcm.aes_cipher.zeroize.stack.wipe_stack.520,%function
+	.section	.text.gcm.aes_cipher.zeroize.stack.wipe_stack.512,"ax",%progbits
+	.p2align	2                               @ -- Begin function aes_cipher::zeroize::stack::wipe_stack::<=512>
+	.type	gcm.aes_cipher.zeroize.stack.wipe_stack.512,%function
 	.code	32
-gcm.aes_cipher.zeroize.stack.wipe_stack.520: @ @gcm.aes_cipher.zeroize.stack.wipe_stack.520
+gcm.aes_cipher.zeroize.stack.wipe_stack.512: @ @gcm.aes_cipher.zeroize.stack.wipe_stack.512
 	.fnstart
 @ %bb.0:                                @ %start
 	.save	{r4, r5, r6, r7, r8, lr}
 	push	{r4, r5, r6, r7, r8, lr}
-	.pad	#528
-	sub	sp, sp, #528
+	.pad	#520
+	sub	sp, sp, #520
 	add	r4, sp, #8
 	mov	r1, #0
-	mov	r2, #520
+	mov	r2, #512
 	mov	r7, #0
 	mov	r0, r4
 	bl	memset
@@ -3252,7 +3252,7 @@ gcm.aes_cipher.zeroize.stack.wipe_stack.520: @ @gcm.aes_cipher.zeroize.stack.wip
 	ldrd	r0, r1, [sp]
 	@APP
 	@NO_APP
-	subs	r2, r0, #520
+	subs	r2, r0, #512
 	sbcs	r2, r1, #0
 	bhs	.Lgcm_BB10_2
 @ %bb.1:                                @ %then.1
@@ -3263,13 +3263,13 @@ gcm.aes_cipher.zeroize.stack.wipe_stack.520: @ @gcm.aes_cipher.zeroize.stack.wip
 	strd	r6, r7, [sp]
 	@APP
 	@NO_APP
-	add	sp, sp, #528
+	add	sp, sp, #520
 	pop	{r4, r5, r6, r7, r8, pc}
 .Lgcm_BB10_2:                               @ %common.ret
-	add	sp, sp, #528
+	add	sp, sp, #520
 	pop	{r4, r5, r6, r7, r8, pc}
 .Lgcm_func_end10:
-	.size	gcm.aes_cipher.zeroize.stack.wipe_stack.520, .Lgcm_func_end10-gcm.aes_cipher.zeroize.stack.wipe_stack.520
+	.size	gcm.aes_cipher.zeroize.stack.wipe_stack.512, .Lgcm_func_end10-gcm.aes_cipher.zeroize.stack.wipe_stack.512
 	.cantunwind
 	.fnend
                                         @ -- End function
@@ -9859,7 +9859,7 @@ gcm.fotsgure_gcm_set_key:                   @ @gcm.fotsgure_gcm_set_key
 	str	r5, [r4], #484
 	str	r4, [sp]
 	bl	gcm.gcm.mode.put_subkey
-	bl	gcm.aes_cipher.zeroize.stack.wipe_stack.520
+	bl	gcm.aes_cipher.zeroize.stack.wipe_stack.512
 	mov	r0, r8
 	add	sp, sp, #8
 	mov	r1, #0
@@ -9918,7 +9918,7 @@ gcm.fotsgure_gcm_set_key_of:                @ @gcm.fotsgure_gcm_set_key_of
 	mov	r0, r4
 	str	r6, [sp]
 	bl	gcm.gcm.mode.put_subkey
-	bl	gcm.aes_cipher.zeroize.stack.wipe_stack.520
+	bl	gcm.aes_cipher.zeroize.stack.wipe_stack.512
 	mov	r0, #0
 	add	sp, sp, #8
 	mov	r1, #0
@@ -10638,7 +10638,7 @@ gcm.fotsgure_gcm_begin:                     @ @gcm.fotsgure_gcm_begin
 	str	r4, [r5, #68]
 	str	r4, [r5, #72]
 	str	r4, [r5, #76]
-	blne	gcm.aes_cipher.zeroize.stack.wipe_stack.520
+	blne	gcm.aes_cipher.zeroize.stack.wipe_stack.512
 .Lgcm_BB53_4:                               @ %wide_fotsgure_gcm_begin.exit
 	mov	r0, r4
 	add	sp, sp, #32
@@ -10865,7 +10865,7 @@ gcm.fotsgure_gcm_additional:                @ @gcm.fotsgure_gcm_additional
 	str	r8, [sp, #16]
 	str	r7, [sp, #20]
 	bl	gcm.gcm.hash_room.hash_piece
-	bl	gcm.aes_cipher.zeroize.stack.wipe_stack.520
+	bl	gcm.aes_cipher.zeroize.stack.wipe_stack.512
 	ldrd	r0, r1, [r4]
 	adds	r0, r0, r8
 	adc	r1, r1, #0
@@ -11104,7 +11104,7 @@ gcm.fotsgure_gcm_finish:                    @ @gcm.fotsgure_gcm_finish
 	mov	r2, sp
 	mov	r5, r1
 	bl	gcm.gcm.mode.BorrowedGcm.put_tag_so_far
-	bl	gcm.aes_cipher.zeroize.stack.wipe_stack.520
+	bl	gcm.aes_cipher.zeroize.stack.wipe_stack.512
 	mov	r0, r5
 	bl	gcm.gcm.message.MessageZeroize.zeroize
 	ldm	sp, {r0, r1, r2, r3}
@@ -11276,7 +11276,7 @@ gcm.fotsgure_gcm_verify:                    @ @gcm.fotsgure_gcm_verify
 	adds	r0, r0, r8
 	adc	r1, r1, #0
 	strd	r0, r1, [r10]
-	bl	gcm.aes_cipher.zeroize.stack.wipe_stack.520
+	bl	gcm.aes_cipher.zeroize.stack.wipe_stack.512
 	mov	r0, r9
 	add	sp, sp, #52
 	mov	r1, #0
@@ -11365,7 +11365,7 @@ gcm.fotsgure_gcm_accept:                    @ @gcm.fotsgure_gcm_accept
 	mov	r5, r0
 	mov	r0, r4
 	bl	gcm.aes_cipher.zeroize.elements.zeroize_elements.2
-	bl	gcm.aes_cipher.zeroize.stack.wipe_stack.520
+	bl	gcm.aes_cipher.zeroize.stack.wipe_stack.512
 	mov	r9, #6
 	cmp	r5, #0
 	beq	.Lgcm_BB59_7
@@ -11500,7 +11500,7 @@ gcm.fotsgure_gcm_accept_short:              @ @gcm.fotsgure_gcm_accept_short
 	bl	gcm.aes_cipher.zeroize.elements.zeroize_elements.2
 	mov	r0, r7
 	bl	gcm.aes_cipher.zeroize.elements.zeroize_elements.2
-	bl	gcm.aes_cipher.zeroize.stack.wipe_stack.520
+	bl	gcm.aes_cipher.zeroize.stack.wipe_stack.512
 	mov	r7, #6
 	cmp	r5, #0
 	beq	.Lgcm_BB60_8

@@ -3548,29 +3548,29 @@ gcm.gcm.mode.hash_lengths: # @gcm.gcm.mode.hash_lengths
 .Lgcm_func_end10:
 	.size	gcm.gcm.mode.hash_lengths, .Lgcm_func_end10-gcm.gcm.mode.hash_lengths
                                         # -- End function
-	.section	.text.gcm.aes_cipher.zeroize.stack.wipe_stack.520,"ax",@progbits
-	.p2align	1                               # -- Begin function aes_cipher::zeroize::stack::wipe_stack::<=520>
-	.type	gcm.aes_cipher.zeroize.stack.wipe_stack.520,@function
-gcm.aes_cipher.zeroize.stack.wipe_stack.520: # @gcm.aes_cipher.zeroize.stack.wipe_stack.520
+	.section	.text.gcm.aes_cipher.zeroize.stack.wipe_stack.512,"ax",@progbits
+	.p2align	1                               # -- Begin function aes_cipher::zeroize::stack::wipe_stack::<=512>
+	.type	gcm.aes_cipher.zeroize.stack.wipe_stack.512,@function
+gcm.aes_cipher.zeroize.stack.wipe_stack.512: # @gcm.aes_cipher.zeroize.stack.wipe_stack.512
 # %bb.0:                                # %start
-	addi	sp, sp, -544
-	sw	ra, 540(sp)                     # 4-byte Folded Spill
-	sw	s0, 536(sp)                     # 4-byte Folded Spill
-	addi	a0, sp, 16
-	li	a2, 520
-	addi	s0, sp, 16
+	addi	sp, sp, -528
+	sw	ra, 524(sp)                     # 4-byte Folded Spill
+	sw	s0, 520(sp)                     # 4-byte Folded Spill
+	addi	a0, sp, 8
+	li	a2, 512
+	addi	s0, sp, 8
 	li	a1, 0
 	call	memset
-	sw	zero, 8(sp)
-	sw	zero, 12(sp)
+	sw	zero, 0(sp)
+	sw	zero, 4(sp)
 	#APP
 	#NO_APP
-	lw	a0, 8(sp)
-	lw	a1, 12(sp)
+	lw	a0, 0(sp)
+	lw	a1, 4(sp)
 	#APP
 	#NO_APP
 	seqz	a1, a1
-	sltiu	a2, a0, 520
+	sltiu	a2, a0, 512
 	and	a1, a1, a2
 	beqz	a1, .Lgcm_BB11_2
 # %bb.1:                                # %then.1
@@ -3578,19 +3578,19 @@ gcm.aes_cipher.zeroize.stack.wipe_stack.520: # @gcm.aes_cipher.zeroize.stack.wip
 	lbu	a0, 0(a0)
 	#APP
 	#NO_APP
-	lw	zero, 12(sp)
-	lw	zero, 8(sp)
-	sw	zero, 12(sp)
-	sw	a0, 8(sp)
+	lw	zero, 4(sp)
+	lw	zero, 0(sp)
+	sw	zero, 4(sp)
+	sw	a0, 0(sp)
 	#APP
 	#NO_APP
 .Lgcm_BB11_2:                               # %common.ret
-	lw	ra, 540(sp)                     # 4-byte Folded Reload
-	lw	s0, 536(sp)                     # 4-byte Folded Reload
-	addi	sp, sp, 544
+	lw	ra, 524(sp)                     # 4-byte Folded Reload
+	lw	s0, 520(sp)                     # 4-byte Folded Reload
+	addi	sp, sp, 528
 	ret
 .Lgcm_func_end11:
-	.size	gcm.aes_cipher.zeroize.stack.wipe_stack.520, .Lgcm_func_end11-gcm.aes_cipher.zeroize.stack.wipe_stack.520
+	.size	gcm.aes_cipher.zeroize.stack.wipe_stack.512, .Lgcm_func_end11-gcm.aes_cipher.zeroize.stack.wipe_stack.512
                                         # -- End function
 	.section	.text.gcm.gcm.mode.BorrowedGcm.put_tag_so_far,"ax",@progbits
 	.p2align	1                               # -- Begin function gcm::mode::BorrowedGcm::put_tag_so_far::<#56ef08599dd20827>
@@ -12567,7 +12567,7 @@ gcm.fotsgure_gcm_set_key:                   # @gcm.fotsgure_gcm_set_key
 	mv	a1, s3
 	mv	a2, s4
 	call	gcm.gcm.mode.put_subkey
-	call	gcm.aes_cipher.zeroize.stack.wipe_stack.520
+	call	gcm.aes_cipher.zeroize.stack.wipe_stack.512
 	li	a0, 0
 .Lgcm_BB42_4:                               # %wide_fotsgure_gcm_set_key.exit
 	lw	ra, 28(sp)                      # 4-byte Folded Reload
@@ -12663,7 +12663,7 @@ gcm.fotsgure_gcm_set_key_of:                # @gcm.fotsgure_gcm_set_key_of
 	addi	a3, s2, 484
 	mv	a0, s0
 	call	gcm.gcm.mode.put_subkey
-	call	gcm.aes_cipher.zeroize.stack.wipe_stack.520
+	call	gcm.aes_cipher.zeroize.stack.wipe_stack.512
 	li	a0, 0
 	lw	ra, 12(sp)                      # 4-byte Folded Reload
 	lw	s0, 8(sp)                       # 4-byte Folded Reload
@@ -13626,7 +13626,7 @@ gcm.fotsgure_gcm_begin:                     # @gcm.fotsgure_gcm_begin
 	li	a4, 0
 	beq	s1, a0, .Lgcm_BB51_5
 # %bb.4:                                # %then.1.i.i.i.i
-	call	gcm.aes_cipher.zeroize.stack.wipe_stack.520
+	call	gcm.aes_cipher.zeroize.stack.wipe_stack.512
 	li	a4, 0
 .Lgcm_BB51_5:
 	lw	ra, 44(sp)                      # 4-byte Folded Reload
@@ -13972,7 +13972,7 @@ gcm.fotsgure_gcm_additional:                # @gcm.fotsgure_gcm_additional
 	mv	a6, s0
 	li	a7, 0
 	call	gcm.gcm.hash_room.hash_piece
-	call	gcm.aes_cipher.zeroize.stack.wipe_stack.520
+	call	gcm.aes_cipher.zeroize.stack.wipe_stack.512
 	li	a0, 0
 	lw	a1, 0(s1)
 	lw	a2, 4(s1)
@@ -14258,7 +14258,7 @@ gcm.fotsgure_gcm_finish:                    # @gcm.fotsgure_gcm_finish
 	addi	a2, sp, 8
 	mv	s1, a1
 	call	gcm.gcm.mode.BorrowedGcm.put_tag_so_far
-	call	gcm.aes_cipher.zeroize.stack.wipe_stack.520
+	call	gcm.aes_cipher.zeroize.stack.wipe_stack.512
 	mv	a0, s1
 	call	gcm.gcm.message.MessageZeroize.zeroize
 	addi	a1, sp, 8
@@ -14468,7 +14468,7 @@ gcm.fotsgure_gcm_verify:                    # @gcm.fotsgure_gcm_verify
 	add	a0, a0, a1
 	sw	s2, 8(s0)
 	sw	a0, 12(s0)
-	call	gcm.aes_cipher.zeroize.stack.wipe_stack.520
+	call	gcm.aes_cipher.zeroize.stack.wipe_stack.512
 	li	a1, 0
 .Lgcm_BB56_14:                              # %wide_fotsgure_gcm_verify.exit
 	mv	a0, a1
@@ -14607,7 +14607,7 @@ gcm.fotsgure_gcm_accept:                    # @gcm.fotsgure_gcm_accept
 	mv	s0, a0
 	addi	a0, sp, 52
 	call	gcm.aes_cipher.zeroize.elements.zeroize_elements.3
-	call	gcm.aes_cipher.zeroize.stack.wipe_stack.520
+	call	gcm.aes_cipher.zeroize.stack.wipe_stack.512
 	beqz	s0, .Lgcm_BB57_9
 # %bb.5:
 	li	a3, 6
@@ -14842,7 +14842,7 @@ gcm.fotsgure_gcm_accept_short:              # @gcm.fotsgure_gcm_accept_short
 	call	gcm.aes_cipher.zeroize.elements.zeroize_elements.3
 	addi	a0, sp, 24
 	call	gcm.aes_cipher.zeroize.elements.zeroize_elements.3
-	call	gcm.aes_cipher.zeroize.stack.wipe_stack.520
+	call	gcm.aes_cipher.zeroize.stack.wipe_stack.512
 	beqz	s0, .Lgcm_BB58_14
 .Lgcm_BB58_12:
 	li	a0, 6

@@ -3650,29 +3650,29 @@ gcm_small.gcm.mode.hash_lengths: # @gcm_small.gcm.mode.hash_lengths
 .Lgcm_small_func_end29:
 	.size	gcm_small.gcm.mode.hash_lengths, .Lgcm_small_func_end29-gcm_small.gcm.mode.hash_lengths
                                         # -- End function
-	.section	.text.gcm_small.aes_cipher.zeroize.stack.wipe_stack.520,"ax",@progbits
-	.p2align	1                               # -- Begin function aes_cipher::zeroize::stack::wipe_stack::<=520>
-	.type	gcm_small.aes_cipher.zeroize.stack.wipe_stack.520,@function
-gcm_small.aes_cipher.zeroize.stack.wipe_stack.520: # @gcm_small.aes_cipher.zeroize.stack.wipe_stack.520
+	.section	.text.gcm_small.aes_cipher.zeroize.stack.wipe_stack.512,"ax",@progbits
+	.p2align	1                               # -- Begin function aes_cipher::zeroize::stack::wipe_stack::<=512>
+	.type	gcm_small.aes_cipher.zeroize.stack.wipe_stack.512,@function
+gcm_small.aes_cipher.zeroize.stack.wipe_stack.512: # @gcm_small.aes_cipher.zeroize.stack.wipe_stack.512
 # %bb.0:                                # %start
-	addi	sp, sp, -544
-	sw	ra, 540(sp)                     # 4-byte Folded Spill
-	sw	s0, 536(sp)                     # 4-byte Folded Spill
-	addi	a0, sp, 16
-	li	a2, 520
-	addi	s0, sp, 16
+	addi	sp, sp, -528
+	sw	ra, 524(sp)                     # 4-byte Folded Spill
+	sw	s0, 520(sp)                     # 4-byte Folded Spill
+	addi	a0, sp, 8
+	li	a2, 512
+	addi	s0, sp, 8
 	li	a1, 0
 	call	memset
-	sw	zero, 8(sp)
-	sw	zero, 12(sp)
+	sw	zero, 0(sp)
+	sw	zero, 4(sp)
 	#APP
 	#NO_APP
-	lw	a0, 8(sp)
-	lw	a1, 12(sp)
+	lw	a0, 0(sp)
+	lw	a1, 4(sp)
 	#APP
 	#NO_APP
 	seqz	a1, a1
-	sltiu	a2, a0, 520
+	sltiu	a2, a0, 512
 	and	a1, a1, a2
 	beqz	a1, .Lgcm_small_BB30_2
 # %bb.1:                                # %then.1
@@ -3680,19 +3680,19 @@ gcm_small.aes_cipher.zeroize.stack.wipe_stack.520: # @gcm_small.aes_cipher.zeroi
 	lbu	a0, 0(a0)
 	#APP
 	#NO_APP
-	lw	zero, 12(sp)
-	lw	zero, 8(sp)
-	sw	zero, 12(sp)
-	sw	a0, 8(sp)
+	lw	zero, 4(sp)
+	lw	zero, 0(sp)
+	sw	zero, 4(sp)
+	sw	a0, 0(sp)
 	#APP
 	#NO_APP
 .Lgcm_small_BB30_2:                               # %common.ret
-	lw	ra, 540(sp)                     # 4-byte Folded Reload
-	lw	s0, 536(sp)                     # 4-byte Folded Reload
-	addi	sp, sp, 544
+	lw	ra, 524(sp)                     # 4-byte Folded Reload
+	lw	s0, 520(sp)                     # 4-byte Folded Reload
+	addi	sp, sp, 528
 	ret
 .Lgcm_small_func_end30:
-	.size	gcm_small.aes_cipher.zeroize.stack.wipe_stack.520, .Lgcm_small_func_end30-gcm_small.aes_cipher.zeroize.stack.wipe_stack.520
+	.size	gcm_small.aes_cipher.zeroize.stack.wipe_stack.512, .Lgcm_small_func_end30-gcm_small.aes_cipher.zeroize.stack.wipe_stack.512
                                         # -- End function
 	.section	.text.gcm_small.gcm.mode.BorrowedGcm.put_tag_so_far,"ax",@progbits
 	.p2align	1                               # -- Begin function gcm::mode::BorrowedGcm::put_tag_so_far::<#56ef08599dd20827>
@@ -10474,7 +10474,7 @@ gcm_small.fotsgure_gcm_set_key:                   # @gcm_small.fotsgure_gcm_set_
 	addi	a1, s4, 484
 	mv	a0, sp
 	call	gcm_small.gcm.mode.put_subkey
-	call	gcm_small.aes_cipher.zeroize.stack.wipe_stack.520
+	call	gcm_small.aes_cipher.zeroize.stack.wipe_stack.512
 	li	a0, 0
 .Lgcm_small_BB75_4:                               # %wide_fotsgure_gcm_set_key.exit
 	lw	ra, 44(sp)                      # 4-byte Folded Reload
@@ -10555,7 +10555,7 @@ gcm_small.fotsgure_gcm_set_key_of:                # @gcm_small.fotsgure_gcm_set_
 	addi	a1, s0, 484
 	mv	a0, sp
 	call	gcm_small.gcm.mode.put_subkey
-	call	gcm_small.aes_cipher.zeroize.stack.wipe_stack.520
+	call	gcm_small.aes_cipher.zeroize.stack.wipe_stack.512
 	li	a0, 0
 .Lgcm_small_BB76_4:                               # %wide_fotsgure_gcm_set_key_of.exit
 	lw	ra, 28(sp)                      # 4-byte Folded Reload
@@ -11516,7 +11516,7 @@ gcm_small.fotsgure_gcm_begin:                     # @gcm_small.fotsgure_gcm_begi
 	li	a4, 0
 	beq	s1, a0, .Lgcm_small_BB84_5
 # %bb.4:                                # %then.1.i.i.i.i
-	call	gcm_small.aes_cipher.zeroize.stack.wipe_stack.520
+	call	gcm_small.aes_cipher.zeroize.stack.wipe_stack.512
 	li	a4, 0
 .Lgcm_small_BB84_5:
 	lw	ra, 44(sp)                      # 4-byte Folded Reload
@@ -11871,7 +11871,7 @@ gcm_small.fotsgure_gcm_additional:                # @gcm_small.fotsgure_gcm_addi
 	mv	a6, s0
 	li	a7, 0
 	call	gcm_small.gcm.hash_room.hash_piece
-	call	gcm_small.aes_cipher.zeroize.stack.wipe_stack.520
+	call	gcm_small.aes_cipher.zeroize.stack.wipe_stack.512
 	li	a0, 0
 	lw	a1, 0(s1)
 	lw	a2, 4(s1)
@@ -12158,7 +12158,7 @@ gcm_small.fotsgure_gcm_finish:                    # @gcm_small.fotsgure_gcm_fini
 	addi	a2, sp, 8
 	mv	s1, a1
 	call	gcm_small.gcm.mode.BorrowedGcm.put_tag_so_far
-	call	gcm_small.aes_cipher.zeroize.stack.wipe_stack.520
+	call	gcm_small.aes_cipher.zeroize.stack.wipe_stack.512
 	mv	a0, s1
 	call	gcm_small.gcm.message.MessageZeroize.zeroize
 	addi	a1, sp, 8
@@ -12351,7 +12351,7 @@ gcm_small.fotsgure_gcm_verify:                    # @gcm_small.fotsgure_gcm_veri
 	add	a0, a0, a1
 	sw	s2, 8(s0)
 	sw	a0, 12(s0)
-	call	gcm_small.aes_cipher.zeroize.stack.wipe_stack.520
+	call	gcm_small.aes_cipher.zeroize.stack.wipe_stack.512
 	li	a1, 0
 .Lgcm_small_BB89_14:                              # %wide_fotsgure_gcm_verify.exit
 	mv	a0, a1
@@ -12490,7 +12490,7 @@ gcm_small.fotsgure_gcm_accept:                    # @gcm_small.fotsgure_gcm_acce
 	mv	s0, a0
 	addi	a0, sp, 52
 	call	gcm_small.aes_cipher.zeroize.elements.zeroize_elements.3
-	call	gcm_small.aes_cipher.zeroize.stack.wipe_stack.520
+	call	gcm_small.aes_cipher.zeroize.stack.wipe_stack.512
 	beqz	s0, .Lgcm_small_BB90_8
 # %bb.5:
 	li	a3, 6
@@ -12689,7 +12689,7 @@ gcm_small.fotsgure_gcm_accept_short:              # @gcm_small.fotsgure_gcm_acce
 	call	gcm_small.aes_cipher.zeroize.elements.zeroize_elements.3
 	addi	a0, sp, 24
 	call	gcm_small.aes_cipher.zeroize.elements.zeroize_elements.3
-	call	gcm_small.aes_cipher.zeroize.stack.wipe_stack.520
+	call	gcm_small.aes_cipher.zeroize.stack.wipe_stack.512
 	beqz	s0, .Lgcm_small_BB91_14
 .Lgcm_small_BB91_12:
 	li	a0, 6

@@ -2410,27 +2410,27 @@ gcm.gcm.multiples.Multiples.two_products: # @gcm.gcm.multiples.Multiples.two_pro
 .Lgcm_func_end9:
 	.size	gcm.gcm.multiples.Multiples.two_products, .Lgcm_func_end9-gcm.gcm.multiples.Multiples.two_products
                                         # -- End function
-	.section	.text.gcm.aes_cipher.zeroize.stack.wipe_stack.520,"ax",@progbits
-	.p2align	1                               # -- Begin function aes_cipher::zeroize::stack::wipe_stack::<=520>
-	.type	gcm.aes_cipher.zeroize.stack.wipe_stack.520,@function
-gcm.aes_cipher.zeroize.stack.wipe_stack.520: # @gcm.aes_cipher.zeroize.stack.wipe_stack.520
+	.section	.text.gcm.aes_cipher.zeroize.stack.wipe_stack.512,"ax",@progbits
+	.p2align	1                               # -- Begin function aes_cipher::zeroize::stack::wipe_stack::<=512>
+	.type	gcm.aes_cipher.zeroize.stack.wipe_stack.512,@function
+gcm.aes_cipher.zeroize.stack.wipe_stack.512: # @gcm.aes_cipher.zeroize.stack.wipe_stack.512
 # %bb.0:                                # %start
-	addi	sp, sp, -560
-	sd	ra, 552(sp)                     # 8-byte Folded Spill
-	sd	s0, 544(sp)                     # 8-byte Folded Spill
-	sd	s1, 536(sp)                     # 8-byte Folded Spill
-	addi	s0, sp, 16
-	addi	a0, sp, 16
-	li	a2, 520
-	li	s1, 520
+	addi	sp, sp, -544
+	sd	ra, 536(sp)                     # 8-byte Folded Spill
+	sd	s0, 528(sp)                     # 8-byte Folded Spill
+	sd	s1, 520(sp)                     # 8-byte Folded Spill
+	addi	s0, sp, 8
+	addi	a0, sp, 8
+	li	a2, 512
+	li	s1, 512
 	li	a1, 0
 	la	t1, memset
 	jalr	t1
-	sd	zero, 8(sp)
+	sd	zero, 0(sp)
 	#APP
 	#NO_APP
 	fence	rw, rw
-	ld	a0, 8(sp)
+	ld	a0, 0(sp)
 	fence	r, rw
 	#APP
 	#NO_APP
@@ -2440,18 +2440,18 @@ gcm.aes_cipher.zeroize.stack.wipe_stack.520: # @gcm.aes_cipher.zeroize.stack.wip
 	lbu	a0, 0(a0)
 	#APP
 	#NO_APP
-	addi	a1, sp, 8
+	mv	a1, sp
 	amoswap.d.aqrl	zero, a0, (a1)
 	#APP
 	#NO_APP
 .Lgcm_BB10_2:                               # %common.ret
-	ld	ra, 552(sp)                     # 8-byte Folded Reload
-	ld	s0, 544(sp)                     # 8-byte Folded Reload
-	ld	s1, 536(sp)                     # 8-byte Folded Reload
-	addi	sp, sp, 560
+	ld	ra, 536(sp)                     # 8-byte Folded Reload
+	ld	s0, 528(sp)                     # 8-byte Folded Reload
+	ld	s1, 520(sp)                     # 8-byte Folded Reload
+	addi	sp, sp, 544
 	ret
 .Lgcm_func_end10:
-	.size	gcm.aes_cipher.zeroize.stack.wipe_stack.520, .Lgcm_func_end10-gcm.aes_cipher.zeroize.stack.wipe_stack.520
+	.size	gcm.aes_cipher.zeroize.stack.wipe_stack.512, .Lgcm_func_end10-gcm.aes_cipher.zeroize.stack.wipe_stack.512
                                         # -- End function
 	.section	.text.gcm.gcm.mode.BorrowedGcm.put_tag_so_far,"ax",@progbits
 	.p2align	1                               # -- Begin function gcm::mode::BorrowedGcm::put_tag_so_far::<#221fbc00d1292367>
@@ -16884,7 +16884,7 @@ gcm.fotsgure_gcm_begin:                     # @gcm.fotsgure_gcm_begin
 	vse8.v	v8, (a2)
 	beq	s1, a1, .Lgcm_BB63_7
 # %bb.6:                                # %then.1.i.i.i
-	call	gcm.aes_cipher.zeroize.stack.wipe_stack.520
+	call	gcm.aes_cipher.zeroize.stack.wipe_stack.512
 	li	a0, 0
 .Lgcm_BB63_7:
 	ld	ra, 56(sp)                      # 8-byte Folded Reload
@@ -17187,7 +17187,7 @@ gcm.fotsgure_gcm_finish:                    # @gcm.fotsgure_gcm_finish
 	addi	s2, sp, 8
 	mv	s0, a1
 	call	gcm.gcm.mode.BorrowedGcm.put_tag_so_far
-	call	gcm.aes_cipher.zeroize.stack.wipe_stack.520
+	call	gcm.aes_cipher.zeroize.stack.wipe_stack.512
 	mv	a0, s0
 	call	gcm.gcm.message.MessageZeroize.zeroize
 	li	a0, 0
@@ -17266,7 +17266,7 @@ gcm.fotsgure_gcm_set_key:                   # @gcm.fotsgure_gcm_set_key
 	addi	a2, s3, 244
 	mv	a0, s1
 	call	gcm.gcm.mode.put_subkey
-	call	gcm.aes_cipher.zeroize.stack.wipe_stack.520
+	call	gcm.aes_cipher.zeroize.stack.wipe_stack.512
 	li	a0, 0
 	j	.Lgcm_BB66_4
 .Lgcm_BB66_3:                               # %then.1.i
@@ -17341,7 +17341,7 @@ gcm.fotsgure_gcm_set_key_of:                # @gcm.fotsgure_gcm_set_key_of
 	addi	a2, s1, 244
 	mv	a0, s0
 	call	gcm.gcm.mode.put_subkey
-	call	gcm.aes_cipher.zeroize.stack.wipe_stack.520
+	call	gcm.aes_cipher.zeroize.stack.wipe_stack.512
 	li	a0, 0
 	ld	ra, 24(sp)                      # 8-byte Folded Reload
 	ld	s0, 16(sp)                      # 8-byte Folded Reload
@@ -18916,7 +18916,7 @@ gcm.fotsgure_gcm_additional:                # @gcm.fotsgure_gcm_additional
 	mv	a3, a5
 	mv	a5, s0
 	call	gcm.gcm.hash_room.hash_piece
-	call	gcm.aes_cipher.zeroize.stack.wipe_stack.520
+	call	gcm.aes_cipher.zeroize.stack.wipe_stack.512
 	li	a0, 0
 	ld	a1, 0(s1)
 	add	a1, a1, s0
@@ -19488,7 +19488,7 @@ gcm.fotsgure_gcm_verify:                    # @gcm.fotsgure_gcm_verify
 	ld	a0, 8(s1)
 	add	a0, a0, s3
 	sd	a0, 8(s1)
-	call	gcm.aes_cipher.zeroize.stack.wipe_stack.520
+	call	gcm.aes_cipher.zeroize.stack.wipe_stack.512
 	li	a0, 0
 	j	.Lgcm_BB81_10
 .Lgcm_BB81_9:
@@ -19585,7 +19585,7 @@ gcm.fotsgure_gcm_accept:                    # @gcm.fotsgure_gcm_accept
 	srli	s1, a0, 32
 	addi	a0, sp, 56
 	call	gcm.aes_cipher.zeroize.elements.zeroize_elements.3
-	call	gcm.aes_cipher.zeroize.stack.wipe_stack.520
+	call	gcm.aes_cipher.zeroize.stack.wipe_stack.512
 	beqz	s1, .Lgcm_BB82_9
 # %bb.5:
 	li	a0, 6
@@ -19777,7 +19777,7 @@ gcm.fotsgure_gcm_accept_short:              # @gcm.fotsgure_gcm_accept_short
 	call	gcm.aes_cipher.zeroize.elements.zeroize_elements.3
 	addi	a0, sp, 48
 	call	gcm.aes_cipher.zeroize.elements.zeroize_elements.3
-	call	gcm.aes_cipher.zeroize.stack.wipe_stack.520
+	call	gcm.aes_cipher.zeroize.stack.wipe_stack.512
 	beqz	s0, .Lgcm_BB83_8
 # %bb.6:
 	li	a0, 6
@@ -19864,5 +19864,5 @@ gcm.fotsgure_gcm_accept_short:              # @gcm.fotsgure_gcm_accept_short
 	.long	9, 116, 1
 	.asciz	"Fotsgure"
 	.p2align	2, 0x0
-	.asciz	"fotsgure_gcm 0.4.0, riscv64/gcm.s, sources SHA-256 b304b46c21388cead66af5758090649f00f84deb047fe72a599f56524f4a45be"
+	.asciz	"fotsgure_gcm 0.4.0, riscv64/gcm.s, sources SHA-256 28c12be2f4bfc28a8a06eb00306373acec804025e88b32ce899c9d5f4834c60c"
 	.p2align	2, 0x0

@@ -3478,27 +3478,27 @@ gcm_narrow.gcm.bitwise.product_bitwise:        # @gcm_narrow.gcm.bitwise.product
 .Lgcm_narrow_func_end8:
 	.size	gcm_narrow.gcm.bitwise.product_bitwise, .Lgcm_narrow_func_end8-gcm_narrow.gcm.bitwise.product_bitwise
                                         # -- End function
-	.section	.text.gcm_narrow.aes_cipher.zeroize.stack.wipe_stack.520,"ax",@progbits
-	.p2align	1                               # -- Begin function aes_cipher::zeroize::stack::wipe_stack::<=520>
-	.type	gcm_narrow.aes_cipher.zeroize.stack.wipe_stack.520,@function
-gcm_narrow.aes_cipher.zeroize.stack.wipe_stack.520: # @gcm_narrow.aes_cipher.zeroize.stack.wipe_stack.520
+	.section	.text.gcm_narrow.aes_cipher.zeroize.stack.wipe_stack.512,"ax",@progbits
+	.p2align	1                               # -- Begin function aes_cipher::zeroize::stack::wipe_stack::<=512>
+	.type	gcm_narrow.aes_cipher.zeroize.stack.wipe_stack.512,@function
+gcm_narrow.aes_cipher.zeroize.stack.wipe_stack.512: # @gcm_narrow.aes_cipher.zeroize.stack.wipe_stack.512
 # %bb.0:                                # %start
-	addi	sp, sp, -560
-	sd	ra, 552(sp)                     # 8-byte Folded Spill
-	sd	s0, 544(sp)                     # 8-byte Folded Spill
-	sd	s1, 536(sp)                     # 8-byte Folded Spill
-	addi	s0, sp, 16
-	addi	a0, sp, 16
-	li	a2, 520
-	li	s1, 520
+	addi	sp, sp, -544
+	sd	ra, 536(sp)                     # 8-byte Folded Spill
+	sd	s0, 528(sp)                     # 8-byte Folded Spill
+	sd	s1, 520(sp)                     # 8-byte Folded Spill
+	addi	s0, sp, 8
+	addi	a0, sp, 8
+	li	a2, 512
+	li	s1, 512
 	li	a1, 0
 	la	t1, memset
 	jalr	t1
-	sd	zero, 8(sp)
+	sd	zero, 0(sp)
 	#APP
 	#NO_APP
 	fence	rw, rw
-	ld	a0, 8(sp)
+	ld	a0, 0(sp)
 	fence	r, rw
 	#APP
 	#NO_APP
@@ -3508,18 +3508,18 @@ gcm_narrow.aes_cipher.zeroize.stack.wipe_stack.520: # @gcm_narrow.aes_cipher.zer
 	lbu	a0, 0(a0)
 	#APP
 	#NO_APP
-	addi	a1, sp, 8
+	mv	a1, sp
 	amoswap.d.aqrl	zero, a0, (a1)
 	#APP
 	#NO_APP
 .Lgcm_narrow_BB9_2:                                # %common.ret
-	ld	ra, 552(sp)                     # 8-byte Folded Reload
-	ld	s0, 544(sp)                     # 8-byte Folded Reload
-	ld	s1, 536(sp)                     # 8-byte Folded Reload
-	addi	sp, sp, 560
+	ld	ra, 536(sp)                     # 8-byte Folded Reload
+	ld	s0, 528(sp)                     # 8-byte Folded Reload
+	ld	s1, 520(sp)                     # 8-byte Folded Reload
+	addi	sp, sp, 544
 	ret
 .Lgcm_narrow_func_end9:
-	.size	gcm_narrow.aes_cipher.zeroize.stack.wipe_stack.520, .Lgcm_narrow_func_end9-gcm_narrow.aes_cipher.zeroize.stack.wipe_stack.520
+	.size	gcm_narrow.aes_cipher.zeroize.stack.wipe_stack.512, .Lgcm_narrow_func_end9-gcm_narrow.aes_cipher.zeroize.stack.wipe_stack.512
                                         # -- End function
 	.section	.text.gcm_narrow.gcm.mode.BorrowedGcm.put_tag_so_far,"ax",@progbits
 	.p2align	1                               # -- Begin function gcm::mode::BorrowedGcm::put_tag_so_far::<#b27de607c35b93bc>
@@ -13361,7 +13361,7 @@ gcm_narrow.fotsgure_gcm_begin:                     # @gcm_narrow.fotsgure_gcm_be
 	li	a4, 0
 	beq	s1, a0, .Lgcm_narrow_BB45_7
 # %bb.6:                                # %then.1.i.i.i
-	call	gcm_narrow.aes_cipher.zeroize.stack.wipe_stack.520
+	call	gcm_narrow.aes_cipher.zeroize.stack.wipe_stack.512
 	li	a4, 0
 .Lgcm_narrow_BB45_7:
 	ld	ra, 40(sp)                      # 8-byte Folded Reload
@@ -13643,7 +13643,7 @@ gcm_narrow.fotsgure_gcm_finish:                    # @gcm_narrow.fotsgure_gcm_fi
 	mv	a2, sp
 	mv	s1, a1
 	call	gcm_narrow.gcm.mode.BorrowedGcm.put_tag_so_far
-	call	gcm_narrow.aes_cipher.zeroize.stack.wipe_stack.520
+	call	gcm_narrow.aes_cipher.zeroize.stack.wipe_stack.512
 	mv	a0, s1
 	call	gcm_narrow.gcm.message.MessageZeroize.zeroize
 	mv	a1, sp
@@ -13721,7 +13721,7 @@ gcm_narrow.fotsgure_gcm_set_key:                   # @gcm_narrow.fotsgure_gcm_se
 	mv	a0, s1
 	mv	a1, s3
 	call	gcm_narrow.gcm.mode.put_subkey
-	call	gcm_narrow.aes_cipher.zeroize.stack.wipe_stack.520
+	call	gcm_narrow.aes_cipher.zeroize.stack.wipe_stack.512
 	li	a0, 0
 	j	.Lgcm_narrow_BB48_4
 .Lgcm_narrow_BB48_3:                               # %then.1.i
@@ -13790,7 +13790,7 @@ gcm_narrow.fotsgure_gcm_set_key_of:                # @gcm_narrow.fotsgure_gcm_se
 	addi	a2, s2, 968
 	mv	a0, s0
 	call	gcm_narrow.gcm.mode.put_subkey
-	call	gcm_narrow.aes_cipher.zeroize.stack.wipe_stack.520
+	call	gcm_narrow.aes_cipher.zeroize.stack.wipe_stack.512
 	li	a0, 0
 	ld	ra, 24(sp)                      # 8-byte Folded Reload
 	ld	s0, 16(sp)                      # 8-byte Folded Reload
@@ -15196,7 +15196,7 @@ gcm_narrow.fotsgure_gcm_additional:                # @gcm_narrow.fotsgure_gcm_ad
 	mv	a3, a5
 	mv	a5, s0
 	call	gcm_narrow.gcm.hash_room.hash_piece
-	call	gcm_narrow.aes_cipher.zeroize.stack.wipe_stack.520
+	call	gcm_narrow.aes_cipher.zeroize.stack.wipe_stack.512
 	li	a0, 0
 	ld	a1, 0(s1)
 	add	a1, a1, s0
@@ -15779,7 +15779,7 @@ gcm_narrow.fotsgure_gcm_verify:                    # @gcm_narrow.fotsgure_gcm_ve
 	ld	a0, 8(s1)
 	add	a0, a0, s3
 	sd	a0, 8(s1)
-	call	gcm_narrow.aes_cipher.zeroize.stack.wipe_stack.520
+	call	gcm_narrow.aes_cipher.zeroize.stack.wipe_stack.512
 	li	a1, 0
 	j	.Lgcm_narrow_BB63_10
 .Lgcm_narrow_BB63_9:
@@ -15913,7 +15913,7 @@ gcm_narrow.fotsgure_gcm_accept:                    # @gcm_narrow.fotsgure_gcm_ac
 	srli	s1, a0, 32
 	addi	a0, sp, 40
 	call	gcm_narrow.aes_cipher.zeroize.elements.zeroize_elements.3
-	call	gcm_narrow.aes_cipher.zeroize.stack.wipe_stack.520
+	call	gcm_narrow.aes_cipher.zeroize.stack.wipe_stack.512
 	beqz	s1, .Lgcm_narrow_BB64_9
 # %bb.5:
 	li	a0, 6
@@ -16123,7 +16123,7 @@ gcm_narrow.fotsgure_gcm_accept_short:              # @gcm_narrow.fotsgure_gcm_ac
 	call	gcm_narrow.aes_cipher.zeroize.elements.zeroize_elements.3
 	addi	a0, sp, 32
 	call	gcm_narrow.aes_cipher.zeroize.elements.zeroize_elements.3
-	call	gcm_narrow.aes_cipher.zeroize.stack.wipe_stack.520
+	call	gcm_narrow.aes_cipher.zeroize.stack.wipe_stack.512
 	beqz	s0, .Lgcm_narrow_BB65_8
 # %bb.6:
 	li	a0, 6
@@ -16177,5 +16177,5 @@ gcm_narrow.fotsgure_gcm_accept_short:              # @gcm_narrow.fotsgure_gcm_ac
 	.long	9, 123, 1
 	.asciz	"Fotsgure"
 	.p2align	2, 0x0
-	.asciz	"fotsgure_gcm 0.4.0, riscv64/gcm_narrow.s, sources SHA-256 b304b46c21388cead66af5758090649f00f84deb047fe72a599f56524f4a45be"
+	.asciz	"fotsgure_gcm 0.4.0, riscv64/gcm_narrow.s, sources SHA-256 28c12be2f4bfc28a8a06eb00306373acec804025e88b32ce899c9d5f4834c60c"
 	.p2align	2, 0x0

@@ -3064,22 +3064,22 @@ gcm_v6m_small.gcm.mode.hash_lengths: @ @gcm_v6m_small.gcm.mode.hash_lengths
 	.cantunwind
 	.fnend
                                         @ -- End function
-	.section	.text.gcm_v6m_small.aes_cipher.zeroize.stack.wipe_stack.520,"ax",%progbits
-	.p2align	1                               @ -- Begin function aes_cipher::zeroize::stack::wipe_stack::<=520>
-	.type	gcm_v6m_small.aes_cipher.zeroize.stack.wipe_stack.520,%function
+	.section	.text.gcm_v6m_small.aes_cipher.zeroize.stack.wipe_stack.512,"ax",%progbits
+	.p2align	1                               @ -- Begin function aes_cipher::zeroize::stack::wipe_stack::<=512>
+	.type	gcm_v6m_small.aes_cipher.zeroize.stack.wipe_stack.512,%function
 	.code	16
 	.thumb_func
-gcm_v6m_small.aes_cipher.zeroize.stack.wipe_stack.520: @ @gcm_v6m_small.aes_cipher.zeroize.stack.wipe_stack.520
+gcm_v6m_small.aes_cipher.zeroize.stack.wipe_stack.512: @ @gcm_v6m_small.aes_cipher.zeroize.stack.wipe_stack.512
 	.fnstart
 @ %bb.0:                                @ %start
 	.save	{r4, lr}
 	push	{r4, lr}
 	.pad	#508
 	sub	sp, #508
-	.pad	#20
-	sub	sp, #20
-	movs	r0, #65
-	lsls	r2, r0, #3
+	.pad	#12
+	sub	sp, #12
+	movs	r0, #1
+	lsls	r2, r0, #9
 	add	r0, sp, #8
 	movs	r4, #0
 	mov	r1, r4
@@ -3088,17 +3088,13 @@ gcm_v6m_small.aes_cipher.zeroize.stack.wipe_stack.520: @ @gcm_v6m_small.aes_ciph
 	str	r4, [sp]
 	@APP
 	@NO_APP
-	ldr	r1, [sp, #4]
-	lsls	r2, r1, #29
 	ldr	r0, [sp]
-	lsrs	r3, r0, #3
-	adds	r2, r3, r2
+	lsrs	r1, r0, #9
+	ldr	r2, [sp, #4]
+	orrs	r2, r1
 	@APP
 	@NO_APP
-	lsrs	r1, r1, #3
-	subs	r2, #65
-	sbcs	r1, r4
-	bhs	.Lgcm_v6m_small_BB30_2
+	bne	.Lgcm_v6m_small_BB30_2
 @ %bb.1:                                @ %then.1
 	add	r1, sp, #8
 	ldrb	r0, [r1, r0]
@@ -3112,10 +3108,10 @@ gcm_v6m_small.aes_cipher.zeroize.stack.wipe_stack.520: @ @gcm_v6m_small.aes_ciph
 	@NO_APP
 .Lgcm_v6m_small_BB30_2:                               @ %common.ret
 	add	sp, #508
-	add	sp, #20
+	add	sp, #12
 	pop	{r4, pc}
 .Lgcm_v6m_small_func_end30:
-	.size	gcm_v6m_small.aes_cipher.zeroize.stack.wipe_stack.520, .Lgcm_v6m_small_func_end30-gcm_v6m_small.aes_cipher.zeroize.stack.wipe_stack.520
+	.size	gcm_v6m_small.aes_cipher.zeroize.stack.wipe_stack.512, .Lgcm_v6m_small_func_end30-gcm_v6m_small.aes_cipher.zeroize.stack.wipe_stack.512
 	.cantunwind
 	.fnend
                                         @ -- End function
@@ -10185,8 +10181,8 @@ gcm_v6m_small.fotsgure_gcm_version:                   @ @gcm_v6m_small.fotsgure_
 @ %bb.0:
 	movs	r0, #25
 	lsls	r0, r0, #4
-	b	.Lgcm_v6m_small_return_10176
-.Lgcm_v6m_small_return_10176:
+	b	.Lgcm_v6m_small_return_10172
+.Lgcm_v6m_small_return_10172:
 	movs	r1, #0
 	movs	r2, #0
 	movs	r3, #0
@@ -10264,12 +10260,12 @@ gcm_v6m_small.fotsgure_gcm_set_key:                   @ @gcm_v6m_small.fotsgure_
 	adds	r1, r0, r1
 	add	r0, sp, #8
 	bl	gcm_v6m_small.gcm.mode.put_subkey
-	bl	gcm_v6m_small.aes_cipher.zeroize.stack.wipe_stack.520
+	bl	gcm_v6m_small.aes_cipher.zeroize.stack.wipe_stack.512
 .Lgcm_v6m_small_BB75_6:                               @ %wide_fotsgure_gcm_set_key.exit
 	mov	r0, r4
 	add	sp, #28
-	b	.Lgcm_v6m_small_return_10259
-.Lgcm_v6m_small_return_10259:
+	b	.Lgcm_v6m_small_return_10255
+.Lgcm_v6m_small_return_10255:
 	movs	r1, #0
 	movs	r2, #0
 	movs	r3, #0
@@ -10343,12 +10339,12 @@ gcm_v6m_small.fotsgure_gcm_set_key_of:                @ @gcm_v6m_small.fotsgure_
 	adds	r1, r4, r0
 	mov	r0, sp
 	bl	gcm_v6m_small.gcm.mode.put_subkey
-	bl	gcm_v6m_small.aes_cipher.zeroize.stack.wipe_stack.520
+	bl	gcm_v6m_small.aes_cipher.zeroize.stack.wipe_stack.512
 .Lgcm_v6m_small_BB76_4:                               @ %wide_fotsgure_gcm_set_key_of.exit
 	mov	r0, r5
 	add	sp, #16
-	b	.Lgcm_v6m_small_return_10338
-.Lgcm_v6m_small_return_10338:
+	b	.Lgcm_v6m_small_return_10334
+.Lgcm_v6m_small_return_10334:
 	movs	r1, #0
 	movs	r2, #0
 	movs	r3, #0
@@ -10380,15 +10376,15 @@ gcm_v6m_small.fotsgure_gcm_key_length:                @ @gcm_v6m_small.fotsgure_
 	cmp	r0, #32
 	bne	.Lgcm_v6m_small_BB77_4
 .Lgcm_v6m_small_BB77_2:
-	b	.Lgcm_v6m_small_return_10371
+	b	.Lgcm_v6m_small_return_10367
 .Lgcm_v6m_small_BB77_3:
 	movs	r1, #0
 	cmp	r0, #32
 	beq	.Lgcm_v6m_small_BB77_2
 .Lgcm_v6m_small_BB77_4:
 	mov	r0, r1
-	b	.Lgcm_v6m_small_return_10371
-.Lgcm_v6m_small_return_10371:
+	b	.Lgcm_v6m_small_return_10367
+.Lgcm_v6m_small_return_10367:
 	movs	r1, #0
 	movs	r2, #0
 	movs	r3, #0
@@ -10425,8 +10421,8 @@ gcm_v6m_small.fotsgure_gcm_wipe:                      @ @gcm_v6m_small.fotsgure_
 	movs	r2, #1
 	mov	r3, r4
 	bl	gcm_v6m_small.aes_cipher.zeroize.elements.zeroize_elements.2
-	b	.Lgcm_v6m_small_return_10416
-.Lgcm_v6m_small_return_10416:
+	b	.Lgcm_v6m_small_return_10412
+.Lgcm_v6m_small_return_10412:
 	movs	r1, #0
 	movs	r2, #0
 	movs	r3, #0
@@ -10483,8 +10479,8 @@ gcm_v6m_small.fotsgure_gcm_seal:                      @ @gcm_v6m_small.fotsgure_
 .Lgcm_v6m_small_BB79_6:
 	bl	gcm_v6m_small.gcm_c.whole.fotsgure_gcm_seal
 	add	sp, #40
-	b	.Lgcm_v6m_small_return_10474
-.Lgcm_v6m_small_return_10474:
+	b	.Lgcm_v6m_small_return_10470
+.Lgcm_v6m_small_return_10470:
 	movs	r1, #0
 	movs	r2, #0
 	movs	r3, #0
@@ -10673,12 +10669,12 @@ gcm_v6m_small.fotsgure_gcm_seal_to:                   @ @gcm_v6m_small.fotsgure_
 .Lgcm_v6m_small_BB80_25:                              @ %wide_fotsgure_gcm_seal_to.exit
 	mov	r0, r7
 	add	sp, #84
-	b	.Lgcm_v6m_small_return_10664
+	b	.Lgcm_v6m_small_return_10660
 	.p2align	2
 @ %bb.26:
 .Lgcm_v6m_small_CPI80_0:
 	.long	65793                           @ 0x10101
-.Lgcm_v6m_small_return_10664:
+.Lgcm_v6m_small_return_10660:
 	movs	r1, #0
 	movs	r2, #0
 	movs	r3, #0
@@ -10776,7 +10772,7 @@ gcm_v6m_small.fotsgure_gcm_seal_next:                 @ @gcm_v6m_small.fotsgure_
 	beq	.Lgcm_v6m_small_BB81_8
 @ %bb.7:                                @ %wide_fotsgure_gcm_seal_next.exit
 	add	sp, #44
-	b	.Lgcm_v6m_small_return_10767
+	b	.Lgcm_v6m_small_return_10763
 .Lgcm_v6m_small_BB81_8:                               @ %then.4.i.i
 	mvns	r3, r6
 	ldrb	r0, [r5, #8]
@@ -10828,7 +10824,7 @@ gcm_v6m_small.fotsgure_gcm_seal_next:                 @ @gcm_v6m_small.fotsgure_
 .Lgcm_v6m_small_BB81_10:
 	movs	r0, #7
 	add	sp, #44
-	b	.Lgcm_v6m_small_return_10767
+	b	.Lgcm_v6m_small_return_10763
 .Lgcm_v6m_small_BB81_11:                              @ %"gcm::counter::after.exit.i.i.i"
 	adds	r3, r2, #1
 	beq	.Lgcm_v6m_small_BB81_14
@@ -10886,8 +10882,8 @@ gcm_v6m_small.fotsgure_gcm_seal_next:                 @ @gcm_v6m_small.fotsgure_
 	strb	r0, [r4, #9]
 	mov	r0, r6
 	add	sp, #44
-	b	.Lgcm_v6m_small_return_10767
-.Lgcm_v6m_small_return_10767:
+	b	.Lgcm_v6m_small_return_10763
+.Lgcm_v6m_small_return_10763:
 	movs	r1, #0
 	movs	r2, #0
 	movs	r3, #0
@@ -11083,12 +11079,12 @@ gcm_v6m_small.fotsgure_gcm_open:                      @ @gcm_v6m_small.fotsgure_
 .Lgcm_v6m_small_BB82_18:                              @ %wide_fotsgure_gcm_open.exit
 	mov	r0, r4
 	add	sp, #124
-	b	.Lgcm_v6m_small_return_11074
+	b	.Lgcm_v6m_small_return_11070
 	.p2align	2
 @ %bb.19:
 .Lgcm_v6m_small_CPI82_0:
 	.long	65793                           @ 0x10101
-.Lgcm_v6m_small_return_11074:
+.Lgcm_v6m_small_return_11070:
 	movs	r1, #0
 	movs	r2, #0
 	movs	r3, #0
@@ -11416,12 +11412,12 @@ gcm_v6m_small.fotsgure_gcm_open_to:                   @ @gcm_v6m_small.fotsgure_
 .Lgcm_v6m_small_BB83_37:                              @ %wide_fotsgure_gcm_open_to.exit
 	mov	r0, r7
 	add	sp, #140
-	b	.Lgcm_v6m_small_return_11407
+	b	.Lgcm_v6m_small_return_11403
 	.p2align	2
 @ %bb.38:
 .Lgcm_v6m_small_CPI83_0:
 	.long	65793                           @ 0x10101
-.Lgcm_v6m_small_return_11407:
+.Lgcm_v6m_small_return_11403:
 	movs	r1, #0
 	movs	r2, #0
 	movs	r3, #0
@@ -11511,19 +11507,19 @@ gcm_v6m_small.fotsgure_gcm_begin:                     @ @gcm_v6m_small.fotsgure_
 	cmp	r7, #12
 	beq	.Lgcm_v6m_small_BB84_8
 @ %bb.6:                                @ %then.1.i.i.i.i
-	bl	gcm_v6m_small.aes_cipher.zeroize.stack.wipe_stack.520
+	bl	gcm_v6m_small.aes_cipher.zeroize.stack.wipe_stack.512
 	b	.Lgcm_v6m_small_BB84_8
 .Lgcm_v6m_small_BB84_7:
 	movs	r4, #3
 .Lgcm_v6m_small_BB84_8:                               @ %wide_fotsgure_gcm_begin.exit
 	mov	r0, r4
 	add	sp, #36
-	b	.Lgcm_v6m_small_return_11509
+	b	.Lgcm_v6m_small_return_11505
 	.p2align	2
 @ %bb.9:
 .Lgcm_v6m_small_CPI84_0:
 	.long	65793                           @ 0x10101
-.Lgcm_v6m_small_return_11509:
+.Lgcm_v6m_small_return_11505:
 	movs	r1, #0
 	movs	r2, #0
 	movs	r3, #0
@@ -11715,7 +11711,7 @@ gcm_v6m_small.fotsgure_gcm_begin_next:                @ @gcm_v6m_small.fotsgure_
 .Lgcm_v6m_small_BB85_10:                              @ %wide_fotsgure_gcm_begin_next.exit
 	mov	r0, r5
 	add	sp, #68
-	b	.Lgcm_v6m_small_return_11706
+	b	.Lgcm_v6m_small_return_11702
 .Lgcm_v6m_small_BB85_11:
 	movs	r5, #7
 	b	.Lgcm_v6m_small_BB85_10
@@ -11723,7 +11719,7 @@ gcm_v6m_small.fotsgure_gcm_begin_next:                @ @gcm_v6m_small.fotsgure_
 @ %bb.12:
 .Lgcm_v6m_small_CPI85_0:
 	.long	65793                           @ 0x10101
-.Lgcm_v6m_small_return_11706:
+.Lgcm_v6m_small_return_11702:
 	movs	r1, #0
 	movs	r2, #0
 	movs	r3, #0
@@ -11832,7 +11828,7 @@ gcm_v6m_small.fotsgure_gcm_additional:                @ @gcm_v6m_small.fotsgure_
 	mov	r1, r4
 	mov	r4, r3
 	bl	gcm_v6m_small.gcm.hash_room.hash_piece
-	bl	gcm_v6m_small.aes_cipher.zeroize.stack.wipe_stack.520
+	bl	gcm_v6m_small.aes_cipher.zeroize.stack.wipe_stack.512
 	ldr	r0, [r6]
 	adds	r0, r0, r4
 	str	r0, [r6]
@@ -11843,12 +11839,12 @@ gcm_v6m_small.fotsgure_gcm_additional:                @ @gcm_v6m_small.fotsgure_
 .Lgcm_v6m_small_BB86_11:                              @ %wide_fotsgure_gcm_additional.exit
 	mov	r0, r3
 	add	sp, #60
-	b	.Lgcm_v6m_small_return_11834
+	b	.Lgcm_v6m_small_return_11830
 	.p2align	2
 @ %bb.12:
 .Lgcm_v6m_small_CPI86_0:
 	.long	65793                           @ 0x10101
-.Lgcm_v6m_small_return_11834:
+.Lgcm_v6m_small_return_11830:
 	movs	r1, #0
 	movs	r2, #0
 	movs	r3, #0
@@ -12072,12 +12068,12 @@ gcm_v6m_small.fotsgure_gcm_encrypt:                   @ @gcm_v6m_small.fotsgure_
 .Lgcm_v6m_small_BB87_22:                              @ %wide_fotsgure_gcm_encrypt.exit
 	mov	r0, r4
 	add	sp, #76
-	b	.Lgcm_v6m_small_return_12063
+	b	.Lgcm_v6m_small_return_12059
 	.p2align	2
 @ %bb.23:
 .Lgcm_v6m_small_CPI87_0:
 	.long	65793                           @ 0x10101
-.Lgcm_v6m_small_return_12063:
+.Lgcm_v6m_small_return_12059:
 	movs	r1, #0
 	movs	r2, #0
 	movs	r3, #0
@@ -12146,7 +12142,7 @@ gcm_v6m_small.fotsgure_gcm_finish:                    @ @gcm_v6m_small.fotsgure_
 	mov	r7, r1
 	mov	r2, r6
 	bl	gcm_v6m_small.gcm.mode.BorrowedGcm.put_tag_so_far
-	bl	gcm_v6m_small.aes_cipher.zeroize.stack.wipe_stack.520
+	bl	gcm_v6m_small.aes_cipher.zeroize.stack.wipe_stack.512
 	mov	r0, r7
 	bl	gcm_v6m_small.gcm.message.MessageZeroize.zeroize
 	movs	r2, #16
@@ -12159,12 +12155,12 @@ gcm_v6m_small.fotsgure_gcm_finish:                    @ @gcm_v6m_small.fotsgure_
 .Lgcm_v6m_small_BB88_5:                               @ %wide_fotsgure_gcm_finish.exit
 	mov	r0, r4
 	add	sp, #44
-	b	.Lgcm_v6m_small_return_12150
+	b	.Lgcm_v6m_small_return_12146
 	.p2align	2
 @ %bb.6:
 .Lgcm_v6m_small_CPI88_0:
 	.long	65793                           @ 0x10101
-.Lgcm_v6m_small_return_12150:
+.Lgcm_v6m_small_return_12146:
 	movs	r1, #0
 	movs	r2, #0
 	movs	r3, #0
@@ -12365,19 +12361,19 @@ gcm_v6m_small.fotsgure_gcm_verify:                    @ @gcm_v6m_small.fotsgure_
 	ldr	r0, [r4, #12]
 	adcs	r0, r5
 	str	r0, [r4, #12]
-	bl	gcm_v6m_small.aes_cipher.zeroize.stack.wipe_stack.520
+	bl	gcm_v6m_small.aes_cipher.zeroize.stack.wipe_stack.512
 	b	.Lgcm_v6m_small_BB89_22
 .Lgcm_v6m_small_BB89_21:
 	movs	r5, #5
 .Lgcm_v6m_small_BB89_22:                              @ %wide_fotsgure_gcm_verify.exit
 	mov	r0, r5
 	add	sp, #76
-	b	.Lgcm_v6m_small_return_12363
+	b	.Lgcm_v6m_small_return_12359
 	.p2align	2
 @ %bb.23:
 .Lgcm_v6m_small_CPI89_0:
 	.long	65793                           @ 0x10101
-.Lgcm_v6m_small_return_12363:
+.Lgcm_v6m_small_return_12359:
 	movs	r1, #0
 	movs	r2, #0
 	movs	r3, #0
@@ -12516,7 +12512,7 @@ gcm_v6m_small.fotsgure_gcm_accept:                    @ @gcm_v6m_small.fotsgure_
 	mov	r5, r0
 	mov	r0, r4
 	bl	gcm_v6m_small.aes_cipher.zeroize.elements.zeroize_elements.3
-	bl	gcm_v6m_small.aes_cipher.zeroize.stack.wipe_stack.520
+	bl	gcm_v6m_small.aes_cipher.zeroize.stack.wipe_stack.512
 	cmp	r5, #0
 	beq	.Lgcm_v6m_small_BB90_15
 @ %bb.11:
@@ -12527,7 +12523,7 @@ gcm_v6m_small.fotsgure_gcm_accept:                    @ @gcm_v6m_small.fotsgure_
 .Lgcm_v6m_small_BB90_13:                              @ %wide_fotsgure_gcm_accept.exit
 	mov	r0, r3
 	add	sp, #60
-	b	.Lgcm_v6m_small_return_12518
+	b	.Lgcm_v6m_small_return_12514
 .Lgcm_v6m_small_BB90_14:
 	movs	r3, #8
 	b	.Lgcm_v6m_small_BB90_13
@@ -12543,7 +12539,7 @@ gcm_v6m_small.fotsgure_gcm_accept:                    @ @gcm_v6m_small.fotsgure_
 @ %bb.16:
 .Lgcm_v6m_small_CPI90_0:
 	.long	65793                           @ 0x10101
-.Lgcm_v6m_small_return_12518:
+.Lgcm_v6m_small_return_12514:
 	movs	r1, #0
 	movs	r2, #0
 	movs	r3, #0
@@ -12673,17 +12669,17 @@ gcm_v6m_small.fotsgure_gcm_accept_short:              @ @gcm_v6m_small.fotsgure_
 	bl	gcm_v6m_small.aes_cipher.zeroize.elements.zeroize_elements.3
 	mov	r0, r5
 	bl	gcm_v6m_small.aes_cipher.zeroize.elements.zeroize_elements.3
-	bl	gcm_v6m_small.aes_cipher.zeroize.stack.wipe_stack.520
+	bl	gcm_v6m_small.aes_cipher.zeroize.stack.wipe_stack.512
 	cmp	r6, #0
 	beq	.Lgcm_v6m_small_BB91_14
 @ %bb.12:
 	movs	r0, #6
 	add	sp, #68
-	b	.Lgcm_v6m_small_return_12670
+	b	.Lgcm_v6m_small_return_12666
 .Lgcm_v6m_small_BB91_13:
 	movs	r0, #8
 	add	sp, #68
-	b	.Lgcm_v6m_small_return_12670
+	b	.Lgcm_v6m_small_return_12666
 .Lgcm_v6m_small_BB91_14:                              @ %arm.7.i.i
 	movs	r0, #0
 	movs	r1, #4
@@ -12694,12 +12690,12 @@ gcm_v6m_small.fotsgure_gcm_accept_short:              @ @gcm_v6m_small.fotsgure_
 	str	r0, [r2, #28]
 .Lgcm_v6m_small_BB91_15:                              @ %wide_fotsgure_gcm_accept_short.exit
 	add	sp, #68
-	b	.Lgcm_v6m_small_return_12670
+	b	.Lgcm_v6m_small_return_12666
 	.p2align	2
 @ %bb.16:
 .Lgcm_v6m_small_CPI91_0:
 	.long	65793                           @ 0x10101
-.Lgcm_v6m_small_return_12670:
+.Lgcm_v6m_small_return_12666:
 	movs	r1, #0
 	movs	r2, #0
 	movs	r3, #0
@@ -12844,12 +12840,12 @@ gcm_v6m_small.fotsgure_gcm_decrypt:                   @ @gcm_v6m_small.fotsgure_
 .Lgcm_v6m_small_BB92_17:                              @ %wide_fotsgure_gcm_decrypt.exit
 	mov	r0, r4
 	add	sp, #60
-	b	.Lgcm_v6m_small_return_12835
+	b	.Lgcm_v6m_small_return_12831
 	.p2align	2
 @ %bb.18:
 .Lgcm_v6m_small_CPI92_0:
 	.long	65793                           @ 0x10101
-.Lgcm_v6m_small_return_12835:
+.Lgcm_v6m_small_return_12831:
 	movs	r1, #0
 	movs	r2, #0
 	movs	r3, #0
@@ -13079,12 +13075,12 @@ gcm_v6m_small.fotsgure_gcm_decrypt_unverified:        @ @gcm_v6m_small.fotsgure_
 .Lgcm_v6m_small_BB93_23:                              @ %wide_fotsgure_gcm_decrypt_unverified.exit
 	mov	r0, r4
 	add	sp, #76
-	b	.Lgcm_v6m_small_return_13070
+	b	.Lgcm_v6m_small_return_13066
 	.p2align	2
 @ %bb.24:
 .Lgcm_v6m_small_CPI93_0:
 	.long	65793                           @ 0x10101
-.Lgcm_v6m_small_return_13070:
+.Lgcm_v6m_small_return_13066:
 	movs	r1, #0
 	movs	r2, #0
 	movs	r3, #0
@@ -13113,8 +13109,8 @@ gcm_v6m_small.fotsgure_gcm_wipe_message:              @ @gcm_v6m_small.fotsgure_
 	bl	memset
 	mov	r0, r4
 	bl	gcm_v6m_small.gcm.message.MessageZeroize.zeroize
-	b	.Lgcm_v6m_small_return_13104
-.Lgcm_v6m_small_return_13104:
+	b	.Lgcm_v6m_small_return_13100
+.Lgcm_v6m_small_return_13100:
 	movs	r1, #0
 	movs	r2, #0
 	movs	r3, #0
@@ -13180,8 +13176,8 @@ gcm_v6m_small.fotsgure_gcm_siv_set_key:               @ @gcm_v6m_small.fotsgure_
 .Lgcm_v6m_small_BB95_6:                               @ %wide_fotsgure_gcm_siv_set_key.exit
 	mov	r0, r6
 	add	sp, #4
-	b	.Lgcm_v6m_small_return_13171
-.Lgcm_v6m_small_return_13171:
+	b	.Lgcm_v6m_small_return_13167
+.Lgcm_v6m_small_return_13167:
 	movs	r1, #0
 	movs	r2, #0
 	movs	r3, #0
@@ -13251,8 +13247,8 @@ gcm_v6m_small.fotsgure_gcm_siv_seal:                  @ @gcm_v6m_small.fotsgure_
 .Lgcm_v6m_small_BB96_8:                               @ %wide_fotsgure_gcm_siv_seal.exit
 	mov	r0, r4
 	add	sp, #44
-	b	.Lgcm_v6m_small_return_13242
-.Lgcm_v6m_small_return_13242:
+	b	.Lgcm_v6m_small_return_13238
+.Lgcm_v6m_small_return_13238:
 	movs	r1, #0
 	movs	r2, #0
 	movs	r3, #0
@@ -13431,8 +13427,8 @@ gcm_v6m_small.fotsgure_gcm_siv_seal_to:               @ @gcm_v6m_small.fotsgure_
 .Lgcm_v6m_small_BB97_24:                              @ %wide_fotsgure_gcm_siv_seal_to.exit
 	mov	r0, r6
 	add	sp, #84
-	b	.Lgcm_v6m_small_return_13422
-.Lgcm_v6m_small_return_13422:
+	b	.Lgcm_v6m_small_return_13418
+.Lgcm_v6m_small_return_13418:
 	movs	r1, #0
 	movs	r2, #0
 	movs	r3, #0
@@ -13497,8 +13493,8 @@ gcm_v6m_small.fotsgure_gcm_siv_open:                  @ @gcm_v6m_small.fotsgure_
 .Lgcm_v6m_small_BB98_9:                               @ %wide_fotsgure_gcm_siv_open.exit
 	mov	r0, r4
 	add	sp, #28
-	b	.Lgcm_v6m_small_return_13488
-.Lgcm_v6m_small_return_13488:
+	b	.Lgcm_v6m_small_return_13484
+.Lgcm_v6m_small_return_13484:
 	movs	r1, #0
 	movs	r2, #0
 	movs	r3, #0
@@ -13582,7 +13578,7 @@ gcm_v6m_small.fotsgure_gcm_siv_open_to:               @ @gcm_v6m_small.fotsgure_
 .Lgcm_v6m_small_BB99_12:
 	movs	r0, #10
 	add	sp, #68
-	b	.Lgcm_v6m_small_return_13573
+	b	.Lgcm_v6m_small_return_13569
 .Lgcm_v6m_small_BB99_13:                              @ %apart.2.i.i.i.i.i.i.i.i
 	mov	r0, r4
 	mov	r1, r6
@@ -13592,7 +13588,7 @@ gcm_v6m_small.fotsgure_gcm_siv_open_to:               @ @gcm_v6m_small.fotsgure_
 .Lgcm_v6m_small_BB99_14:
 	movs	r0, #2
 	add	sp, #68
-	b	.Lgcm_v6m_small_return_13573
+	b	.Lgcm_v6m_small_return_13569
 .Lgcm_v6m_small_BB99_15:                              @ %join.7.i.i.i.i.i.i.i.i.preheader.new
 	add	r0, sp, #32
 	stm	r0!, {r2, r5, r7}               @ 12-byte Folded Spill
@@ -13676,14 +13672,14 @@ gcm_v6m_small.fotsgure_gcm_siv_open_to:               @ @gcm_v6m_small.fotsgure_
 @ %bb.24:
 	mov	r0, r7
 	add	sp, #68
-	b	.Lgcm_v6m_small_return_13573
+	b	.Lgcm_v6m_small_return_13569
 .Lgcm_v6m_small_BB99_25:
 	movs	r0, #6
 	cmp	r5, #0
 	bne	.Lgcm_v6m_small_BB99_28
 .Lgcm_v6m_small_BB99_26:                              @ %wide_fotsgure_gcm_siv_open_to.exit
 	add	sp, #68
-	b	.Lgcm_v6m_small_return_13573
+	b	.Lgcm_v6m_small_return_13569
 .Lgcm_v6m_small_BB99_27:
 	movs	r0, #2
 	cmp	r5, #0
@@ -13704,8 +13700,8 @@ gcm_v6m_small.fotsgure_gcm_siv_open_to:               @ @gcm_v6m_small.fotsgure_
 .Lgcm_v6m_small_BB99_30:                              @ %after.4.i.i.i
 	strb	r7, [r4, r5]
 	add	sp, #68
-	b	.Lgcm_v6m_small_return_13573
-.Lgcm_v6m_small_return_13573:
+	b	.Lgcm_v6m_small_return_13569
+.Lgcm_v6m_small_return_13569:
 	movs	r1, #0
 	movs	r2, #0
 	movs	r3, #0
@@ -13736,8 +13732,8 @@ gcm_v6m_small.fotsgure_gcm_siv_wipe:                  @ @gcm_v6m_small.fotsgure_
 	bl	memset
 	adds	r0, r4, #4
 	bl	gcm_v6m_small.aes_cipher.zeroize.elements.zeroize_elements.1
-	b	.Lgcm_v6m_small_return_13727
-.Lgcm_v6m_small_return_13727:
+	b	.Lgcm_v6m_small_return_13723
+.Lgcm_v6m_small_return_13723:
 	movs	r1, #0
 	movs	r2, #0
 	movs	r3, #0

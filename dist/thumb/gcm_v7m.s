@@ -2897,22 +2897,22 @@ gcm_v7m.gcm.holes.product_of_words:         @ @gcm_v7m.gcm.holes.product_of_word
 	.cantunwind
 	.fnend
                                         @ -- End function
-	.section	.text.gcm_v7m.aes_cipher.zeroize.stack.wipe_stack.520,"ax",%progbits
-	.p2align	2                               @ -- Begin function aes_cipher::zeroize::stack::wipe_stack::<=520>
-	.type	gcm_v7m.aes_cipher.zeroize.stack.wipe_stack.520,%function
+	.section	.text.gcm_v7m.aes_cipher.zeroize.stack.wipe_stack.512,"ax",%progbits
+	.p2align	2                               @ -- Begin function aes_cipher::zeroize::stack::wipe_stack::<=512>
+	.type	gcm_v7m.aes_cipher.zeroize.stack.wipe_stack.512,%function
 	.code	16
 	.thumb_func
-gcm_v7m.aes_cipher.zeroize.stack.wipe_stack.520: @ @gcm_v7m.aes_cipher.zeroize.stack.wipe_stack.520
+gcm_v7m.aes_cipher.zeroize.stack.wipe_stack.512: @ @gcm_v7m.aes_cipher.zeroize.stack.wipe_stack.512
 	.fnstart
 @ %bb.0:                                @ %start
 	.save	{r4, r5, r7, lr}
 	push	{r4, r5, r7, lr}
-	.pad	#528
-	sub.w	sp, sp, #528
+	.pad	#520
+	sub.w	sp, sp, #520
 	add	r4, sp, #8
 	mov	r0, r4
 	movs	r1, #0
-	mov.w	r2, #520
+	mov.w	r2, #512
 	movs	r5, #0
 	bl	memset
 	strd	r5, r5, [sp]
@@ -2922,10 +2922,10 @@ gcm_v7m.aes_cipher.zeroize.stack.wipe_stack.520: @ @gcm_v7m.aes_cipher.zeroize.s
 	ldrd	r1, r2, [r0]
 	@APP
 	@NO_APP
-	subs.w	r3, r1, #520
+	subs.w	r3, r1, #512
 	sbcs	r2, r2, #0
 	itt	hs
-	addhs.w	sp, sp, #528
+	addhs.w	sp, sp, #520
 	pophs	{r4, r5, r7, pc}
 .Lgcm_v7m_BB10_1:                               @ %then.1
 	ldrb	r1, [r4, r1]
@@ -2935,10 +2935,10 @@ gcm_v7m.aes_cipher.zeroize.stack.wipe_stack.520: @ @gcm_v7m.aes_cipher.zeroize.s
 	strd	r1, r5, [r0]
 	@APP
 	@NO_APP
-	add.w	sp, sp, #528
+	add.w	sp, sp, #520
 	pop	{r4, r5, r7, pc}
 .Lgcm_v7m_func_end10:
-	.size	gcm_v7m.aes_cipher.zeroize.stack.wipe_stack.520, .Lgcm_v7m_func_end10-gcm_v7m.aes_cipher.zeroize.stack.wipe_stack.520
+	.size	gcm_v7m.aes_cipher.zeroize.stack.wipe_stack.512, .Lgcm_v7m_func_end10-gcm_v7m.aes_cipher.zeroize.stack.wipe_stack.512
 	.cantunwind
 	.fnend
                                         @ -- End function
@@ -9661,7 +9661,7 @@ gcm_v7m.fotsgure_gcm_set_key:                   @ @gcm_v7m.fotsgure_gcm_set_key
 	str	r4, [r7]
 	str	r1, [sp]
 	bl	gcm_v7m.gcm.mode.put_subkey
-	bl	gcm_v7m.aes_cipher.zeroize.stack.wipe_stack.520
+	bl	gcm_v7m.aes_cipher.zeroize.stack.wipe_stack.512
 	mov	r0, r5
 	add	sp, #8
 	b	.Lgcm_v7m_return_9621
@@ -9731,7 +9731,7 @@ gcm_v7m.fotsgure_gcm_set_key_of:                @ @gcm_v7m.fotsgure_gcm_set_key_
 	mov	r0, r4
 	str	r1, [sp]
 	bl	gcm_v7m.gcm.mode.put_subkey
-	bl	gcm_v7m.aes_cipher.zeroize.stack.wipe_stack.520
+	bl	gcm_v7m.aes_cipher.zeroize.stack.wipe_stack.512
 	movs	r0, #0
 	add	sp, #8
 	b	.Lgcm_v7m_return_9704
@@ -10538,7 +10538,7 @@ gcm_v7m.fotsgure_gcm_begin:                     @ @gcm_v7m.fotsgure_gcm_begin
 	str	r7, [r4, #76]
 	beq	.Lgcm_v7m_BB53_5
 @ %bb.4:                                @ %then.1.i.i.i.i
-	bl	gcm_v7m.aes_cipher.zeroize.stack.wipe_stack.520
+	bl	gcm_v7m.aes_cipher.zeroize.stack.wipe_stack.512
 	movs	r0, #0
 .Lgcm_v7m_BB53_5:
 	add	sp, #32
@@ -10766,7 +10766,7 @@ gcm_v7m.fotsgure_gcm_additional:                @ @gcm_v7m.fotsgure_gcm_addition
 	str	r5, [sp, #8]
 	mov	r5, r3
 	bl	gcm_v7m.gcm.hash_room.hash_piece
-	bl	gcm_v7m.aes_cipher.zeroize.stack.wipe_stack.520
+	bl	gcm_v7m.aes_cipher.zeroize.stack.wipe_stack.512
 	ldrd	r1, r2, [r4]
 	mov	r0, r6
 	adds	r1, r1, r5
@@ -11015,7 +11015,7 @@ gcm_v7m.fotsgure_gcm_finish:                    @ @gcm_v7m.fotsgure_gcm_finish
 	mov	r2, sp
 	mov	r5, r1
 	bl	gcm_v7m.gcm.mode.BorrowedGcm.put_tag_so_far
-	bl	gcm_v7m.aes_cipher.zeroize.stack.wipe_stack.520
+	bl	gcm_v7m.aes_cipher.zeroize.stack.wipe_stack.512
 	mov	r0, r5
 	bl	gcm_v7m.gcm.message.MessageZeroize.zeroize
 	ldr	r2, [sp, #12]
@@ -11187,7 +11187,7 @@ gcm_v7m.fotsgure_gcm_verify:                    @ @gcm_v7m.fotsgure_gcm_verify
 	adds.w	r0, r0, r8
 	adc	r1, r1, #0
 	strd	r0, r1, [r4, #8]
-	bl	gcm_v7m.aes_cipher.zeroize.stack.wipe_stack.520
+	bl	gcm_v7m.aes_cipher.zeroize.stack.wipe_stack.512
 	mov	r0, r5
 	add	sp, #52
 	b	.Lgcm_v7m_return_11160
@@ -11286,7 +11286,7 @@ gcm_v7m.fotsgure_gcm_accept:                    @ @gcm_v7m.fotsgure_gcm_accept
 	mov	r5, r0
 	mov	r0, r4
 	bl	gcm_v7m.aes_cipher.zeroize.elements.zeroize_elements.2
-	bl	gcm_v7m.aes_cipher.zeroize.stack.wipe_stack.520
+	bl	gcm_v7m.aes_cipher.zeroize.stack.wipe_stack.512
 	cbz	r5, .Lgcm_v7m_BB59_8
 @ %bb.5:
 	movs	r0, #6
@@ -11415,7 +11415,7 @@ gcm_v7m.fotsgure_gcm_accept_short:              @ @gcm_v7m.fotsgure_gcm_accept_s
 	bl	gcm_v7m.aes_cipher.zeroize.elements.zeroize_elements.2
 	mov	r0, r7
 	bl	gcm_v7m.aes_cipher.zeroize.elements.zeroize_elements.2
-	bl	gcm_v7m.aes_cipher.zeroize.stack.wipe_stack.520
+	bl	gcm_v7m.aes_cipher.zeroize.stack.wipe_stack.512
 	cbz	r5, .Lgcm_v7m_BB60_8
 @ %bb.6:
 	movs	r0, #6

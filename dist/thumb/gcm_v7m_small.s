@@ -2055,22 +2055,22 @@ gcm_v7m_small.gcm.holes.product_of_words:         @ @gcm_v7m_small.gcm.holes.pro
 	.cantunwind
 	.fnend
                                         @ -- End function
-	.section	.text.gcm_v7m_small.aes_cipher.zeroize.stack.wipe_stack.520,"ax",%progbits
-	.p2align	2                               @ -- Begin function aes_cipher::zeroize::stack::wipe_stack::<=520>
-	.type	gcm_v7m_small.aes_cipher.zeroize.stack.wipe_stack.520,%function
+	.section	.text.gcm_v7m_small.aes_cipher.zeroize.stack.wipe_stack.512,"ax",%progbits
+	.p2align	2                               @ -- Begin function aes_cipher::zeroize::stack::wipe_stack::<=512>
+	.type	gcm_v7m_small.aes_cipher.zeroize.stack.wipe_stack.512,%function
 	.code	16
 	.thumb_func
-gcm_v7m_small.aes_cipher.zeroize.stack.wipe_stack.520: @ @gcm_v7m_small.aes_cipher.zeroize.stack.wipe_stack.520
+gcm_v7m_small.aes_cipher.zeroize.stack.wipe_stack.512: @ @gcm_v7m_small.aes_cipher.zeroize.stack.wipe_stack.512
 	.fnstart
 @ %bb.0:                                @ %start
 	.save	{r4, r5, r7, lr}
 	push	{r4, r5, r7, lr}
-	.pad	#528
-	sub.w	sp, sp, #528
+	.pad	#520
+	sub.w	sp, sp, #520
 	add	r4, sp, #8
 	mov	r0, r4
 	movs	r1, #0
-	mov.w	r2, #520
+	mov.w	r2, #512
 	movs	r5, #0
 	bl	memset
 	strd	r5, r5, [sp]
@@ -2080,10 +2080,10 @@ gcm_v7m_small.aes_cipher.zeroize.stack.wipe_stack.520: @ @gcm_v7m_small.aes_ciph
 	ldrd	r1, r2, [r0]
 	@APP
 	@NO_APP
-	subs.w	r3, r1, #520
+	subs.w	r3, r1, #512
 	sbcs	r2, r2, #0
 	itt	hs
-	addhs.w	sp, sp, #528
+	addhs.w	sp, sp, #520
 	pophs	{r4, r5, r7, pc}
 .Lgcm_v7m_small_BB29_1:                               @ %then.1
 	ldrb	r1, [r4, r1]
@@ -2093,10 +2093,10 @@ gcm_v7m_small.aes_cipher.zeroize.stack.wipe_stack.520: @ @gcm_v7m_small.aes_ciph
 	strd	r1, r5, [r0]
 	@APP
 	@NO_APP
-	add.w	sp, sp, #528
+	add.w	sp, sp, #520
 	pop	{r4, r5, r7, pc}
 .Lgcm_v7m_small_func_end29:
-	.size	gcm_v7m_small.aes_cipher.zeroize.stack.wipe_stack.520, .Lgcm_v7m_small_func_end29-gcm_v7m_small.aes_cipher.zeroize.stack.wipe_stack.520
+	.size	gcm_v7m_small.aes_cipher.zeroize.stack.wipe_stack.512, .Lgcm_v7m_small_func_end29-gcm_v7m_small.aes_cipher.zeroize.stack.wipe_stack.512
 	.cantunwind
 	.fnend
                                         @ -- End function
@@ -6462,7 +6462,7 @@ gcm_v7m_small.fotsgure_gcm_set_key:                   @ @gcm_v7m_small.fotsgure_
 	strd	r8, r5, [sp]
 	strd	r9, r10, [sp, #8]
 	bl	gcm_v7m_small.gcm.mode.put_subkey
-	bl	gcm_v7m_small.aes_cipher.zeroize.stack.wipe_stack.520
+	bl	gcm_v7m_small.aes_cipher.zeroize.stack.wipe_stack.512
 .Lgcm_v7m_small_BB75_4:                               @ %wide_fotsgure_gcm_set_key.exit
 	mov	r0, r5
 	add	sp, #16
@@ -6534,7 +6534,7 @@ gcm_v7m_small.fotsgure_gcm_set_key_of:                @ @gcm_v7m_small.fotsgure_
 	add.w	r1, r6, #484
 	mov	r0, sp
 	bl	gcm_v7m_small.gcm.mode.put_subkey
-	bl	gcm_v7m_small.aes_cipher.zeroize.stack.wipe_stack.520
+	bl	gcm_v7m_small.aes_cipher.zeroize.stack.wipe_stack.512
 .Lgcm_v7m_small_BB76_4:                               @ %wide_fotsgure_gcm_set_key_of.exit
 	mov	r0, r4
 	add	sp, #16
@@ -7314,7 +7314,7 @@ gcm_v7m_small.fotsgure_gcm_begin:                     @ @gcm_v7m_small.fotsgure_
 	str	r7, [r4, #76]
 	beq	.Lgcm_v7m_small_BB84_5
 @ %bb.4:                                @ %then.1.i.i.i.i
-	bl	gcm_v7m_small.aes_cipher.zeroize.stack.wipe_stack.520
+	bl	gcm_v7m_small.aes_cipher.zeroize.stack.wipe_stack.512
 	movs	r0, #0
 .Lgcm_v7m_small_BB84_5:
 	add	sp, #32
@@ -7541,7 +7541,7 @@ gcm_v7m_small.fotsgure_gcm_additional:                @ @gcm_v7m_small.fotsgure_
 	str	r5, [sp, #8]
 	mov	r5, r3
 	bl	gcm_v7m_small.gcm.hash_room.hash_piece
-	bl	gcm_v7m_small.aes_cipher.zeroize.stack.wipe_stack.520
+	bl	gcm_v7m_small.aes_cipher.zeroize.stack.wipe_stack.512
 	ldrd	r1, r2, [r4]
 	mov	r0, r6
 	adds	r1, r1, r5
@@ -7788,7 +7788,7 @@ gcm_v7m_small.fotsgure_gcm_finish:                    @ @gcm_v7m_small.fotsgure_
 	mov	r2, sp
 	mov	r5, r1
 	bl	gcm_v7m_small.gcm.mode.BorrowedGcm.put_tag_so_far
-	bl	gcm_v7m_small.aes_cipher.zeroize.stack.wipe_stack.520
+	bl	gcm_v7m_small.aes_cipher.zeroize.stack.wipe_stack.512
 	mov	r0, r5
 	bl	gcm_v7m_small.gcm.message.MessageZeroize.zeroize
 	ldr	r2, [sp, #12]
@@ -7956,7 +7956,7 @@ gcm_v7m_small.fotsgure_gcm_verify:                    @ @gcm_v7m_small.fotsgure_
 	adds.w	r0, r0, r8
 	adc	r1, r1, #0
 	strd	r0, r1, [r4, #8]
-	bl	gcm_v7m_small.aes_cipher.zeroize.stack.wipe_stack.520
+	bl	gcm_v7m_small.aes_cipher.zeroize.stack.wipe_stack.512
 	mov	r0, r5
 	add	sp, #48
 	b	.Lgcm_v7m_small_return_7930
@@ -8054,7 +8054,7 @@ gcm_v7m_small.fotsgure_gcm_accept:                    @ @gcm_v7m_small.fotsgure_
 	mov	r5, r0
 	mov	r0, r4
 	bl	gcm_v7m_small.aes_cipher.zeroize.elements.zeroize_elements.2
-	bl	gcm_v7m_small.aes_cipher.zeroize.stack.wipe_stack.520
+	bl	gcm_v7m_small.aes_cipher.zeroize.stack.wipe_stack.512
 	cbz	r5, .Lgcm_v7m_small_BB90_8
 @ %bb.5:
 	movs	r0, #6
@@ -8180,7 +8180,7 @@ gcm_v7m_small.fotsgure_gcm_accept_short:              @ @gcm_v7m_small.fotsgure_
 	bl	gcm_v7m_small.aes_cipher.zeroize.elements.zeroize_elements.2
 	mov	r0, r7
 	bl	gcm_v7m_small.aes_cipher.zeroize.elements.zeroize_elements.2
-	bl	gcm_v7m_small.aes_cipher.zeroize.stack.wipe_stack.520
+	bl	gcm_v7m_small.aes_cipher.zeroize.stack.wipe_stack.512
 	cbz	r5, .Lgcm_v7m_small_BB91_8
 @ %bb.6:
 	mov.w	r12, #6

@@ -15,7 +15,7 @@
 	.functype	gcm__multiples__Multiples__two_products (i32, i32, i32, i32) -> ()
 	.functype	gcm__mode__hash_lengths____175b825dac74f40b_ (i32, i32, i64, i64, i64, i64) -> ()
 	.functype	gcm__mode__lengths_of (i32, i64, i64) -> ()
-	.functype	aes_cipher__zeroize__stack__wipe_stack____520_ () -> ()
+	.functype	aes_cipher__zeroize__stack__wipe_stack____512_ () -> ()
 	.functype	gcm__mode__BorrowedGcm__put_tag_so_far____221fbc00d1292367_ (i32, i32, i32) -> ()
 	.functype	gcm__mode__put_mask____01491cd9c725528d_ (i32, i32, i32) -> ()
 	.functype	gcm__mode__BorrowedGcm__hash_rest____221fbc00d1292367_ (i32, i32, i32) -> ()
@@ -1386,7 +1386,7 @@ gcm__mode__BorrowedGcm__start____221fbc00d1292367_: # @gcm__mode__BorrowedGcm__s
 	i64.eq  
 	br_if   	0                               # 0: down to label19
 # %bb.1:                                # %then.1.i
-	call	aes_cipher__zeroize__stack__wipe_stack____520_
+	call	aes_cipher__zeroize__stack__wipe_stack____512_
 .LBB6_2:                                # %gcm__pieces__wipe_hash_of.exit
 	end_block                               # label19:
                                         # fallthrough-return
@@ -3260,10 +3260,10 @@ gcm__mode__lengths_of:                  # @gcm__mode__lengths_of
                                         # fallthrough-return
 	end_function
                                         # -- End function
-	.section	.text.aes_cipher__zeroize__stack__wipe_stack____520_,"",@
-	.type	aes_cipher__zeroize__stack__wipe_stack____520_,@function # -- Begin function aes_cipher__zeroize__stack__wipe_stack____520_
-aes_cipher__zeroize__stack__wipe_stack____520_: # @aes_cipher__zeroize__stack__wipe_stack____520_
-	.functype	aes_cipher__zeroize__stack__wipe_stack____520_ () -> ()
+	.section	.text.aes_cipher__zeroize__stack__wipe_stack____512_,"",@
+	.type	aes_cipher__zeroize__stack__wipe_stack____512_,@function # -- Begin function aes_cipher__zeroize__stack__wipe_stack____512_
+aes_cipher__zeroize__stack__wipe_stack____512_: # @aes_cipher__zeroize__stack__wipe_stack____512_
+	.functype	aes_cipher__zeroize__stack__wipe_stack____512_ () -> ()
 	.local  	i32, i64
 # %bb.0:                                # %start
 	global.get	__stack_pointer
@@ -3272,29 +3272,29 @@ aes_cipher__zeroize__stack__wipe_stack____520_: # @aes_cipher__zeroize__stack__w
 	local.tee	0
 	global.set	__stack_pointer
 	local.get	0
-	i32.const	8
+	i32.const	16
 	i32.add 
 	i32.const	0
-	i32.const	520
+	i32.const	512
 	memory.fill	0
 	local.get	0
 	i64.const	0
-	i64.store	0
+	i64.store	8
 	#APP
 	#NO_APP
 	local.get	0
-	i64.load	0
+	i64.load	8
 	local.set	1
 	#APP
 	#NO_APP
 	block   	
 	local.get	1
-	i64.const	520
+	i64.const	512
 	i64.ge_u
 	br_if   	0                               # 0: down to label43
 # %bb.1:                                # %then.1
 	local.get	0
-	i32.const	8
+	i32.const	16
 	i32.add 
 	local.get	1
 	i32.wrap_i64
@@ -3304,11 +3304,11 @@ aes_cipher__zeroize__stack__wipe_stack____520_: # @aes_cipher__zeroize__stack__w
 	#APP
 	#NO_APP
 	local.get	0
-	i64.load	0
+	i64.load	8
 	drop
 	local.get	0
 	local.get	1
-	i64.store	0
+	i64.store	8
 	#APP
 	#NO_APP
 .LBB14_2:                               # %common.ret
@@ -3779,7 +3779,7 @@ gcm_c__kept__prepare_multiples:         # @gcm_c__kept__prepare_multiples
 	i32.const	244
 	i32.add 
 	call	gcm__mode__put_subkey____221fbc00d1292367_
-	call	aes_cipher__zeroize__stack__wipe_stack____520_
+	call	aes_cipher__zeroize__stack__wipe_stack____512_
 	local.get	1
 	i32.const	32
 	i32.add 
@@ -21706,7 +21706,7 @@ fotsgure_gcm_additional:                # @fotsgure_gcm_additional
 	i32.add 
 	local.get	8
 	call	gcm__hash_room__hash_piece____175b825dac74f40b_
-	call	aes_cipher__zeroize__stack__wipe_stack____520_
+	call	aes_cipher__zeroize__stack__wipe_stack____512_
 	local.get	1
 	local.get	1
 	i64.load	0
@@ -21975,7 +21975,7 @@ fotsgure_gcm_finish:                    # @fotsgure_gcm_finish
 	i32.const	8
 	i32.add 
 	call	gcm__mode__BorrowedGcm__put_tag_so_far____221fbc00d1292367_
-	call	aes_cipher__zeroize__stack__wipe_stack____520_
+	call	aes_cipher__zeroize__stack__wipe_stack____512_
 	local.get	1
 	call	gcm__message__MessageZeroize__zeroize
 	local.get	2
@@ -22109,7 +22109,7 @@ fotsgure_gcm_verify:                    # @fotsgure_gcm_verify
 	local.get	8
 	i64.add 
 	i64.store	0
-	call	aes_cipher__zeroize__stack__wipe_stack____520_
+	call	aes_cipher__zeroize__stack__wipe_stack____512_
 	br      	1                               # 1: down to label307
 .LBB90_4:                               # %arm.2.i.i.i
 	end_block                               # label308:
@@ -22261,7 +22261,7 @@ fotsgure_gcm_accept:                    # @fotsgure_gcm_accept
 	i32.const	64
 	i32.add 
 	call	aes_cipher__zeroize__elements__zeroize_elements____3b2097f0eef5a37b_
-	call	aes_cipher__zeroize__stack__wipe_stack____520_
+	call	aes_cipher__zeroize__stack__wipe_stack____512_
 	block   	
 	local.get	3
 	i32.eqz
@@ -22452,7 +22452,7 @@ fotsgure_gcm_accept_short:              # @fotsgure_gcm_accept_short
 	i32.const	48
 	i32.add 
 	call	aes_cipher__zeroize__elements__zeroize_elements____3b2097f0eef5a37b_
-	call	aes_cipher__zeroize__stack__wipe_stack____520_
+	call	aes_cipher__zeroize__stack__wipe_stack____512_
 	block   	
 	local.get	2
 	i32.eqz

@@ -18,7 +18,7 @@
 	.functype	gcm__bitwise__product_bitwise (i32, i64, i64, i64, i64) -> ()
 	.functype	gcm__mode__hash_lengths____4ffbd79422221ed4_ (i32, i32, i64, i64, i64, i64) -> ()
 	.functype	gcm__mode__lengths_of (i32, i64, i64) -> ()
-	.functype	aes_cipher__zeroize__stack__wipe_stack____520_ () -> ()
+	.functype	aes_cipher__zeroize__stack__wipe_stack____512_ () -> ()
 	.functype	gcm__mode__BorrowedGcm__put_tag_so_far____56ef08599dd20827_ (i32, i32, i32) -> ()
 	.functype	aes_narrow__blocks__process_in_batches____f6c900d3ac1e47b9_ (i32, i64, i32, i64) -> ()
 	.functype	aes_narrow__blocks__process_few____f6c900d3ac1e47b9_ (i32, i64, i32, i64) -> ()
@@ -5423,7 +5423,7 @@ gcm__mode__BorrowedGcm__start____56ef08599dd20827_: # @gcm__mode__BorrowedGcm__s
 	i64.eq  
 	br_if   	0                               # 0: down to label18
 # %bb.1:                                # %then.1.i
-	call	aes_cipher__zeroize__stack__wipe_stack____520_
+	call	aes_cipher__zeroize__stack__wipe_stack____512_
 .LBB8_2:                                # %gcm__pieces__wipe_hash_of.exit
 	end_block                               # label18:
                                         # fallthrough-return
@@ -6466,10 +6466,10 @@ gcm__mode__lengths_of:                  # @gcm__mode__lengths_of
                                         # fallthrough-return
 	end_function
                                         # -- End function
-	.section	.text.aes_cipher__zeroize__stack__wipe_stack____520_,"",@
-	.type	aes_cipher__zeroize__stack__wipe_stack____520_,@function # -- Begin function aes_cipher__zeroize__stack__wipe_stack____520_
-aes_cipher__zeroize__stack__wipe_stack____520_: # @aes_cipher__zeroize__stack__wipe_stack____520_
-	.functype	aes_cipher__zeroize__stack__wipe_stack____520_ () -> ()
+	.section	.text.aes_cipher__zeroize__stack__wipe_stack____512_,"",@
+	.type	aes_cipher__zeroize__stack__wipe_stack____512_,@function # -- Begin function aes_cipher__zeroize__stack__wipe_stack____512_
+aes_cipher__zeroize__stack__wipe_stack____512_: # @aes_cipher__zeroize__stack__wipe_stack____512_
+	.functype	aes_cipher__zeroize__stack__wipe_stack____512_ () -> ()
 	.local  	i32, i64
 # %bb.0:                                # %start
 	global.get	__stack_pointer
@@ -6478,30 +6478,30 @@ aes_cipher__zeroize__stack__wipe_stack____520_: # @aes_cipher__zeroize__stack__w
 	local.tee	0
 	global.set	__stack_pointer
 	local.get	0
-	i32.const	8
+	i32.const	16
 	i32.add 
 	i32.const	0
-	i32.const	520
+	i32.const	512
 	call	memset
 	drop
 	local.get	0
 	i64.const	0
-	i64.store	0
+	i64.store	8
 	#APP
 	#NO_APP
 	local.get	0
-	i64.load	0
+	i64.load	8
 	local.set	1
 	#APP
 	#NO_APP
 	block   	
 	local.get	1
-	i64.const	520
+	i64.const	512
 	i64.ge_u
 	br_if   	0                               # 0: down to label27
 # %bb.1:                                # %then.1
 	local.get	0
-	i32.const	8
+	i32.const	16
 	i32.add 
 	local.get	1
 	i32.wrap_i64
@@ -6511,11 +6511,11 @@ aes_cipher__zeroize__stack__wipe_stack____520_: # @aes_cipher__zeroize__stack__w
 	#APP
 	#NO_APP
 	local.get	0
-	i64.load	0
+	i64.load	8
 	drop
 	local.get	0
 	local.get	1
-	i64.store	0
+	i64.store	8
 	#APP
 	#NO_APP
 .LBB14_2:                               # %common.ret
@@ -20033,7 +20033,7 @@ fotsgure_gcm_set_key:                   # @fotsgure_gcm_set_key
 	i32.const	484
 	i32.add 
 	call	gcm__mode__put_subkey____56ef08599dd20827_
-	call	aes_cipher__zeroize__stack__wipe_stack____520_
+	call	aes_cipher__zeroize__stack__wipe_stack____512_
 .LBB54_4:                               # %wide_fotsgure_gcm_set_key.exit
 	end_block                               # label129:
 	local.get	3
@@ -20125,7 +20125,7 @@ fotsgure_gcm_set_key_of:                # @fotsgure_gcm_set_key_of
 	i32.const	484
 	i32.add 
 	call	gcm__mode__put_subkey____56ef08599dd20827_
-	call	aes_cipher__zeroize__stack__wipe_stack____520_
+	call	aes_cipher__zeroize__stack__wipe_stack____512_
 .LBB55_4:                               # %wide_fotsgure_gcm_set_key_of.exit
 	end_block                               # label131:
 	local.get	2
@@ -21695,7 +21695,7 @@ fotsgure_gcm_additional:                # @fotsgure_gcm_additional
 	i32.add 
 	local.get	8
 	call	gcm__hash_room__hash_piece____4ffbd79422221ed4_
-	call	aes_cipher__zeroize__stack__wipe_stack____520_
+	call	aes_cipher__zeroize__stack__wipe_stack____512_
 	local.get	1
 	local.get	1
 	i64.load	0
@@ -21940,7 +21940,7 @@ fotsgure_gcm_finish:                    # @fotsgure_gcm_finish
 	i32.const	8
 	i32.add 
 	call	gcm__mode__BorrowedGcm__put_tag_so_far____56ef08599dd20827_
-	call	aes_cipher__zeroize__stack__wipe_stack____520_
+	call	aes_cipher__zeroize__stack__wipe_stack____512_
 	local.get	1
 	call	gcm__message__MessageZeroize__zeroize
 	local.get	2
@@ -22067,7 +22067,7 @@ fotsgure_gcm_verify:                    # @fotsgure_gcm_verify
 	local.get	8
 	i64.add 
 	i64.store	0
-	call	aes_cipher__zeroize__stack__wipe_stack____520_
+	call	aes_cipher__zeroize__stack__wipe_stack____512_
 	br      	1                               # 1: down to label175
 .LBB68_4:                               # %arm.2.i.i.i
 	end_block                               # label176:
@@ -22213,7 +22213,7 @@ fotsgure_gcm_accept:                    # @fotsgure_gcm_accept
 	i32.const	48
 	i32.add 
 	call	aes_cipher__zeroize__elements__zeroize_elements____3b2097f0eef5a37b_
-	call	aes_cipher__zeroize__stack__wipe_stack____520_
+	call	aes_cipher__zeroize__stack__wipe_stack____512_
 	block   	
 	local.get	3
 	i32.eqz
@@ -22391,7 +22391,7 @@ fotsgure_gcm_accept_short:              # @fotsgure_gcm_accept_short
 	i32.const	32
 	i32.add 
 	call	aes_cipher__zeroize__elements__zeroize_elements____3b2097f0eef5a37b_
-	call	aes_cipher__zeroize__stack__wipe_stack____520_
+	call	aes_cipher__zeroize__stack__wipe_stack____512_
 	block   	
 	local.get	2
 	i32.eqz

@@ -1953,42 +1953,56 @@ gcm_v3.gcm.multiples.Multiples.two_products: # @gcm_v3.gcm.multiples.Multiples.t
 	vzeroupper
 	retq
                                         # -- End function
-	.def	gcm_v3.aes_cipher.zeroize.stack.wipe_stack.520;
+	.def	gcm_v3.aes_cipher.zeroize.stack.wipe_stack.512;
 	.scl	3;
 	.type	32;
 	.endef
-	.p2align	4                               # -- Begin function aes_cipher::zeroize::stack::wipe_stack::<=520>
-gcm_v3.aes_cipher.zeroize.stack.wipe_stack.520: # @gcm_v3.aes_cipher.zeroize.stack.wipe_stack.520
-.seh_proc gcm_v3.aes_cipher.zeroize.stack.wipe_stack.520
+	.p2align	4                               # -- Begin function aes_cipher::zeroize::stack::wipe_stack::<=512>
+gcm_v3.aes_cipher.zeroize.stack.wipe_stack.512: # @gcm_v3.aes_cipher.zeroize.stack.wipe_stack.512
+.seh_proc gcm_v3.aes_cipher.zeroize.stack.wipe_stack.512
 # %bb.0:                                # %start
-	subq	$568, %rsp                      # imm = 0x238
-	.seh_stackalloc 568
+	subq	$536, %rsp                      # imm = 0x218
+	.seh_stackalloc 536
 	.seh_endprologue
 	#APP
 	xorl	%edi, %edi
 	xorl	%esi, %esi
 	#NO_APP
-	leaq	48(%rsp), %rcx
-	movl	$520, %r8d                      # imm = 0x208
-	xorl	%edx, %edx
-	callq	memset
-	movq	$0, 40(%rsp)
+	vxorps	%xmm0, %xmm0, %xmm0
+	vmovups	%ymm0, 496(%rsp)
+	vmovups	%ymm0, 464(%rsp)
+	vmovups	%ymm0, 432(%rsp)
+	vmovups	%ymm0, 400(%rsp)
+	vmovups	%ymm0, 368(%rsp)
+	vmovups	%ymm0, 336(%rsp)
+	vmovups	%ymm0, 304(%rsp)
+	vmovups	%ymm0, 272(%rsp)
+	vmovups	%ymm0, 240(%rsp)
+	vmovups	%ymm0, 208(%rsp)
+	vmovups	%ymm0, 176(%rsp)
+	vmovups	%ymm0, 144(%rsp)
+	vmovups	%ymm0, 112(%rsp)
+	vmovups	%ymm0, 80(%rsp)
+	vmovups	%ymm0, 48(%rsp)
+	vmovups	%ymm0, 16(%rsp)
+	movq	$0, 8(%rsp)
 	#APP
 	#NO_APP
-	movq	40(%rsp), %rax
+	movq	8(%rsp), %rax
 	#APP
 	#NO_APP
-	cmpq	$520, %rax                      # imm = 0x208
+	cmpq	$512, %rax                      # imm = 0x200
 	jae	.Lgcm_v3_BB10_2
 # %bb.1:                                # %then.1
-	movzbl	48(%rsp,%rax), %eax
+	movzbl	16(%rsp,%rax), %eax
 	#APP
 	#NO_APP
-	xchgq	%rax, 40(%rsp)
+	xchgq	%rax, 8(%rsp)
 	#APP
 	#NO_APP
 .Lgcm_v3_BB10_2:                               # %common.ret
-	addq	$568, %rsp                      # imm = 0x238
+	addq	$536, %rsp                      # imm = 0x218
+	vzeroupper
 	retq
 	.seh_endproc
                                         # -- End function
@@ -15576,7 +15590,7 @@ gcm_v3.fotsgure_gcm_begin:                     # @gcm_v3.fotsgure_gcm_begin
 	je	.Lgcm_v3_BB63_5
 # %bb.4:                                # %then.1.i.i.i
 	vzeroupper
-	callq	gcm_v3.aes_cipher.zeroize.stack.wipe_stack.520
+	callq	gcm_v3.aes_cipher.zeroize.stack.wipe_stack.512
 	xorl	%eax, %eax
 .Lgcm_v3_BB63_5:                               # %"gcm_c::pieces::fotsgure_gcm_begin.exit"
 	vmovaps	48(%rsp), %xmm6                 # 16-byte Reload
@@ -15818,7 +15832,7 @@ gcm_v3.fotsgure_gcm_finish:                    # @gcm_v3.fotsgure_gcm_finish
 	movq	%rdx, %r14
 	movq	%rax, %rdx
 	callq	gcm_v3.gcm.mode.BorrowedGcm.put_tag_so_far
-	callq	gcm_v3.aes_cipher.zeroize.stack.wipe_stack.520
+	callq	gcm_v3.aes_cipher.zeroize.stack.wipe_stack.512
 	movq	%r14, %rdi
 	callq	gcm_v3.gcm.message.MessageZeroize.zeroize
 	vmovups	48(%rsp), %xmm0
@@ -15929,7 +15943,7 @@ gcm_v3.fotsgure_gcm_set_key:                   # @gcm_v3.fotsgure_gcm_set_key
 	movq	%rbx, %rsi
 	movq	%r15, %rdx
 	callq	gcm_v3.gcm.mode.put_subkey
-	callq	gcm_v3.aes_cipher.zeroize.stack.wipe_stack.520
+	callq	gcm_v3.aes_cipher.zeroize.stack.wipe_stack.512
 	xorl	%eax, %eax
 	jmp	.Lgcm_v3_BB66_4
 .Lgcm_v3_BB66_2:                               # %then.1.i
@@ -16023,7 +16037,7 @@ gcm_v3.fotsgure_gcm_set_key_of:                # @gcm_v3.fotsgure_gcm_set_key_of
 	addq	$244, %rbx
 	movq	%rbx, %rdx
 	callq	gcm_v3.gcm.mode.put_subkey
-	callq	gcm_v3.aes_cipher.zeroize.stack.wipe_stack.520
+	callq	gcm_v3.aes_cipher.zeroize.stack.wipe_stack.512
 	xorl	%eax, %eax
 	jmp	.Lgcm_v3_BB67_4
 .Lgcm_v3_BB67_2:                               # %then.1.i
@@ -18038,7 +18052,7 @@ gcm_v3.fotsgure_gcm_additional:                # @gcm_v3.fotsgure_gcm_additional
 	movq	%rax, %rdx
 	movq	%r9, %rbx
 	callq	gcm_v3.gcm.hash_room.hash_piece
-	callq	gcm_v3.aes_cipher.zeroize.stack.wipe_stack.520
+	callq	gcm_v3.aes_cipher.zeroize.stack.wipe_stack.512
 	addq	%rbx, (%r14)
 	xorl	%eax, %eax
 .Lgcm_v3_BB77_5:                               # %"gcm_c::pieces::fotsgure_gcm_additional.exit"
@@ -18702,7 +18716,7 @@ gcm_v3.fotsgure_gcm_verify:                    # @gcm_v3.fotsgure_gcm_verify
 	movq	%rbx, %r9
 	callq	gcm_v3.gcm.hash_room.hash_piece
 	addq	%rbx, 8(%r14)
-	callq	gcm_v3.aes_cipher.zeroize.stack.wipe_stack.520
+	callq	gcm_v3.aes_cipher.zeroize.stack.wipe_stack.512
 	xorl	%eax, %eax
 .Lgcm_v3_BB81_8:                               # %"gcm_c::opening::fotsgure_gcm_verify.exit"
 	vmovaps	48(%rsp), %xmm6                 # 16-byte Reload
@@ -18827,7 +18841,7 @@ gcm_v3.fotsgure_gcm_accept:                    # @gcm_v3.fotsgure_gcm_accept
 	movl	%eax, %ebp
 	movq	%rbx, %rdi
 	callq	gcm_v3.aes_cipher.zeroize.elements.zeroize_elements.3
-	callq	gcm_v3.aes_cipher.zeroize.stack.wipe_stack.520
+	callq	gcm_v3.aes_cipher.zeroize.stack.wipe_stack.512
 	movl	$6, %eax
 	testl	%ebp, %ebp
 	jne	.Lgcm_v3_BB82_7
@@ -18984,7 +18998,7 @@ gcm_v3.fotsgure_gcm_accept_short:              # @gcm_v3.fotsgure_gcm_accept_sho
 	callq	gcm_v3.aes_cipher.zeroize.elements.zeroize_elements.3
 	movq	%r12, %rdi
 	callq	gcm_v3.aes_cipher.zeroize.elements.zeroize_elements.3
-	callq	gcm_v3.aes_cipher.zeroize.stack.wipe_stack.520
+	callq	gcm_v3.aes_cipher.zeroize.stack.wipe_stack.512
 	movl	$6, %eax
 	testl	%ebp, %ebp
 	jne	.Lgcm_v3_BB83_8
@@ -19051,4 +19065,4 @@ gcm_v3.fotsgure_gcm_accept_short:              # @gcm_v3.fotsgure_gcm_accept_sho
 
 
 	.section	.rdata,"dr"
-	.asciz	"fotsgure_gcm 0.4.0, windows_x86_64/gcm_v3.s, sources SHA-256 b304b46c21388cead66af5758090649f00f84deb047fe72a599f56524f4a45be"
+	.asciz	"fotsgure_gcm 0.4.0, windows_x86_64/gcm_v3.s, sources SHA-256 28c12be2f4bfc28a8a06eb00306373acec804025e88b32ce899c9d5f4834c60c"

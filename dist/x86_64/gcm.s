@@ -2220,36 +2220,36 @@ gcm_v2.gcm.multiples.Multiples.two_products: # @gcm_v2.gcm.multiples.Multiples.t
 .Lgcm_v2_func_end9:
 	.size	gcm_v2.gcm.multiples.Multiples.two_products, .Lgcm_v2_func_end9-gcm_v2.gcm.multiples.Multiples.two_products
                                         # -- End function
-	.section	.text.gcm_v2.aes_cipher.zeroize.stack.wipe_stack.520,"ax",@progbits
-	.p2align	4                               # -- Begin function aes_cipher::zeroize::stack::wipe_stack::<=520>
-	.type	gcm_v2.aes_cipher.zeroize.stack.wipe_stack.520,@function
-gcm_v2.aes_cipher.zeroize.stack.wipe_stack.520: # @gcm_v2.aes_cipher.zeroize.stack.wipe_stack.520
+	.section	.text.gcm_v2.aes_cipher.zeroize.stack.wipe_stack.512,"ax",@progbits
+	.p2align	4                               # -- Begin function aes_cipher::zeroize::stack::wipe_stack::<=512>
+	.type	gcm_v2.aes_cipher.zeroize.stack.wipe_stack.512,@function
+gcm_v2.aes_cipher.zeroize.stack.wipe_stack.512: # @gcm_v2.aes_cipher.zeroize.stack.wipe_stack.512
 # %bb.0:                                # %start
-	subq	$536, %rsp                      # imm = 0x218
-	leaq	16(%rsp), %rdi
-	movl	$520, %edx                      # imm = 0x208
+	subq	$520, %rsp                      # imm = 0x208
+	leaq	8(%rsp), %rdi
+	movl	$512, %edx                      # imm = 0x200
 	xorl	%esi, %esi
 	callq	*memset@GOTPCREL(%rip)
-	movq	$0, 8(%rsp)
+	movq	$0, (%rsp)
 	#APP
 	#NO_APP
-	movq	8(%rsp), %rax
+	movq	(%rsp), %rax
 	#APP
 	#NO_APP
-	cmpq	$520, %rax                      # imm = 0x208
+	cmpq	$512, %rax                      # imm = 0x200
 	jae	.Lgcm_v2_BB10_2
 # %bb.1:                                # %then.1
-	movzbl	16(%rsp,%rax), %eax
+	movzbl	8(%rsp,%rax), %eax
 	#APP
 	#NO_APP
-	xchgq	%rax, 8(%rsp)
+	xchgq	%rax, (%rsp)
 	#APP
 	#NO_APP
 .Lgcm_v2_BB10_2:                               # %common.ret
-	addq	$536, %rsp                      # imm = 0x218
+	addq	$520, %rsp                      # imm = 0x208
 	retq
 .Lgcm_v2_func_end10:
-	.size	gcm_v2.aes_cipher.zeroize.stack.wipe_stack.520, .Lgcm_v2_func_end10-gcm_v2.aes_cipher.zeroize.stack.wipe_stack.520
+	.size	gcm_v2.aes_cipher.zeroize.stack.wipe_stack.512, .Lgcm_v2_func_end10-gcm_v2.aes_cipher.zeroize.stack.wipe_stack.512
                                         # -- End function
 	.section	.rodata.cst16,"aM",@progbits,16
 	.p2align	4, 0x0                          # -- Begin function gcm::mode::BorrowedGcm::put_tag_so_far::<#221fbc00d1292367>
@@ -14963,7 +14963,7 @@ gcm_v2.fotsgure_gcm_begin:                     # @gcm_v2.fotsgure_gcm_begin
 	cmpq	$12, %r14
 	je	.Lgcm_v2_BB63_5
 # %bb.4:                                # %then.1.i.i.i
-	callq	gcm_v2.aes_cipher.zeroize.stack.wipe_stack.520
+	callq	gcm_v2.aes_cipher.zeroize.stack.wipe_stack.512
 	xorl	%eax, %eax
 .Lgcm_v2_BB63_5:
 	addq	$40, %rsp
@@ -15154,7 +15154,7 @@ gcm_v2.fotsgure_gcm_finish:                    # @gcm_v2.fotsgure_gcm_finish
 	leaq	40(%rsp), %rdx
 	movq	%rsi, %r14
 	callq	gcm_v2.gcm.mode.BorrowedGcm.put_tag_so_far
-	callq	gcm_v2.aes_cipher.zeroize.stack.wipe_stack.520
+	callq	gcm_v2.aes_cipher.zeroize.stack.wipe_stack.512
 	movq	%r14, %rdi
 	callq	gcm_v2.gcm.message.MessageZeroize.zeroize
 	movups	40(%rsp), %xmm0
@@ -15246,7 +15246,7 @@ gcm_v2.fotsgure_gcm_set_key:                   # @gcm_v2.fotsgure_gcm_set_key
 	movq	%rbx, %rsi
 	movq	%r15, %rdx
 	callq	gcm_v2.gcm.mode.put_subkey
-	callq	gcm_v2.aes_cipher.zeroize.stack.wipe_stack.520
+	callq	gcm_v2.aes_cipher.zeroize.stack.wipe_stack.512
 	xorl	%eax, %eax
 	popq	%rbx
 	popq	%r14
@@ -15344,7 +15344,7 @@ gcm_v2.fotsgure_gcm_set_key_of:                # @gcm_v2.fotsgure_gcm_set_key_of
 	movq	%rbx, %rsi
 	movq	%r15, %rdx
 	callq	gcm_v2.gcm.mode.put_subkey
-	callq	gcm_v2.aes_cipher.zeroize.stack.wipe_stack.520
+	callq	gcm_v2.aes_cipher.zeroize.stack.wipe_stack.512
 	xorl	%eax, %eax
 	popq	%rbx
 	popq	%r14
@@ -17042,7 +17042,7 @@ gcm_v2.fotsgure_gcm_additional:                # @gcm_v2.fotsgure_gcm_additional
 	movq	%r9, %rcx
 	movq	%rbx, %r9
 	callq	gcm_v2.gcm.hash_room.hash_piece
-	callq	gcm_v2.aes_cipher.zeroize.stack.wipe_stack.520
+	callq	gcm_v2.aes_cipher.zeroize.stack.wipe_stack.512
 	addq	%rbx, (%r14)
 	xorl	%eax, %eax
 .Lgcm_v2_BB77_5:
@@ -17594,7 +17594,7 @@ gcm_v2.fotsgure_gcm_verify:                    # @gcm_v2.fotsgure_gcm_verify
 	movq	%rbx, %r9
 	callq	gcm_v2.gcm.hash_room.hash_piece
 	addq	%rbx, 8(%r14)
-	callq	gcm_v2.aes_cipher.zeroize.stack.wipe_stack.520
+	callq	gcm_v2.aes_cipher.zeroize.stack.wipe_stack.512
 	xorl	%eax, %eax
 .Lgcm_v2_BB81_8:                               # %"gcm_c::opening::fotsgure_gcm_verify.exit"
 	addq	$48, %rsp
@@ -17692,7 +17692,7 @@ gcm_v2.fotsgure_gcm_accept:                    # @gcm_v2.fotsgure_gcm_accept
 	movl	%eax, %ebp
 	movq	%r14, %rdi
 	callq	gcm_v2.aes_cipher.zeroize.elements.zeroize_elements.3
-	callq	gcm_v2.aes_cipher.zeroize.stack.wipe_stack.520
+	callq	gcm_v2.aes_cipher.zeroize.stack.wipe_stack.512
 	movl	$6, %eax
 	testl	%ebp, %ebp
 	jne	.Lgcm_v2_BB82_7
@@ -17820,7 +17820,7 @@ gcm_v2.fotsgure_gcm_accept_short:              # @gcm_v2.fotsgure_gcm_accept_sho
 	callq	gcm_v2.aes_cipher.zeroize.elements.zeroize_elements.3
 	movq	%r13, %rdi
 	callq	gcm_v2.aes_cipher.zeroize.elements.zeroize_elements.3
-	callq	gcm_v2.aes_cipher.zeroize.stack.wipe_stack.520
+	callq	gcm_v2.aes_cipher.zeroize.stack.wipe_stack.512
 	movl	$6, %eax
 	testl	%ebp, %ebp
 	jne	.Lgcm_v2_BB83_8
@@ -17918,5 +17918,5 @@ gcm_v2.fotsgure_gcm_accept_short:              # @gcm_v2.fotsgure_gcm_accept_sho
 	.long	9, 115, 1
 	.asciz	"Fotsgure"
 	.p2align	2, 0x0
-	.asciz	"fotsgure_gcm 0.4.0, x86_64/gcm.s, sources SHA-256 b304b46c21388cead66af5758090649f00f84deb047fe72a599f56524f4a45be"
+	.asciz	"fotsgure_gcm 0.4.0, x86_64/gcm.s, sources SHA-256 28c12be2f4bfc28a8a06eb00306373acec804025e88b32ce899c9d5f4834c60c"
 	.p2align	2, 0x0

@@ -2639,36 +2639,36 @@ gcm_v1.gcm.bitwise.product_bitwise:        # @gcm_v1.gcm.bitwise.product_bitwise
 .Lgcm_v1_func_end8:
 	.size	gcm_v1.gcm.bitwise.product_bitwise, .Lgcm_v1_func_end8-gcm_v1.gcm.bitwise.product_bitwise
                                         # -- End function
-	.section	.text.gcm_v1.aes_cipher.zeroize.stack.wipe_stack.520,"ax",@progbits
-	.p2align	4                               # -- Begin function aes_cipher::zeroize::stack::wipe_stack::<=520>
-	.type	gcm_v1.aes_cipher.zeroize.stack.wipe_stack.520,@function
-gcm_v1.aes_cipher.zeroize.stack.wipe_stack.520: # @gcm_v1.aes_cipher.zeroize.stack.wipe_stack.520
+	.section	.text.gcm_v1.aes_cipher.zeroize.stack.wipe_stack.512,"ax",@progbits
+	.p2align	4                               # -- Begin function aes_cipher::zeroize::stack::wipe_stack::<=512>
+	.type	gcm_v1.aes_cipher.zeroize.stack.wipe_stack.512,@function
+gcm_v1.aes_cipher.zeroize.stack.wipe_stack.512: # @gcm_v1.aes_cipher.zeroize.stack.wipe_stack.512
 # %bb.0:                                # %start
-	subq	$536, %rsp                      # imm = 0x218
-	leaq	16(%rsp), %rdi
-	movl	$520, %edx                      # imm = 0x208
+	subq	$520, %rsp                      # imm = 0x208
+	leaq	8(%rsp), %rdi
+	movl	$512, %edx                      # imm = 0x200
 	xorl	%esi, %esi
 	callq	*memset@GOTPCREL(%rip)
-	movq	$0, 8(%rsp)
+	movq	$0, (%rsp)
 	#APP
 	#NO_APP
-	movq	8(%rsp), %rax
+	movq	(%rsp), %rax
 	#APP
 	#NO_APP
-	cmpq	$520, %rax                      # imm = 0x208
+	cmpq	$512, %rax                      # imm = 0x200
 	jae	.Lgcm_v1_BB9_2
 # %bb.1:                                # %then.1
-	movzbl	16(%rsp,%rax), %eax
+	movzbl	8(%rsp,%rax), %eax
 	#APP
 	#NO_APP
-	xchgq	%rax, 8(%rsp)
+	xchgq	%rax, (%rsp)
 	#APP
 	#NO_APP
 .Lgcm_v1_BB9_2:                                # %common.ret
-	addq	$536, %rsp                      # imm = 0x218
+	addq	$520, %rsp                      # imm = 0x208
 	retq
 .Lgcm_v1_func_end9:
-	.size	gcm_v1.aes_cipher.zeroize.stack.wipe_stack.520, .Lgcm_v1_func_end9-gcm_v1.aes_cipher.zeroize.stack.wipe_stack.520
+	.size	gcm_v1.aes_cipher.zeroize.stack.wipe_stack.512, .Lgcm_v1_func_end9-gcm_v1.aes_cipher.zeroize.stack.wipe_stack.512
                                         # -- End function
 	.section	.text.gcm_v1.gcm.mode.BorrowedGcm.put_tag_so_far,"ax",@progbits
 	.p2align	4                               # -- Begin function gcm::mode::BorrowedGcm::put_tag_so_far::<#56ef08599dd20827>
@@ -8744,7 +8744,7 @@ gcm_v1.fotsgure_gcm_begin:                     # @gcm_v1.fotsgure_gcm_begin
 	cmpq	$12, %r14
 	je	.Lgcm_v1_BB46_5
 # %bb.4:                                # %then.1.i.i.i
-	callq	gcm_v1.aes_cipher.zeroize.stack.wipe_stack.520
+	callq	gcm_v1.aes_cipher.zeroize.stack.wipe_stack.512
 	xorl	%eax, %eax
 .Lgcm_v1_BB46_5:
 	addq	$24, %rsp
@@ -8929,7 +8929,7 @@ gcm_v1.fotsgure_gcm_finish:                    # @gcm_v1.fotsgure_gcm_finish
 	leaq	24(%rsp), %rdx
 	movq	%rsi, %r14
 	callq	gcm_v1.gcm.mode.BorrowedGcm.put_tag_so_far
-	callq	gcm_v1.aes_cipher.zeroize.stack.wipe_stack.520
+	callq	gcm_v1.aes_cipher.zeroize.stack.wipe_stack.512
 	movq	%r14, %rdi
 	callq	gcm_v1.gcm.message.MessageZeroize.zeroize
 	movups	24(%rsp), %xmm0
@@ -9012,7 +9012,7 @@ gcm_v1.fotsgure_gcm_set_key:                   # @gcm_v1.fotsgure_gcm_set_key
 	movq	%r15, %rdi
 	movq	%r12, %rdx
 	callq	gcm_v1.gcm.mode.put_subkey
-	callq	gcm_v1.aes_cipher.zeroize.stack.wipe_stack.520
+	callq	gcm_v1.aes_cipher.zeroize.stack.wipe_stack.512
 	jmp	.Lgcm_v1_BB49_4
 .Lgcm_v1_BB49_2:                               # %then.1.i
 	movl	$500, %edx                      # imm = 0x1F4
@@ -9084,7 +9084,7 @@ gcm_v1.fotsgure_gcm_set_key_of:                # @gcm_v1.fotsgure_gcm_set_key_of
 	movq	%rbx, %rdi
 	movq	%r14, %rdx
 	callq	gcm_v1.gcm.mode.put_subkey
-	callq	gcm_v1.aes_cipher.zeroize.stack.wipe_stack.520
+	callq	gcm_v1.aes_cipher.zeroize.stack.wipe_stack.512
 	xorl	%eax, %eax
 	popq	%rbx
 	popq	%r14
@@ -10709,7 +10709,7 @@ gcm_v1.fotsgure_gcm_additional:                # @gcm_v1.fotsgure_gcm_additional
 	movq	%r9, %rcx
 	movq	%rbx, %r9
 	callq	gcm_v1.gcm.hash_room.hash_piece
-	callq	gcm_v1.aes_cipher.zeroize.stack.wipe_stack.520
+	callq	gcm_v1.aes_cipher.zeroize.stack.wipe_stack.512
 	addq	%rbx, (%r14)
 	xorl	%eax, %eax
 .Lgcm_v1_BB60_5:
@@ -11220,7 +11220,7 @@ gcm_v1.fotsgure_gcm_verify:                    # @gcm_v1.fotsgure_gcm_verify
 	movq	%rbx, %r9
 	callq	gcm_v1.gcm.hash_room.hash_piece
 	addq	%rbx, 8(%r14)
-	callq	gcm_v1.aes_cipher.zeroize.stack.wipe_stack.520
+	callq	gcm_v1.aes_cipher.zeroize.stack.wipe_stack.512
 	xorl	%eax, %eax
 .Lgcm_v1_BB64_8:                               # %"gcm_c::opening::fotsgure_gcm_verify.exit"
 	addq	$24, %rsp
@@ -11316,7 +11316,7 @@ gcm_v1.fotsgure_gcm_accept:                    # @gcm_v1.fotsgure_gcm_accept
 	movl	%eax, %ebp
 	movq	%r14, %rdi
 	callq	gcm_v1.aes_cipher.zeroize.elements.zeroize_elements.3
-	callq	gcm_v1.aes_cipher.zeroize.stack.wipe_stack.520
+	callq	gcm_v1.aes_cipher.zeroize.stack.wipe_stack.512
 	movl	$6, %eax
 	testl	%ebp, %ebp
 	jne	.Lgcm_v1_BB65_7
@@ -11441,7 +11441,7 @@ gcm_v1.fotsgure_gcm_accept_short:              # @gcm_v1.fotsgure_gcm_accept_sho
 	callq	gcm_v1.aes_cipher.zeroize.elements.zeroize_elements.3
 	movq	%r13, %rdi
 	callq	gcm_v1.aes_cipher.zeroize.elements.zeroize_elements.3
-	callq	gcm_v1.aes_cipher.zeroize.stack.wipe_stack.520
+	callq	gcm_v1.aes_cipher.zeroize.stack.wipe_stack.512
 	movl	$6, %eax
 	testl	%ebp, %ebp
 	jne	.Lgcm_v1_BB66_8
@@ -11510,5 +11510,5 @@ gcm_v1.fotsgure_gcm_accept_short:              # @gcm_v1.fotsgure_gcm_accept_sho
 	.long	9, 118, 1
 	.asciz	"Fotsgure"
 	.p2align	2, 0x0
-	.asciz	"fotsgure_gcm 0.4.0, x86_64/gcm_v1.s, sources SHA-256 b304b46c21388cead66af5758090649f00f84deb047fe72a599f56524f4a45be"
+	.asciz	"fotsgure_gcm 0.4.0, x86_64/gcm_v1.s, sources SHA-256 28c12be2f4bfc28a8a06eb00306373acec804025e88b32ce899c9d5f4834c60c"
 	.p2align	2, 0x0

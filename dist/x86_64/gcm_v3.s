@@ -2087,36 +2087,50 @@ gcm_v3.gcm.multiples.Multiples.two_products: # @gcm_v3.gcm.multiples.Multiples.t
 .Lgcm_v3_func_end9:
 	.size	gcm_v3.gcm.multiples.Multiples.two_products, .Lgcm_v3_func_end9-gcm_v3.gcm.multiples.Multiples.two_products
                                         # -- End function
-	.section	.text.gcm_v3.aes_cipher.zeroize.stack.wipe_stack.520,"ax",@progbits
-	.p2align	4                               # -- Begin function aes_cipher::zeroize::stack::wipe_stack::<=520>
-	.type	gcm_v3.aes_cipher.zeroize.stack.wipe_stack.520,@function
-gcm_v3.aes_cipher.zeroize.stack.wipe_stack.520: # @gcm_v3.aes_cipher.zeroize.stack.wipe_stack.520
+	.section	.text.gcm_v3.aes_cipher.zeroize.stack.wipe_stack.512,"ax",@progbits
+	.p2align	4                               # -- Begin function aes_cipher::zeroize::stack::wipe_stack::<=512>
+	.type	gcm_v3.aes_cipher.zeroize.stack.wipe_stack.512,@function
+gcm_v3.aes_cipher.zeroize.stack.wipe_stack.512: # @gcm_v3.aes_cipher.zeroize.stack.wipe_stack.512
 # %bb.0:                                # %start
-	subq	$536, %rsp                      # imm = 0x218
-	leaq	16(%rsp), %rdi
-	movl	$520, %edx                      # imm = 0x208
-	xorl	%esi, %esi
-	callq	*memset@GOTPCREL(%rip)
-	movq	$0, 8(%rsp)
+	subq	$408, %rsp                      # imm = 0x198
+	vxorps	%xmm0, %xmm0, %xmm0
+	vmovups	%ymm0, 368(%rsp)
+	vmovups	%ymm0, 336(%rsp)
+	vmovups	%ymm0, 304(%rsp)
+	vmovups	%ymm0, 272(%rsp)
+	vmovups	%ymm0, 240(%rsp)
+	vmovups	%ymm0, 208(%rsp)
+	vmovups	%ymm0, 176(%rsp)
+	vmovups	%ymm0, 144(%rsp)
+	vmovups	%ymm0, 112(%rsp)
+	vmovups	%ymm0, 80(%rsp)
+	vmovups	%ymm0, 48(%rsp)
+	vmovups	%ymm0, 16(%rsp)
+	vmovups	%ymm0, -16(%rsp)
+	vmovups	%ymm0, -48(%rsp)
+	vmovups	%ymm0, -80(%rsp)
+	vmovups	%ymm0, -112(%rsp)
+	movq	$0, -120(%rsp)
 	#APP
 	#NO_APP
-	movq	8(%rsp), %rax
+	movq	-120(%rsp), %rax
 	#APP
 	#NO_APP
-	cmpq	$520, %rax                      # imm = 0x208
+	cmpq	$512, %rax                      # imm = 0x200
 	jae	.Lgcm_v3_BB10_2
 # %bb.1:                                # %then.1
-	movzbl	16(%rsp,%rax), %eax
+	movzbl	-112(%rsp,%rax), %eax
 	#APP
 	#NO_APP
-	xchgq	%rax, 8(%rsp)
+	xchgq	%rax, -120(%rsp)
 	#APP
 	#NO_APP
 .Lgcm_v3_BB10_2:                               # %common.ret
-	addq	$536, %rsp                      # imm = 0x218
+	addq	$408, %rsp                      # imm = 0x198
+	vzeroupper
 	retq
 .Lgcm_v3_func_end10:
-	.size	gcm_v3.aes_cipher.zeroize.stack.wipe_stack.520, .Lgcm_v3_func_end10-gcm_v3.aes_cipher.zeroize.stack.wipe_stack.520
+	.size	gcm_v3.aes_cipher.zeroize.stack.wipe_stack.512, .Lgcm_v3_func_end10-gcm_v3.aes_cipher.zeroize.stack.wipe_stack.512
                                         # -- End function
 	.section	.rodata.cst32,"aM",@progbits,32
 	.p2align	5, 0x0                          # -- Begin function gcm::mode::BorrowedGcm::put_tag_so_far::<#198ff2c7d4c5b59d>
@@ -15320,7 +15334,7 @@ gcm_v3.fotsgure_gcm_begin:                     # @gcm_v3.fotsgure_gcm_begin
 	je	.Lgcm_v3_BB63_5
 # %bb.4:                                # %then.1.i.i.i
 	vzeroupper
-	callq	gcm_v3.aes_cipher.zeroize.stack.wipe_stack.520
+	callq	gcm_v3.aes_cipher.zeroize.stack.wipe_stack.512
 	xorl	%eax, %eax
 .Lgcm_v3_BB63_5:
 	addq	$40, %rsp
@@ -15512,7 +15526,7 @@ gcm_v3.fotsgure_gcm_finish:                    # @gcm_v3.fotsgure_gcm_finish
 	leaq	40(%rsp), %rdx
 	movq	%rsi, %r14
 	callq	gcm_v3.gcm.mode.BorrowedGcm.put_tag_so_far
-	callq	gcm_v3.aes_cipher.zeroize.stack.wipe_stack.520
+	callq	gcm_v3.aes_cipher.zeroize.stack.wipe_stack.512
 	movq	%r14, %rdi
 	callq	gcm_v3.gcm.message.MessageZeroize.zeroize
 	vmovups	40(%rsp), %xmm0
@@ -15598,7 +15612,7 @@ gcm_v3.fotsgure_gcm_set_key:                   # @gcm_v3.fotsgure_gcm_set_key
 	movq	%rbx, %rsi
 	movq	%r15, %rdx
 	callq	gcm_v3.gcm.mode.put_subkey
-	callq	gcm_v3.aes_cipher.zeroize.stack.wipe_stack.520
+	callq	gcm_v3.aes_cipher.zeroize.stack.wipe_stack.512
 	xorl	%eax, %eax
 	popq	%rbx
 	popq	%r14
@@ -15696,7 +15710,7 @@ gcm_v3.fotsgure_gcm_set_key_of:                # @gcm_v3.fotsgure_gcm_set_key_of
 	movq	%rbx, %rsi
 	movq	%r15, %rdx
 	callq	gcm_v3.gcm.mode.put_subkey
-	callq	gcm_v3.aes_cipher.zeroize.stack.wipe_stack.520
+	callq	gcm_v3.aes_cipher.zeroize.stack.wipe_stack.512
 	xorl	%eax, %eax
 	popq	%rbx
 	popq	%r14
@@ -17452,7 +17466,7 @@ gcm_v3.fotsgure_gcm_additional:                # @gcm_v3.fotsgure_gcm_additional
 	movq	%r9, %rcx
 	movq	%rbx, %r9
 	callq	gcm_v3.gcm.hash_room.hash_piece
-	callq	gcm_v3.aes_cipher.zeroize.stack.wipe_stack.520
+	callq	gcm_v3.aes_cipher.zeroize.stack.wipe_stack.512
 	addq	%rbx, (%r14)
 	xorl	%eax, %eax
 .Lgcm_v3_BB77_5:
@@ -18004,7 +18018,7 @@ gcm_v3.fotsgure_gcm_verify:                    # @gcm_v3.fotsgure_gcm_verify
 	movq	%rbx, %r9
 	callq	gcm_v3.gcm.hash_room.hash_piece
 	addq	%rbx, 8(%r14)
-	callq	gcm_v3.aes_cipher.zeroize.stack.wipe_stack.520
+	callq	gcm_v3.aes_cipher.zeroize.stack.wipe_stack.512
 	xorl	%eax, %eax
 .Lgcm_v3_BB81_8:                               # %"gcm_c::opening::fotsgure_gcm_verify.exit"
 	addq	$48, %rsp
@@ -18102,7 +18116,7 @@ gcm_v3.fotsgure_gcm_accept:                    # @gcm_v3.fotsgure_gcm_accept
 	movl	%eax, %ebp
 	movq	%r14, %rdi
 	callq	gcm_v3.aes_cipher.zeroize.elements.zeroize_elements.3
-	callq	gcm_v3.aes_cipher.zeroize.stack.wipe_stack.520
+	callq	gcm_v3.aes_cipher.zeroize.stack.wipe_stack.512
 	movl	$6, %eax
 	testl	%ebp, %ebp
 	jne	.Lgcm_v3_BB82_7
@@ -18230,7 +18244,7 @@ gcm_v3.fotsgure_gcm_accept_short:              # @gcm_v3.fotsgure_gcm_accept_sho
 	callq	gcm_v3.aes_cipher.zeroize.elements.zeroize_elements.3
 	movq	%r13, %rdi
 	callq	gcm_v3.aes_cipher.zeroize.elements.zeroize_elements.3
-	callq	gcm_v3.aes_cipher.zeroize.stack.wipe_stack.520
+	callq	gcm_v3.aes_cipher.zeroize.stack.wipe_stack.512
 	movl	$6, %eax
 	testl	%ebp, %ebp
 	jne	.Lgcm_v3_BB83_8
@@ -18328,5 +18342,5 @@ gcm_v3.fotsgure_gcm_accept_short:              # @gcm_v3.fotsgure_gcm_accept_sho
 	.long	9, 118, 1
 	.asciz	"Fotsgure"
 	.p2align	2, 0x0
-	.asciz	"fotsgure_gcm 0.4.0, x86_64/gcm_v3.s, sources SHA-256 b304b46c21388cead66af5758090649f00f84deb047fe72a599f56524f4a45be"
+	.asciz	"fotsgure_gcm 0.4.0, x86_64/gcm_v3.s, sources SHA-256 28c12be2f4bfc28a8a06eb00306373acec804025e88b32ce899c9d5f4834c60c"
 	.p2align	2, 0x0
