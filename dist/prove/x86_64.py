@@ -126,9 +126,8 @@ def lea(m, name, to, source):
     registers = [(name, scale) for name, scale in ((source.base, 1), (source.index, source.scale)) if name]
     if tuple not in (type(m.general[name]) for name, _ in registers):
         return m.put(to, m.address(source))
-    total = source.offset
-    for name, scale in registers:
-        v = m.shift("lsl", m.get(Register(name, to.size)), scale.bit_length() - 1, to.size)
+    total, *more = [m.shift("lsl", m.get(Register(name, to.size)), scale.bit_length() - 1, to.size) for name, scale in registers]
+    for v in (*more, *[source.offset] * (source.offset != 0)):
         total, _ = m.plus(v, total, 0, to.size)
     m.put(to, total)
 
