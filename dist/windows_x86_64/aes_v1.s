@@ -5415,7 +5415,6 @@ aes_v1.aes_narrow.borrowed_words.call_to_encrypt: # @aes_v1.aes_narrow.borrowed_
                                         # =>This Inner Loop Header: Depth=1
 	movq	8(%rsp), %rax                   # 8-byte Reload
 	addq	%r13, %rax
-	shrq	$4, %rax
 	pxor	%xmm0, %xmm0
 	movdqa	%xmm0, 208(%r14)
 	movdqa	%xmm0, 192(%r14)
@@ -5432,15 +5431,14 @@ aes_v1.aes_narrow.borrowed_words.call_to_encrypt: # @aes_v1.aes_narrow.borrowed_
 	movdqa	%xmm0, 16(%r14)
 	movdqa	%xmm0, (%r14)
 	movq	(%rbx), %rcx
-	bswapq	%rcx
 	movq	8(%rbx), %rdx
+	bswapq	%rcx
 	bswapq	%rdx
-	movq	%rdx, %rsi
-	addq	%rax, %rsi
-	movq	%rcx, %rdi
-	adcq	$0, %rdi
-	movq	%rdi, %xmm1
-	movq	%rsi, %xmm2
+	shrq	$4, %rax
+	addq	%rax, %rdx
+	adcq	$0, %rcx
+	movq	%rcx, %xmm1
+	movq	%rdx, %xmm2
 	punpcklbw	%xmm0, %xmm2            # xmm2 = xmm2[0],xmm0[0],xmm2[1],xmm0[1],xmm2[2],xmm0[2],xmm2[3],xmm0[3],xmm2[4],xmm0[4],xmm2[5],xmm0[5],xmm2[6],xmm0[6],xmm2[7],xmm0[7]
 	pshufd	$78, %xmm2, %xmm2               # xmm2 = xmm2[2,3,0,1]
 	pshuflw	$27, %xmm2, %xmm2               # xmm2 = xmm2[3,2,1,0,4,5,6,7]
@@ -5451,21 +5449,20 @@ aes_v1.aes_narrow.borrowed_words.call_to_encrypt: # @aes_v1.aes_narrow.borrowed_
 	pshufhw	$27, %xmm1, %xmm1               # xmm1 = xmm1[0,1,2,3,7,6,5,4]
 	packuswb	%xmm2, %xmm1
 	movdqa	%xmm1, 48(%rsp)
-	incq	%rax
-	addq	%rdx, %rax
+	addq	$1, %rdx
 	adcq	$0, %rcx
 	movq	%rcx, %xmm1
-	movq	%rax, %xmm2
-	punpcklbw	%xmm0, %xmm2            # xmm2 = xmm2[0],xmm0[0],xmm2[1],xmm0[1],xmm2[2],xmm0[2],xmm2[3],xmm0[3],xmm2[4],xmm0[4],xmm2[5],xmm0[5],xmm2[6],xmm0[6],xmm2[7],xmm0[7]
-	pshufd	$78, %xmm2, %xmm2               # xmm2 = xmm2[2,3,0,1]
-	pshuflw	$27, %xmm2, %xmm2               # xmm2 = xmm2[3,2,1,0,4,5,6,7]
-	pshufhw	$27, %xmm2, %xmm2               # xmm2 = xmm2[0,1,2,3,7,6,5,4]
+	movq	%rdx, %xmm2
 	punpcklbw	%xmm0, %xmm1            # xmm1 = xmm1[0],xmm0[0],xmm1[1],xmm0[1],xmm1[2],xmm0[2],xmm1[3],xmm0[3],xmm1[4],xmm0[4],xmm1[5],xmm0[5],xmm1[6],xmm0[6],xmm1[7],xmm0[7]
-	pshufd	$78, %xmm1, %xmm0               # xmm0 = xmm1[2,3,0,1]
+	pshufd	$78, %xmm1, %xmm1               # xmm1 = xmm1[2,3,0,1]
+	pshuflw	$27, %xmm1, %xmm1               # xmm1 = xmm1[3,2,1,0,4,5,6,7]
+	pshufhw	$27, %xmm1, %xmm1               # xmm1 = xmm1[0,1,2,3,7,6,5,4]
+	punpcklbw	%xmm0, %xmm2            # xmm2 = xmm2[0],xmm0[0],xmm2[1],xmm0[1],xmm2[2],xmm0[2],xmm2[3],xmm0[3],xmm2[4],xmm0[4],xmm2[5],xmm0[5],xmm2[6],xmm0[6],xmm2[7],xmm0[7]
+	pshufd	$78, %xmm2, %xmm0               # xmm0 = xmm2[2,3,0,1]
 	pshuflw	$27, %xmm0, %xmm0               # xmm0 = xmm0[3,2,1,0,4,5,6,7]
 	pshufhw	$27, %xmm0, %xmm0               # xmm0 = xmm0[0,1,2,3,7,6,5,4]
-	packuswb	%xmm2, %xmm0
-	movdqa	%xmm0, 64(%rsp)
+	packuswb	%xmm0, %xmm1
+	movdqa	%xmm1, 64(%rsp)
 	leaq	48(%rsp), %rdx
 	movl	$2, %ecx
 	movq	16(%rsp), %rdi                  # 8-byte Reload
@@ -5542,9 +5539,6 @@ aes_v1.aes_ctr.add_in_batches.add_next: # @aes_v1.aes_ctr.add_in_batches.add_nex
 	subq	%rcx, %r14
 	cmpq	%rax, %r14
 	cmovaeq	%rax, %r14
-	leal	(%r14,%r13), %ecx
-	addl	$15, %ecx
-	shrq	$4, %rdx
 	pxor	%xmm0, %xmm0
 	movdqa	%xmm0, 240(%rsp)
 	movdqa	%xmm0, 224(%rsp)
@@ -5560,16 +5554,17 @@ aes_v1.aes_ctr.add_in_batches.add_next: # @aes_v1.aes_ctr.add_in_batches.add_nex
 	movdqa	%xmm0, 64(%rsp)
 	movdqa	%xmm0, 48(%rsp)
 	movdqa	%xmm0, 32(%rsp)
-	movq	(%rsi), %rax
+	movq	(%rsi), %r8
+	movq	8(%rsi), %rax
+	bswapq	%r8
 	bswapq	%rax
-	movq	8(%rsi), %rsi
-	bswapq	%rsi
-	movq	%rsi, %r8
-	addq	%rdx, %r8
-	movq	%rax, %r9
-	adcq	$0, %r9
-	movq	%r9, %xmm1
-	movq	%r8, %xmm2
+	shrq	$4, %rdx
+	addq	%rdx, %rax
+	adcq	$0, %r8
+	leal	(%r14,%r13), %ecx
+	addl	$15, %ecx
+	movq	%r8, %xmm1
+	movq	%rax, %xmm2
 	punpcklbw	%xmm0, %xmm2            # xmm2 = xmm2[0],xmm0[0],xmm2[1],xmm0[1],xmm2[2],xmm0[2],xmm2[3],xmm0[3],xmm2[4],xmm0[4],xmm2[5],xmm0[5],xmm2[6],xmm0[6],xmm2[7],xmm0[7]
 	pshufd	$78, %xmm2, %xmm2               # xmm2 = xmm2[2,3,0,1]
 	pshuflw	$27, %xmm2, %xmm2               # xmm2 = xmm2[3,2,1,0,4,5,6,7]
@@ -5580,21 +5575,20 @@ aes_v1.aes_ctr.add_in_batches.add_next: # @aes_v1.aes_ctr.add_in_batches.add_nex
 	pshufhw	$27, %xmm1, %xmm1               # xmm1 = xmm1[0,1,2,3,7,6,5,4]
 	packuswb	%xmm2, %xmm1
 	movdqa	%xmm1, (%rsp)
-	incq	%rdx
-	addq	%rsi, %rdx
-	adcq	$0, %rax
-	movq	%rax, %xmm1
-	movq	%rdx, %xmm2
-	punpcklbw	%xmm0, %xmm2            # xmm2 = xmm2[0],xmm0[0],xmm2[1],xmm0[1],xmm2[2],xmm0[2],xmm2[3],xmm0[3],xmm2[4],xmm0[4],xmm2[5],xmm0[5],xmm2[6],xmm0[6],xmm2[7],xmm0[7]
-	pshufd	$78, %xmm2, %xmm2               # xmm2 = xmm2[2,3,0,1]
-	pshuflw	$27, %xmm2, %xmm2               # xmm2 = xmm2[3,2,1,0,4,5,6,7]
-	pshufhw	$27, %xmm2, %xmm2               # xmm2 = xmm2[0,1,2,3,7,6,5,4]
+	addq	$1, %rax
+	adcq	$0, %r8
+	movq	%r8, %xmm1
+	movq	%rax, %xmm2
 	punpcklbw	%xmm0, %xmm1            # xmm1 = xmm1[0],xmm0[0],xmm1[1],xmm0[1],xmm1[2],xmm0[2],xmm1[3],xmm0[3],xmm1[4],xmm0[4],xmm1[5],xmm0[5],xmm1[6],xmm0[6],xmm1[7],xmm0[7]
-	pshufd	$78, %xmm1, %xmm0               # xmm0 = xmm1[2,3,0,1]
+	pshufd	$78, %xmm1, %xmm1               # xmm1 = xmm1[2,3,0,1]
+	pshuflw	$27, %xmm1, %xmm1               # xmm1 = xmm1[3,2,1,0,4,5,6,7]
+	pshufhw	$27, %xmm1, %xmm1               # xmm1 = xmm1[0,1,2,3,7,6,5,4]
+	punpcklbw	%xmm0, %xmm2            # xmm2 = xmm2[0],xmm0[0],xmm2[1],xmm0[1],xmm2[2],xmm0[2],xmm2[3],xmm0[3],xmm2[4],xmm0[4],xmm2[5],xmm0[5],xmm2[6],xmm0[6],xmm2[7],xmm0[7]
+	pshufd	$78, %xmm2, %xmm0               # xmm0 = xmm2[2,3,0,1]
 	pshuflw	$27, %xmm0, %xmm0               # xmm0 = xmm0[3,2,1,0,4,5,6,7]
 	pshufhw	$27, %xmm0, %xmm0               # xmm0 = xmm0[0,1,2,3,7,6,5,4]
-	packuswb	%xmm2, %xmm0
-	movdqa	%xmm0, 16(%rsp)
+	packuswb	%xmm0, %xmm1
+	movdqa	%xmm1, 16(%rsp)
 	andl	$112, %ecx
 	movq	(%rdi), %rax
 	movq	8(%rdi), %rsi
@@ -6531,42 +6525,42 @@ aes_v1.key_wrap.steps.wrap_in_place: # @aes_v1.key_wrap.steps.wrap_in_place
 	retq
 	.seh_endproc
                                         # -- End function
-	.def	aes_v1.aes_cipher.zeroize.stack.wipe_stack.520;
+	.def	aes_v1.aes_cipher.zeroize.stack.wipe_stack.512;
 	.scl	3;
 	.type	32;
 	.endef
-	.p2align	4                               # -- Begin function aes_cipher::zeroize::stack::wipe_stack::<=520>
-aes_v1.aes_cipher.zeroize.stack.wipe_stack.520: # @aes_v1.aes_cipher.zeroize.stack.wipe_stack.520
-.seh_proc aes_v1.aes_cipher.zeroize.stack.wipe_stack.520
+	.p2align	4                               # -- Begin function aes_cipher::zeroize::stack::wipe_stack::<=512>
+aes_v1.aes_cipher.zeroize.stack.wipe_stack.512: # @aes_v1.aes_cipher.zeroize.stack.wipe_stack.512
+.seh_proc aes_v1.aes_cipher.zeroize.stack.wipe_stack.512
 # %bb.0:                                # %start
-	subq	$568, %rsp                      # imm = 0x238
-	.seh_stackalloc 568
+	subq	$552, %rsp                      # imm = 0x228
+	.seh_stackalloc 552
 	.seh_endprologue
 	#APP
 	xorl	%edi, %edi
 	xorl	%esi, %esi
 	#NO_APP
-	leaq	48(%rsp), %rcx
-	movl	$520, %r8d                      # imm = 0x208
+	leaq	40(%rsp), %rcx
+	movl	$512, %r8d                      # imm = 0x200
 	xorl	%edx, %edx
 	callq	memset
-	movq	$0, 40(%rsp)
+	movq	$0, 32(%rsp)
 	#APP
 	#NO_APP
-	movq	40(%rsp), %rax
+	movq	32(%rsp), %rax
 	#APP
 	#NO_APP
-	cmpq	$520, %rax                      # imm = 0x208
+	cmpq	$512, %rax                      # imm = 0x200
 	jae	.Laes_v1_BB18_2
 # %bb.1:                                # %then.1
-	movzbl	48(%rsp,%rax), %eax
+	movzbl	40(%rsp,%rax), %eax
 	#APP
 	#NO_APP
-	xchgq	%rax, 40(%rsp)
+	xchgq	%rax, 32(%rsp)
 	#APP
 	#NO_APP
 .Laes_v1_BB18_2:                               # %common.ret
-	addq	$568, %rsp                      # imm = 0x238
+	addq	$552, %rsp                      # imm = 0x228
 	retq
 	.seh_endproc
                                         # -- End function
@@ -15381,7 +15375,7 @@ aes_v1.fotsgure_aes_wrap:                      # @aes_v1.fotsgure_aes_wrap
 	movq	%rax, %r8
 	callq	aes_v1.key_wrap.wrapping.wrap
 	movl	%eax, %ebx
-	callq	aes_v1.aes_cipher.zeroize.stack.wipe_stack.520
+	callq	aes_v1.aes_cipher.zeroize.stack.wipe_stack.512
 	movzbl	%bl, %eax
 	leal	(%rax,%rax,4), %eax
 .Laes_v1_BB49_3:                               # %"aes_c::wrapping::fotsgure_aes_wrap.exit"
@@ -15478,7 +15472,7 @@ aes_v1.fotsgure_aes_wrap_padded:               # @aes_v1.fotsgure_aes_wrap_padde
 	movq	%rax, %r8
 	callq	aes_v1.key_wrap.padded.wrap_padded
 	movl	%eax, %ebx
-	callq	aes_v1.aes_cipher.zeroize.stack.wipe_stack.520
+	callq	aes_v1.aes_cipher.zeroize.stack.wipe_stack.512
 	movzbl	%bl, %eax
 	leal	(%rax,%rax,4), %eax
 .Laes_v1_BB50_3:                               # %"aes_c::wrapping::fotsgure_aes_wrap_padded.exit"
@@ -15926,7 +15920,7 @@ aes_v1.fotsgure_aes_unwrap:                    # @aes_v1.fotsgure_aes_unwrap
 	callq	aes_v1.key_wrap.wrapping.unwrap
 	movl	%eax, %ebx
 	movl	%edx, %ebp
-	callq	aes_v1.aes_cipher.zeroize.stack.wipe_stack.520
+	callq	aes_v1.aes_cipher.zeroize.stack.wipe_stack.512
 	cmpb	$1, %bpl
 	movl	$6, %ecx
 	sbbl	$0, %ecx
@@ -16032,7 +16026,7 @@ aes_v1.fotsgure_aes_unwrap_padded:             # @aes_v1.fotsgure_aes_unwrap_pad
 	movq	%r8, %rcx
 	movq	%rax, %r8
 	callq	aes_v1.key_wrap.padded.unwrap_padded
-	callq	aes_v1.aes_cipher.zeroize.stack.wipe_stack.520
+	callq	aes_v1.aes_cipher.zeroize.stack.wipe_stack.512
 	cmpb	$0, 8(%rsp)
 	je	.Laes_v1_BB55_3
 # %bb.4:                                # %arm.5.i
@@ -16108,7 +16102,7 @@ aes_v1.fotsgure_aes_inv_mix_columns:           # @aes_v1.fotsgure_aes_inv_mix_co
 	.seh_endprologue
 	movq	%rcx, %rdi
 	callq	aes_v1.aes_c.single_rounds.inverse_mixed
-	callq	aes_v1.aes_cipher.zeroize.stack.wipe_stack.520
+	callq	aes_v1.aes_cipher.zeroize.stack.wipe_stack.512
 	movaps	(%rsp), %xmm6                   # 16-byte Reload
 	movaps	16(%rsp), %xmm7                 # 16-byte Reload
 	movaps	32(%rsp), %xmm8                 # 16-byte Reload
@@ -16172,7 +16166,7 @@ aes_v1.fotsgure_aes_equiv_inv_cipher_round:    # @aes_v1.fotsgure_aes_equiv_inv_
 	movq	%rcx, %rdi
 	movq	%rdx, %rsi
 	callq	aes_v1.aes_c.single_rounds.inverse_round
-	callq	aes_v1.aes_cipher.zeroize.stack.wipe_stack.520
+	callq	aes_v1.aes_cipher.zeroize.stack.wipe_stack.512
 	movaps	(%rsp), %xmm6                   # 16-byte Reload
 	movaps	16(%rsp), %xmm7                 # 16-byte Reload
 	movaps	32(%rsp), %xmm8                 # 16-byte Reload
@@ -16236,7 +16230,7 @@ aes_v1.fotsgure_aes_equiv_inv_cipher_round_par: # @aes_v1.fotsgure_aes_equiv_inv
 	movq	%rcx, %rdi
 	movq	%rdx, %rsi
 	callq	aes_v1.aes_c.single_rounds.inverse_rounds
-	callq	aes_v1.aes_cipher.zeroize.stack.wipe_stack.520
+	callq	aes_v1.aes_cipher.zeroize.stack.wipe_stack.512
 	movaps	(%rsp), %xmm6                   # 16-byte Reload
 	movaps	16(%rsp), %xmm7                 # 16-byte Reload
 	movaps	32(%rsp), %xmm8                 # 16-byte Reload
@@ -16299,7 +16293,7 @@ aes_v1.fotsgure_aes_mix_columns:               # @aes_v1.fotsgure_aes_mix_column
 	.seh_endprologue
 	movq	%rcx, %rdi
 	callq	aes_v1.aes_c.single_rounds.mixed
-	callq	aes_v1.aes_cipher.zeroize.stack.wipe_stack.520
+	callq	aes_v1.aes_cipher.zeroize.stack.wipe_stack.512
 	movaps	(%rsp), %xmm6                   # 16-byte Reload
 	movaps	16(%rsp), %xmm7                 # 16-byte Reload
 	movaps	32(%rsp), %xmm8                 # 16-byte Reload
@@ -16712,7 +16706,7 @@ aes_v1.fotsgure_aes_cipher_round:              # @aes_v1.fotsgure_aes_cipher_rou
 	movq	%rcx, %rdi
 	movq	%rdx, %rsi
 	callq	aes_v1.aes_c.single_rounds.round
-	callq	aes_v1.aes_cipher.zeroize.stack.wipe_stack.520
+	callq	aes_v1.aes_cipher.zeroize.stack.wipe_stack.512
 	movaps	(%rsp), %xmm6                   # 16-byte Reload
 	movaps	16(%rsp), %xmm7                 # 16-byte Reload
 	movaps	32(%rsp), %xmm8                 # 16-byte Reload
@@ -16776,7 +16770,7 @@ aes_v1.fotsgure_aes_cipher_round_par:          # @aes_v1.fotsgure_aes_cipher_rou
 	movq	%rcx, %rdi
 	movq	%rdx, %rsi
 	callq	aes_v1.aes_c.single_rounds.rounds
-	callq	aes_v1.aes_cipher.zeroize.stack.wipe_stack.520
+	callq	aes_v1.aes_cipher.zeroize.stack.wipe_stack.512
 	movaps	(%rsp), %xmm6                   # 16-byte Reload
 	movaps	16(%rsp), %xmm7                 # 16-byte Reload
 	movaps	32(%rsp), %xmm8                 # 16-byte Reload
@@ -17311,4 +17305,4 @@ aes_v1.fotsgure_aes_ccm_seal:                  # @aes_v1.fotsgure_aes_ccm_seal
 
 
 	.section	.rdata,"dr"
-	.asciz	"fotsgure_aes 0.4.0, windows_x86_64/aes_v1.s, sources SHA-256 222e14e9629ccf707f439ffafb95fc5ac461d2e86f506087f77957c80e1d9694"
+	.asciz	"fotsgure_aes 0.4.0, windows_x86_64/aes_v1.s, sources SHA-256 c732908e78d2b372624172585b9f92240ec267c9ba5336c6cdc7451f61a8db18"

@@ -5337,7 +5337,6 @@ aes_v1.aes_narrow.borrowed_words.call_to_encrypt: # @aes_v1.aes_narrow.borrowed_
                                         # =>This Inner Loop Header: Depth=1
 	movq	8(%rsp), %rax                   # 8-byte Reload
 	addq	%r13, %rax
-	shrq	$4, %rax
 	pxor	%xmm0, %xmm0
 	movdqa	%xmm0, 208(%r14)
 	movdqa	%xmm0, 192(%r14)
@@ -5354,15 +5353,14 @@ aes_v1.aes_narrow.borrowed_words.call_to_encrypt: # @aes_v1.aes_narrow.borrowed_
 	movdqa	%xmm0, 16(%r14)
 	movdqa	%xmm0, (%r14)
 	movq	(%rbx), %rcx
-	bswapq	%rcx
 	movq	8(%rbx), %rdx
+	bswapq	%rcx
 	bswapq	%rdx
-	movq	%rdx, %rsi
-	addq	%rax, %rsi
-	movq	%rcx, %rdi
-	adcq	$0, %rdi
-	movq	%rdi, %xmm1
-	movq	%rsi, %xmm2
+	shrq	$4, %rax
+	addq	%rax, %rdx
+	adcq	$0, %rcx
+	movq	%rcx, %xmm1
+	movq	%rdx, %xmm2
 	punpcklbw	%xmm0, %xmm2            # xmm2 = xmm2[0],xmm0[0],xmm2[1],xmm0[1],xmm2[2],xmm0[2],xmm2[3],xmm0[3],xmm2[4],xmm0[4],xmm2[5],xmm0[5],xmm2[6],xmm0[6],xmm2[7],xmm0[7]
 	pshufd	$78, %xmm2, %xmm2               # xmm2 = xmm2[2,3,0,1]
 	pshuflw	$27, %xmm2, %xmm2               # xmm2 = xmm2[3,2,1,0,4,5,6,7]
@@ -5373,21 +5371,20 @@ aes_v1.aes_narrow.borrowed_words.call_to_encrypt: # @aes_v1.aes_narrow.borrowed_
 	pshufhw	$27, %xmm1, %xmm1               # xmm1 = xmm1[0,1,2,3,7,6,5,4]
 	packuswb	%xmm2, %xmm1
 	movdqa	%xmm1, 48(%rsp)
-	incq	%rax
-	addq	%rdx, %rax
+	addq	$1, %rdx
 	adcq	$0, %rcx
 	movq	%rcx, %xmm1
-	movq	%rax, %xmm2
-	punpcklbw	%xmm0, %xmm2            # xmm2 = xmm2[0],xmm0[0],xmm2[1],xmm0[1],xmm2[2],xmm0[2],xmm2[3],xmm0[3],xmm2[4],xmm0[4],xmm2[5],xmm0[5],xmm2[6],xmm0[6],xmm2[7],xmm0[7]
-	pshufd	$78, %xmm2, %xmm2               # xmm2 = xmm2[2,3,0,1]
-	pshuflw	$27, %xmm2, %xmm2               # xmm2 = xmm2[3,2,1,0,4,5,6,7]
-	pshufhw	$27, %xmm2, %xmm2               # xmm2 = xmm2[0,1,2,3,7,6,5,4]
+	movq	%rdx, %xmm2
 	punpcklbw	%xmm0, %xmm1            # xmm1 = xmm1[0],xmm0[0],xmm1[1],xmm0[1],xmm1[2],xmm0[2],xmm1[3],xmm0[3],xmm1[4],xmm0[4],xmm1[5],xmm0[5],xmm1[6],xmm0[6],xmm1[7],xmm0[7]
-	pshufd	$78, %xmm1, %xmm0               # xmm0 = xmm1[2,3,0,1]
+	pshufd	$78, %xmm1, %xmm1               # xmm1 = xmm1[2,3,0,1]
+	pshuflw	$27, %xmm1, %xmm1               # xmm1 = xmm1[3,2,1,0,4,5,6,7]
+	pshufhw	$27, %xmm1, %xmm1               # xmm1 = xmm1[0,1,2,3,7,6,5,4]
+	punpcklbw	%xmm0, %xmm2            # xmm2 = xmm2[0],xmm0[0],xmm2[1],xmm0[1],xmm2[2],xmm0[2],xmm2[3],xmm0[3],xmm2[4],xmm0[4],xmm2[5],xmm0[5],xmm2[6],xmm0[6],xmm2[7],xmm0[7]
+	pshufd	$78, %xmm2, %xmm0               # xmm0 = xmm2[2,3,0,1]
 	pshuflw	$27, %xmm0, %xmm0               # xmm0 = xmm0[3,2,1,0,4,5,6,7]
 	pshufhw	$27, %xmm0, %xmm0               # xmm0 = xmm0[0,1,2,3,7,6,5,4]
-	packuswb	%xmm2, %xmm0
-	movdqa	%xmm0, 64(%rsp)
+	packuswb	%xmm0, %xmm1
+	movdqa	%xmm1, 64(%rsp)
 	leaq	48(%rsp), %rdx
 	movl	$2, %ecx
 	movq	16(%rsp), %rdi                  # 8-byte Reload
@@ -5455,9 +5452,6 @@ aes_v1.aes_ctr.add_in_batches.add_next: # @aes_v1.aes_ctr.add_in_batches.add_nex
 	subq	%rcx, %r14
 	cmpq	%rax, %r14
 	cmovaeq	%rax, %r14
-	leal	(%r14,%r13), %ecx
-	addl	$15, %ecx
-	shrq	$4, %rdx
 	pxor	%xmm0, %xmm0
 	movdqa	%xmm0, 240(%rsp)
 	movdqa	%xmm0, 224(%rsp)
@@ -5473,16 +5467,17 @@ aes_v1.aes_ctr.add_in_batches.add_next: # @aes_v1.aes_ctr.add_in_batches.add_nex
 	movdqa	%xmm0, 64(%rsp)
 	movdqa	%xmm0, 48(%rsp)
 	movdqa	%xmm0, 32(%rsp)
-	movq	(%rsi), %rax
+	movq	(%rsi), %r8
+	movq	8(%rsi), %rax
+	bswapq	%r8
 	bswapq	%rax
-	movq	8(%rsi), %rsi
-	bswapq	%rsi
-	movq	%rsi, %r8
-	addq	%rdx, %r8
-	movq	%rax, %r9
-	adcq	$0, %r9
-	movq	%r9, %xmm1
-	movq	%r8, %xmm2
+	shrq	$4, %rdx
+	addq	%rdx, %rax
+	adcq	$0, %r8
+	leal	(%r14,%r13), %ecx
+	addl	$15, %ecx
+	movq	%r8, %xmm1
+	movq	%rax, %xmm2
 	punpcklbw	%xmm0, %xmm2            # xmm2 = xmm2[0],xmm0[0],xmm2[1],xmm0[1],xmm2[2],xmm0[2],xmm2[3],xmm0[3],xmm2[4],xmm0[4],xmm2[5],xmm0[5],xmm2[6],xmm0[6],xmm2[7],xmm0[7]
 	pshufd	$78, %xmm2, %xmm2               # xmm2 = xmm2[2,3,0,1]
 	pshuflw	$27, %xmm2, %xmm2               # xmm2 = xmm2[3,2,1,0,4,5,6,7]
@@ -5493,21 +5488,20 @@ aes_v1.aes_ctr.add_in_batches.add_next: # @aes_v1.aes_ctr.add_in_batches.add_nex
 	pshufhw	$27, %xmm1, %xmm1               # xmm1 = xmm1[0,1,2,3,7,6,5,4]
 	packuswb	%xmm2, %xmm1
 	movdqa	%xmm1, (%rsp)
-	incq	%rdx
-	addq	%rsi, %rdx
-	adcq	$0, %rax
-	movq	%rax, %xmm1
-	movq	%rdx, %xmm2
-	punpcklbw	%xmm0, %xmm2            # xmm2 = xmm2[0],xmm0[0],xmm2[1],xmm0[1],xmm2[2],xmm0[2],xmm2[3],xmm0[3],xmm2[4],xmm0[4],xmm2[5],xmm0[5],xmm2[6],xmm0[6],xmm2[7],xmm0[7]
-	pshufd	$78, %xmm2, %xmm2               # xmm2 = xmm2[2,3,0,1]
-	pshuflw	$27, %xmm2, %xmm2               # xmm2 = xmm2[3,2,1,0,4,5,6,7]
-	pshufhw	$27, %xmm2, %xmm2               # xmm2 = xmm2[0,1,2,3,7,6,5,4]
+	addq	$1, %rax
+	adcq	$0, %r8
+	movq	%r8, %xmm1
+	movq	%rax, %xmm2
 	punpcklbw	%xmm0, %xmm1            # xmm1 = xmm1[0],xmm0[0],xmm1[1],xmm0[1],xmm1[2],xmm0[2],xmm1[3],xmm0[3],xmm1[4],xmm0[4],xmm1[5],xmm0[5],xmm1[6],xmm0[6],xmm1[7],xmm0[7]
-	pshufd	$78, %xmm1, %xmm0               # xmm0 = xmm1[2,3,0,1]
+	pshufd	$78, %xmm1, %xmm1               # xmm1 = xmm1[2,3,0,1]
+	pshuflw	$27, %xmm1, %xmm1               # xmm1 = xmm1[3,2,1,0,4,5,6,7]
+	pshufhw	$27, %xmm1, %xmm1               # xmm1 = xmm1[0,1,2,3,7,6,5,4]
+	punpcklbw	%xmm0, %xmm2            # xmm2 = xmm2[0],xmm0[0],xmm2[1],xmm0[1],xmm2[2],xmm0[2],xmm2[3],xmm0[3],xmm2[4],xmm0[4],xmm2[5],xmm0[5],xmm2[6],xmm0[6],xmm2[7],xmm0[7]
+	pshufd	$78, %xmm2, %xmm0               # xmm0 = xmm2[2,3,0,1]
 	pshuflw	$27, %xmm0, %xmm0               # xmm0 = xmm0[3,2,1,0,4,5,6,7]
 	pshufhw	$27, %xmm0, %xmm0               # xmm0 = xmm0[0,1,2,3,7,6,5,4]
-	packuswb	%xmm2, %xmm0
-	movdqa	%xmm0, 16(%rsp)
+	packuswb	%xmm0, %xmm1
+	movdqa	%xmm1, 16(%rsp)
 	andl	$112, %ecx
 	movq	(%rdi), %rax
 	movq	8(%rdi), %rsi
@@ -6435,33 +6429,33 @@ aes_v1.key_wrap.steps.wrap_in_place: # @aes_v1.key_wrap.steps.wrap_in_place
 .Laes_v1_func_end17:
 	.size	aes_v1.key_wrap.steps.wrap_in_place, .Laes_v1_func_end17-aes_v1.key_wrap.steps.wrap_in_place
                                         # -- End function
-	.section	.text.aes_v1.aes_cipher.zeroize.stack.wipe_stack.520,"ax",@progbits
-	.p2align	4                               # -- Begin function aes_cipher::zeroize::stack::wipe_stack::<=520>
-	.type	aes_v1.aes_cipher.zeroize.stack.wipe_stack.520,@function
-aes_v1.aes_cipher.zeroize.stack.wipe_stack.520: # @aes_v1.aes_cipher.zeroize.stack.wipe_stack.520
+	.section	.text.aes_v1.aes_cipher.zeroize.stack.wipe_stack.512,"ax",@progbits
+	.p2align	4                               # -- Begin function aes_cipher::zeroize::stack::wipe_stack::<=512>
+	.type	aes_v1.aes_cipher.zeroize.stack.wipe_stack.512,@function
+aes_v1.aes_cipher.zeroize.stack.wipe_stack.512: # @aes_v1.aes_cipher.zeroize.stack.wipe_stack.512
 # %bb.0:                                # %start
-	subq	$536, %rsp                      # imm = 0x218
-	leaq	16(%rsp), %rdi
-	movl	$520, %edx                      # imm = 0x208
+	subq	$520, %rsp                      # imm = 0x208
+	leaq	8(%rsp), %rdi
+	movl	$512, %edx                      # imm = 0x200
 	xorl	%esi, %esi
 	callq	*memset@GOTPCREL(%rip)
-	movq	$0, 8(%rsp)
+	movq	$0, (%rsp)
 	#APP
 	#NO_APP
-	movq	8(%rsp), %rax
+	movq	(%rsp), %rax
 	#APP
 	#NO_APP
-	cmpq	$520, %rax                      # imm = 0x208
+	cmpq	$512, %rax                      # imm = 0x200
 	jae	.Laes_v1_BB18_2
 # %bb.1:                                # %then.1
-	movzbl	16(%rsp,%rax), %eax
+	movzbl	8(%rsp,%rax), %eax
 	#APP
 	#NO_APP
-	xchgq	%rax, 8(%rsp)
+	xchgq	%rax, (%rsp)
 	#APP
 	#NO_APP
 .Laes_v1_BB18_2:                               # %common.ret
-	addq	$536, %rsp                      # imm = 0x218
+	addq	$520, %rsp                      # imm = 0x208
 	pxor	%xmm0, %xmm0
 	pxor	%xmm1, %xmm1
 	pxor	%xmm2, %xmm2
@@ -6488,7 +6482,7 @@ aes_v1.aes_cipher.zeroize.stack.wipe_stack.520: # @aes_v1.aes_cipher.zeroize.sta
 	xorl	%r11d, %r11d
 	retq
 .Laes_v1_func_end18:
-	.size	aes_v1.aes_cipher.zeroize.stack.wipe_stack.520, .Laes_v1_func_end18-aes_v1.aes_cipher.zeroize.stack.wipe_stack.520
+	.size	aes_v1.aes_cipher.zeroize.stack.wipe_stack.512, .Laes_v1_func_end18-aes_v1.aes_cipher.zeroize.stack.wipe_stack.512
                                         # -- End function
 	.section	.text.aes_v1.key_wrap.padded.wrap_padded,"ax",@progbits
 	.p2align	4                               # -- Begin function key_wrap::padded::wrap_padded::<#4f733d09d7f6c6b4>
@@ -14893,7 +14887,7 @@ aes_v1.fotsgure_aes_wrap:                      # @aes_v1.fotsgure_aes_wrap
 	movq	%rax, %rcx
 	callq	aes_v1.key_wrap.wrapping.wrap
 	movl	%eax, %ebx
-	callq	aes_v1.aes_cipher.zeroize.stack.wipe_stack.520
+	callq	aes_v1.aes_cipher.zeroize.stack.wipe_stack.512
 	movzbl	%bl, %eax
 	leal	(%rax,%rax,4), %eax
 	addq	$16, %rsp
@@ -14964,7 +14958,7 @@ aes_v1.fotsgure_aes_wrap_padded:               # @aes_v1.fotsgure_aes_wrap_padde
 	movq	%rax, %rcx
 	callq	aes_v1.key_wrap.padded.wrap_padded
 	movl	%eax, %ebx
-	callq	aes_v1.aes_cipher.zeroize.stack.wipe_stack.520
+	callq	aes_v1.aes_cipher.zeroize.stack.wipe_stack.512
 	movzbl	%bl, %eax
 	leal	(%rax,%rax,4), %eax
 	addq	$16, %rsp
@@ -15309,7 +15303,7 @@ aes_v1.fotsgure_aes_unwrap:                    # @aes_v1.fotsgure_aes_unwrap
 	callq	aes_v1.key_wrap.wrapping.unwrap
 	movl	%eax, %ebx
 	movl	%edx, %ebp
-	callq	aes_v1.aes_cipher.zeroize.stack.wipe_stack.520
+	callq	aes_v1.aes_cipher.zeroize.stack.wipe_stack.512
 	cmpb	$1, %bpl
 	movl	$6, %ecx
 	sbbl	$0, %ecx
@@ -15389,7 +15383,7 @@ aes_v1.fotsgure_aes_unwrap_padded:             # @aes_v1.fotsgure_aes_unwrap_pad
 	leaq	16(%rsp), %rsi
 	movq	%r10, %rcx
 	callq	aes_v1.key_wrap.padded.unwrap_padded
-	callq	aes_v1.aes_cipher.zeroize.stack.wipe_stack.520
+	callq	aes_v1.aes_cipher.zeroize.stack.wipe_stack.512
 	cmpb	$0, 8(%rsp)
 	je	.Laes_v1_BB55_3
 # %bb.4:                                # %arm.5.i
@@ -15468,7 +15462,7 @@ aes_v1.fotsgure_aes_inv_mix_columns:           # @aes_v1.fotsgure_aes_inv_mix_co
 	pushq	%rax
 	callq	aes_v1.aes_c.single_rounds.inverse_mixed
 	popq	%rax
-	jmp	aes_v1.aes_cipher.zeroize.stack.wipe_stack.520 # TAILCALL
+	jmp	aes_v1.aes_cipher.zeroize.stack.wipe_stack.512 # TAILCALL
 .Laes_v1_func_end56:
 	.size	aes_v1.fotsgure_aes_inv_mix_columns, .Laes_v1_func_end56-aes_v1.fotsgure_aes_inv_mix_columns
                                         # -- End function
@@ -15482,7 +15476,7 @@ aes_v1.fotsgure_aes_equiv_inv_cipher_round:    # @aes_v1.fotsgure_aes_equiv_inv_
 	pushq	%rax
 	callq	aes_v1.aes_c.single_rounds.inverse_round
 	popq	%rax
-	jmp	aes_v1.aes_cipher.zeroize.stack.wipe_stack.520 # TAILCALL
+	jmp	aes_v1.aes_cipher.zeroize.stack.wipe_stack.512 # TAILCALL
 .Laes_v1_func_end57:
 	.size	aes_v1.fotsgure_aes_equiv_inv_cipher_round, .Laes_v1_func_end57-aes_v1.fotsgure_aes_equiv_inv_cipher_round
                                         # -- End function
@@ -15496,7 +15490,7 @@ aes_v1.fotsgure_aes_equiv_inv_cipher_round_par: # @aes_v1.fotsgure_aes_equiv_inv
 	pushq	%rax
 	callq	aes_v1.aes_c.single_rounds.inverse_rounds
 	popq	%rax
-	jmp	aes_v1.aes_cipher.zeroize.stack.wipe_stack.520 # TAILCALL
+	jmp	aes_v1.aes_cipher.zeroize.stack.wipe_stack.512 # TAILCALL
 .Laes_v1_func_end58:
 	.size	aes_v1.fotsgure_aes_equiv_inv_cipher_round_par, .Laes_v1_func_end58-aes_v1.fotsgure_aes_equiv_inv_cipher_round_par
                                         # -- End function
@@ -15510,7 +15504,7 @@ aes_v1.fotsgure_aes_mix_columns:               # @aes_v1.fotsgure_aes_mix_column
 	pushq	%rax
 	callq	aes_v1.aes_c.single_rounds.mixed
 	popq	%rax
-	jmp	aes_v1.aes_cipher.zeroize.stack.wipe_stack.520 # TAILCALL
+	jmp	aes_v1.aes_cipher.zeroize.stack.wipe_stack.512 # TAILCALL
 .Laes_v1_func_end59:
 	.size	aes_v1.fotsgure_aes_mix_columns, .Laes_v1_func_end59-aes_v1.fotsgure_aes_mix_columns
                                         # -- End function
@@ -15814,7 +15808,7 @@ aes_v1.fotsgure_aes_cipher_round:              # @aes_v1.fotsgure_aes_cipher_rou
 	pushq	%rax
 	callq	aes_v1.aes_c.single_rounds.round
 	popq	%rax
-	jmp	aes_v1.aes_cipher.zeroize.stack.wipe_stack.520 # TAILCALL
+	jmp	aes_v1.aes_cipher.zeroize.stack.wipe_stack.512 # TAILCALL
 .Laes_v1_func_end62:
 	.size	aes_v1.fotsgure_aes_cipher_round, .Laes_v1_func_end62-aes_v1.fotsgure_aes_cipher_round
                                         # -- End function
@@ -15828,7 +15822,7 @@ aes_v1.fotsgure_aes_cipher_round_par:          # @aes_v1.fotsgure_aes_cipher_rou
 	pushq	%rax
 	callq	aes_v1.aes_c.single_rounds.rounds
 	popq	%rax
-	jmp	aes_v1.aes_cipher.zeroize.stack.wipe_stack.520 # TAILCALL
+	jmp	aes_v1.aes_cipher.zeroize.stack.wipe_stack.512 # TAILCALL
 .Laes_v1_func_end63:
 	.size	aes_v1.fotsgure_aes_cipher_round_par, .Laes_v1_func_end63-aes_v1.fotsgure_aes_cipher_round_par
                                         # -- End function
@@ -16256,5 +16250,5 @@ aes_v1.fotsgure_aes_ccm_seal:                  # @aes_v1.fotsgure_aes_ccm_seal
 	.long	9, 118, 1
 	.asciz	"Fotsgure"
 	.p2align	2, 0x0
-	.asciz	"fotsgure_aes 0.4.0, x86_64/aes_v1.s, sources SHA-256 222e14e9629ccf707f439ffafb95fc5ac461d2e86f506087f77957c80e1d9694"
+	.asciz	"fotsgure_aes 0.4.0, x86_64/aes_v1.s, sources SHA-256 c732908e78d2b372624172585b9f92240ec267c9ba5336c6cdc7451f61a8db18"
 	.p2align	2, 0x0

@@ -15,7 +15,7 @@ use aes_cipher::zeroize::wipe_stack;
 use aes_soft::soft::hazmat;
 
 // The most bytes of stack of a round.
-const ROUND_STACK: usize = 520;
+const ROUND_STACK: usize = 512;
 
 #[inline(never)]
 fn round(block: &mut Block, round_key: &Block)

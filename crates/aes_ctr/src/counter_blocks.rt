@@ -11,20 +11,10 @@ pub trait CounterBlocks {
     /// Counter block j, the initial one being that of 0.
     ghost block: { Self → ℕ → List ℕ };
 
-    /// Returns counter block `first + i`.
-    fn at(&self, first: u64, i: usize) -> Block
-        ensures { result ≡ block self.now (first + i) };
-
     /// Writes counter blocks, from number `first` on.
-    #[inline(always)]
     fn put(&self, first: u64, blocks: &mut [Block])
         ensures { (i : ℕ) → i < length blocks.old
-            → slice_index_or blocks.new i [] ≡ block self.now (first + i) }
-    {
-        for i in 0..blocks.len() {
-            blocks[i] = self.at(first, i);
-        }
-    }
+            → slice_index_or blocks.new i [] ≡ block self.now (first + i) };
 }
 
 /// An initial counter block that is counted as a whole: a number with its highest byte first,
@@ -37,10 +27,13 @@ pub struct WholeBlock {
 impl CounterBlocks for WholeBlock {
     ghost block = { λ counters. counter_block counters.iv };
 
-    #[tactic(auto, unfolding(crate::specs::CounterMode::counter, crate::specs::CounterMode::counter_block))]
+    #[tactic(auto, using(crate::proofs::Counters::counted))]
     #[inline(always)]
-    fn at(&self, first: u64, i: usize) -> Block {
-        let counter = u128::from_be_bytes(self.iv).wrapping_add(first as u128 + i as u128);
-        block_of_number(counter)
+    fn put(&self, first: u64, blocks: &mut [Block]) {
+        let mut counter = u128::from_be_bytes(self.iv).wrapping_add(first as u128);
+        for i in 0..blocks.len() {
+            blocks[i] = block_of_number(counter);
+            counter = counter.wrapping_add(1);
+        }
     }
 }

@@ -6,9 +6,7 @@ ghost use Rattle.std.specs.Prelude.{◌≡◌, ◌*◌, ◌+◌, ◌%◌, ◌^�
 ghost use Rattle.gcm.specs.Gcm.{product};
 ghost use Rattle.gcm.specs.Carryless.{carryless};
 
-use crate::numbers::number_of;
-use crate::singly::Factor;
-use std::simd::prelude::*;
+use crate::alone::Multiplier;
 
 // Every fourth bit of a word, from bit 0, 1, 2 or 3 on.
 const HOLES_0: u32 = 0x1111_1111;
@@ -87,21 +85,12 @@ pub fn product_with_holes(x: u128, h: u128) -> u128
     kept ^ (all ^ all >> 1 ^ all >> 2 ^ all >> 7)
 }
 
-/// The block H, which is multiplied by products of numbers with holes between their bits.
-#[derive(Drop)]
-pub struct WithHoles {
-    pub h: u128,
-}
+/// Products with holes between the bits of numbers.
+pub struct WithHoles;
 
-impl Factor for WithHoles {
-    type Value = u128;
-
-    ghost number = { λ value. value };
-
-    ghost subkey = { λ factor. factor.h };
-
+impl Multiplier for WithHoles {
     #[inline(always)]
-    fn after(&self, value: u128, block: u8x16) -> u128 {
-        product_with_holes(value ^ number_of(block), self.h)
+    fn product(x: u128, h: u128) -> u128 {
+        product_with_holes(x, h)
     }
 }

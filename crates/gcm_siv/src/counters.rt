@@ -36,12 +36,14 @@ struct FirstBits {
 impl CounterBlocks for FirstBits {
     ghost block = { λ counters. counter_block counters.start };
 
-    #[tactic(auto, unfolding(crate::specs::GcmSiv::counter, crate::specs::GcmSiv::counter_block))]
+    #[tactic(auto, using(crate::proofs::CounterBlocks::counted))]
     #[inline(always)]
-    fn at(&self, first: u64, i: usize) -> Block {
-        let number = (first as u128 + i as u128) % (1 << 32);
-        let counter = counter_of(&self.start).wrapping_add(number as u32);
-        with_counter(counter, &self.start)
+    fn put(&self, first: u64, blocks: &mut [Block]) {
+        let mut counter = counter_of(&self.start).wrapping_add((first % (1 << 32)) as u32);
+        for i in 0..blocks.len() {
+            blocks[i] = with_counter(counter, &self.start);
+            counter = counter.wrapping_add(1);
+        }
     }
 }
 

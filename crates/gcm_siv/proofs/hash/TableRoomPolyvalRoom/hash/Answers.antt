@@ -1,0 +1,21 @@
+-- What is left to show of `hash::TableRoomPolyvalRoom::hash`.
+use Rattle.std.proofs.Common.{◌≡◌, ℕ, List, ◌/◌, ◌∙◌, ap, bit_xor, length}
+use Rattle.std.specs.Int.{w128, from_le_bytes, to_le_bytes}
+use Rattle.gcm.specs.Gcm.{padded, product}
+use Rattle.gcm.specs.Hashed.{hashed_as}
+use Rattle.gcm_siv.proofs.Hashing.{hash_is}
+use Rattle.gcm_siv.proofs.hash.TableRoomPolyvalRoom.hash.Goals as goal
+
+pub returns : goal.returns
+returns c h small is =
+    let g : ℕ = c.lent-table.result in
+    let a : List ℕ = c.args.additional.now in
+    let p : List ℕ = c.args.text.now in
+    let on = λ (s : ℕ) (x : List ℕ). hashed_as (from_le_bytes w128) g s (padded x)
+    (length (padded x) / 16) in
+    c.bytes_of.ensures
+    ∙ ap (to_le_bytes w128) (c.product.ensures
+    ∙ ap (λ v. product v g) (c.sum.ensures ∙ (λ t. bit_xor
+    ((c.hash_singly-second.ensures ∙ ap (λ s. on s p) c.hash_singly-first.ensures) t)
+    (c.last_block-end.ensures t)))
+    ∙ hash_is h g a p (c.lent-table.ensures ∙ is) small)
