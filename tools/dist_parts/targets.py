@@ -105,7 +105,7 @@ MADE_OF = {
 # Functions that small code has once each, where the quick code has them in each caller: the circuits of the S-boxes, the column mixing of
 # each round of a period, the exchanges of bits, the steps of the key expansion, and those of counter mode.
 ONCE = r"""aes_planes::soft::(?:sbox::(?:inv_)?sub_bytes(?:_nots)?|mix_columns::(?:inv_)?mix_columns_[0-3]|word::transpose::transpose
-    |utils::(?:shifts::(?:swap_columns|delta_swap_1)|copies::(?:store_)?round_key|key_columns::\w+))
+    |shifts::(?:swap_columns|delta_swap_1)|copies::(?:store_)?round_key|key_columns::\w+)
     |aes_soft::soft::(?:plane_words::(?:substitute|PlaneWordsFourWords::\w+)|key_layout::store)
     |aes_ctr::(?:add_blocks::add_(?:blocks|part)|counter_blocks::WholeBlockCounterBlocks::put|keystream::fill_by_backend
     |add_in_batches::add_(?:to_one|batch|by_backend))""".replace("\n    ", "")

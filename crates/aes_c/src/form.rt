@@ -8,7 +8,6 @@
 //! - `Aes` is the struct that a caller keeps, for both directions, with a field `key: KeptKey`.
 //! - Both are `repr(C)`, `Drop`, `NotClone` and `Zeroize`, and have a method `set(key: &[u8])`. It
 //!   takes a key of 16, 24 or 32 bytes, reads nothing of the struct and leaves nothing of it.
-//! - `is_key_size(bytes)` says whether keys have this many bytes.
 //! - `cipher_of(&aes.key)` and `inverse_cipher_of(aes)` lend the key of a struct that holds one, as a
 //!   cipher that encrypts, which is a `BuildCipher`, and as one that decrypts.
 //! - `RoundWord` is the word on which single rounds are computed.
@@ -21,7 +20,7 @@ use crate::width::BuildWidth;
 use aes_cipher::cipher::{Decrypt, Encrypt};
 use aes_hybrid::borrowed_cipher::BorrowedCipher;
 use aes_hybrid::kept_key::KeptBothWays;
-pub(crate) use aes_hybrid::kept_key::{KeptKey, is_key_size};
+pub(crate) use aes_hybrid::kept_key::KeptKey;
 use aes_soft::soft::blocks::BatchWord;
 
 /// The word on which single rounds are computed: one for all of them, so that the circuits are in

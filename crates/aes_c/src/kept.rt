@@ -4,8 +4,9 @@ ghost use Rattle.std.specs.Prelude.{◌≡◌, ◌≢◌, ◌↔◌, length};
 ghost use Rattle.aes_cipher.specs.KeySizes.{IsKeySize};
 ghost use Rattle.aes_c.specs.Form.{key_in, no_key, HoldsKey, IsMade, IsZeroAfter};
 
-use crate::form::{Aes, is_key_size};
+use crate::form::Aes;
 use crate::status::{DONE, KEY_LENGTH};
+use aes_cipher::aes::is_key_size;
 use aes_cipher::zeroize::Zeroize;
 
 /// Expands a key into the struct (KeyExpansion, FIPS 197, 5.2). Returns `DONE` exactly if the key

@@ -7,10 +7,11 @@ ghost use Rattle.aes_cipher.specs.KeySizes.{IsKeySize};
 ghost use Rattle.aes_ctr.specs.CounterMode.{keystream_byte, plus_stream};
 
 use crate::blocks::fotsgure_aes_decrypt_blocks;
-use crate::form::{Aes, KeptKey, cipher_of, is_key_size};
+use crate::form::{Aes, KeptKey, cipher_of};
 use crate::kept::fotsgure_aes_set_key;
 use crate::status::{DONE, KEY_LENGTH, KEYSTREAM_END};
 use crate::stream::Ctr;
+use aes_cipher::aes::is_key_size;
 use aes_cipher::cipher::{Block, BlockCipherEncrypt};
 use aes_cipher::zeroize::MustWipe;
 use aes_ctr::add_keystream;

@@ -19,8 +19,8 @@ pub fn cbc_there_and_back<C: BlockCipherEncrypt + BlockCipherDecrypt>(
     laws::is_block(*iv);
     laws::are_blocks(blocks);
     cipher.has_round_keys();
-    let mut there = Cbc { previous: *iv };
-    there.encrypt_blocks(cipher, blocks);
-    let mut back = Cbc { previous: *iv };
-    back.decrypt_blocks(cipher, blocks);
+    let mut encrypting = Cbc { previous: *iv };
+    encrypting.encrypt_blocks(cipher, blocks);
+    let mut decrypting = Cbc { previous: *iv };
+    decrypting.decrypt_blocks(cipher, blocks);
 }

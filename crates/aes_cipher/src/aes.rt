@@ -19,7 +19,7 @@ use crate::zeroize::ZeroizeOnDrop;
 use aes_planes::laws;
 pub use counted::CountsLayers;
 pub use direction_sets::{Allows, BothWays, Directions};
-pub use key_sizes::{Bits128, Bits192, Bits256, KeySize};
+pub use key_sizes::{Bits128, Bits192, Bits256, KeySize, is_key_size};
 use std::marker::{Model, PhantomData};
 pub use stored_keys::{Decrypts, Encrypts, MadeFrom, Processes, StoredKeys};
 

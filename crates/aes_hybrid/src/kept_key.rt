@@ -7,10 +7,10 @@ ghost use Rattle.aes_hybrid.specs.KeptKey.{IsKeptBothWays, IsZeroAfter, IsZeroAf
 
 use crate::borrowed_cipher::BorrowedCipher;
 use crate::widths::Width;
+use aes_cipher::aes::is_key_size;
 use aes_cipher::cipher::{Decrypt, Encrypt};
 use aes_cipher::not_clone::NotClone;
 use aes_cipher::zeroize::{Zeroize, zeroize_elements};
-pub use aes_permute::lane_room::is_key_size;
 use aes_permute::lane_room::{LaneRoom, expand_in_room, invert_in_room, keys_in_room};
 
 /// A key that is kept to encrypt. Its blocks are as secret as the key.

@@ -11,7 +11,7 @@ ghost use Rattle.aes_permute.specs.Keys.{key_of_lanes, IsCipherSchedule};
 use aes_cipher::not_clone::NotClone;
 use aes_cipher::zeroize::zeroize_words;
 use aes_permute::rounds::out_of_tower;
-use aes_planes::soft::utils::store_round_key;
+use aes_planes::soft::copies::store_round_key;
 use aes_planes::soft::word::{Block, Word};
 use std::simd::prelude::*;
 

@@ -10,7 +10,7 @@ pub all_taken : {X : Type 0} (k : ℕ) (xs ys : List X) → k ≡ length xs → 
 all_taken k xs ys e p =
     ap (λ m. take m ys) (sym e) ∙ p ∙ take_all k xs (omega (arith, e))
 
--- and from there
+-- elements that were copied one by one from the front of others
 pub all_put : {X : Type 0} (k n : ℕ) (xs ys : List X) → k ≡ n → length xs ≡ n
     → take k xs ≡ take k ys → xs ≡ take n ys
 all_put k n xs ys e l p =
@@ -28,7 +28,7 @@ pub record Worked {X : Type 0} (f : X → X) (done : ℕ) (old now : List X) : T
   pub same : length now ≡ length old
   pub value : finished f done now ≡ map f old
 
--- n more of them are replaced by f of each
+-- the loop comes n places further: f of each of n more elements stands in its place
 pub next_run : {X : Type 0} (f : X → X) (done n k : ℕ) (old now ys : List X)
     → Worked f done old now → k ≡ n → done + n ≤ length now
     → ys ≡ map f (take k (drop done now)) → Worked f (done + n) old (put_mid done k now ys)

@@ -7,8 +7,8 @@ ghost use Rattle.aes_planes.specs.Planes.{held};
 ghost use Rattle.aes_soft.specs.Stored.{key_of_planes, IsFullSchedule};
 
 use aes_cipher::zeroize::wipe_stack;
+use aes_planes::soft::copies::every_slot;
 use aes_planes::soft::sbox::Layers;
-use aes_planes::soft::utils::every_slot;
 use aes_planes::soft::word::{Batch, Block, Word};
 use aes_soft::soft::{Full, PlaneCipher};
 

@@ -7,7 +7,8 @@ ghost use Rattle.aes_narrow.specs.KeptKey.{key_in, no_key, HoldsKey, IsKept, IsZ
 
 use crate::borrowed_words::BorrowedWords;
 use crate::kept_word::KeptWord;
-use crate::word_room::{WordRoom, expand_in_words, is_key_size, keys_in_words};
+use crate::word_room::{WordRoom, expand_in_words, keys_in_words};
+use aes_cipher::aes::is_key_size;
 use aes_cipher::not_clone::NotClone;
 use aes_cipher::zeroize::{Zeroize, zeroize_elements};
 

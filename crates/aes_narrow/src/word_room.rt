@@ -1,7 +1,7 @@
 //! Room for the planes of stored round keys of a key of any size, and the first of its words, which
 //! are the round keys.
 
-ghost use Rattle.std.specs.Prelude.{◌≡◌, ◌↔◌, ◌+◌, ◌*◌, drop, length, take, IsTrue};
+ghost use Rattle.std.specs.Prelude.{◌≡◌, ◌+◌, ◌*◌, drop, length, take};
 ghost use Rattle.aes_cipher.specs.KeySizes.{IsKeySize};
 ghost use Rattle.aes_soft.specs.Stored.{key_of_planes, words_for, IsFullSchedule};
 
@@ -13,13 +13,6 @@ use aes_soft::soft::{Full, expand_stored};
 /// Room for the round keys of a key of any size in the full layout: as many words as the largest
 /// has.
 pub type WordRoom<W> = [W; 120];
-
-/// Returns whether keys have so many bytes: 16, 24 or 32.
-pub fn is_key_size(bytes: usize) -> bool
-    ensures { IsTrue result ↔ IsKeySize bytes }
-{
-    bytes == 16 || bytes == 24 || bytes == 32
-}
 
 /// Returns the stored round keys of a key of `size` bytes: the first of the words.
 #[inline(always)]

@@ -1,7 +1,7 @@
 //! Room for stored round keys of a key of any size, and the first
 //! of its blocks, which are the round keys.
 
-ghost use Rattle.std.specs.Prelude.{◌≡◌, ◌↔◌, ◌+◌, ◌/◌, drop, length, IsTrue};
+ghost use Rattle.std.specs.Prelude.{◌≡◌, ◌+◌, ◌/◌, drop, length};
 ghost use Rattle.aes_cipher.specs.KeySizes.{IsKeySize};
 ghost use Rattle.aes_permute.specs.Keys.{key_of_lanes, stored_keys, AreInverse, IsCipherSchedule};
 
@@ -10,13 +10,6 @@ use aes_planes::soft::word::Block;
 
 /// Room for the round keys of a key of any size: as many blocks as the largest has.
 pub type LaneRoom = [Block; 15];
-
-/// Returns whether keys have this many bytes: 16, 24 or 32.
-pub fn is_key_size(bytes: usize) -> bool
-    ensures { IsTrue result ↔ IsKeySize bytes }
-{
-    bytes == 16 || bytes == 24 || bytes == 32
-}
 
 /// Returns the stored round keys of a key of `size` bytes: the first of the blocks.
 #[inline(always)]

@@ -50,7 +50,7 @@ left_keeps (suc n) a b y =
     ∙ exchanged (carryless n (a / 2) y * 2) (carryless n (b / 2) y * 2) (term (a % 2) y)
     (term (b % 2) y)
 
--- and in the second
+-- a product without carries keeps sums in the second factor
 pub right_keeps : (n x a b : ℕ) → carryless n x (bit_xor a b)
     ≡ bit_xor (carryless n x a) (carryless n x b)
 unfolding carryless term
@@ -233,7 +233,7 @@ lost_keeps : (k a b : ℕ) → bit_xor a b * 2 ^ k % 2 ^ 128
 lost_keeps k a b =
     ap (λ z. z % 2 ^ 128) (sym (shift_keeps k a b)) ∙ xor_mod (a * 2 ^ k) (b * 2 ^ k) 128
 
--- so does the sum of such shifts
+-- the sum of shifts that lose bits keeps sums
 spread_keeps : (a b : ℕ) → spread (bit_xor a b) ≡ bit_xor (spread a) (spread b)
 unfolding spread
 spread_keeps a b =

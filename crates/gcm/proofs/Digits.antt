@@ -99,11 +99,11 @@ bits_apart : (x n : ℕ) → bit_and x (holes (suc n))
 bits_apart x n = holes_next x n
     ∙ sym (joined 4 (bit_and (x / 16) (holes n)) (x % 2) (omega arith))
 
--- what is left of any number under no mask
+-- nothing is left of a number under a mask of no bit
 none_left : (x : ℕ) → bit_and x 0 ≡ 0
 none_left x = omega (arith, and_le_r x 0)
 
--- and under that of no digit
+-- nothing is left of a number under the mask of no digit
 none_masked : (x : ℕ) → bit_and x (holes 0) ≡ 0
 unfolding holes
 none_masked x = none_left x
@@ -247,7 +247,7 @@ digits_times (suc k) n x y small is also =
 unfoldable pub every_fourth : ℕ → ℕ → ℕ
 every_fourth x r = bit_and x (holes 8 * 2 ^ r)
 
--- those bits, shifted to bit 0
+-- every fourth bit of a word from bit r on, shifted to bit 0
 from_first : (x r : ℕ) → every_fourth x r ≡ bit_and (x / 2 ^ r) (holes 8) * 2 ^ r
 unfolding every_fourth
 from_first x r =
@@ -407,7 +407,7 @@ products_sum x y hx hy =
     (every_fourth x))
     ∙ ap (λ z. carryless 32 z y) (fourths_sum x hx)
 
--- the same of their lower halves
+-- the sum of the lower halves of the products of which the bits are at t, t + 4, ..
 unfoldable pub lower_at : ℕ → ℕ → ℕ → ℕ
 unfolding sum_of
 lower_at x y t =

@@ -37,7 +37,7 @@ mirrored : ℕ → ℕ → ℕ
 unfolding reversed
 mirrored x y = reversed (carryless 32 (reversed x) (reversed y) % 2 ^ 32) / 2
 
--- both keep sums of either factor
+-- `upper` and `mirrored` keep sums of either factor
 upper_left : (y a b : ℕ) → upper (bit_xor a b) y ≡ bit_xor (upper a y) (upper b y)
 unfolding upper
 upper_left y a b = ap (λ z. z / 2 ^ 32) (left_keeps 32 a b y)
@@ -83,12 +83,12 @@ unfolding upper mirrored reversed reverse_bits_onto
 none_right x = ap (λ z. z / 2 ^ 32) (right_zero 32 x)
     ∙ sym (ap (λ z. reversed (z % 2 ^ 32) / 2) (right_zero 32 (reversed x)))
 
--- they agree on two bits
+-- `upper` and `mirrored` agree on words of one bit
 pair_test : all_pairs 32 32 (λ i j. upper (2 ^ i) (2 ^ j) == mirrored (2 ^ i) (2 ^ j)) ≡ true
 unfolding all_below upper mirrored reversed carryless reverse_bits_onto
 pair_test = refl
 
--- they are the same
+-- the upper half of a product is what `mirrored` computes
 halves_are : (x y : ℕ) → x < 2 ^ 32 → y < 2 ^ 32 → upper x y ≡ mirrored x y
 halves_are x y hx hy =
     same_linear (λ x. upper x y) (λ x. mirrored x y) (none_left y) (upper_left y) (mirrored_left y) 32

@@ -5,9 +5,11 @@
 ghost use Rattle.std.specs.Prelude.{◌≡◌, ◌/◌, length};
 ghost use Rattle.gcm.specs.Gcm.{hashed, ghash, product};
 
-use crate::alone::{Multiplier, hash_whole};
 use crate::field::{if_one, next_v};
+use crate::numbers::number_of;
 use crate::order::HighestFirst;
+use crate::singly::{Factor, hash_whole};
+use std::simd::prelude::*;
 
 /// Returns the product of two blocks (6.3, algorithm 1): V_0, V_1, .. of H are summed where a bit
 /// of the other block is 1, by a mask for each.
@@ -26,13 +28,22 @@ pub fn product_bitwise(x: u128, h: u128) -> u128
     z
 }
 
-/// Products bit by bit, with masks.
-pub struct WithMasks;
+/// The block H, which is multiplied bit by bit, with masks.
+#[derive(Drop)]
+pub struct WithMasks {
+    pub h: u128,
+}
 
-impl Multiplier for WithMasks {
+impl Factor for WithMasks {
+    type Value = u128;
+
+    ghost number = { λ value. value };
+
+    ghost subkey = { λ factor. factor.h };
+
     #[inline(always)]
-    fn product(x: u128, h: u128) -> u128 {
-        product_bitwise(x, h)
+    fn after(&self, value: u128, block: u8x16) -> u128 {
+        product_bitwise(value ^ number_of(block), self.h)
     }
 }
 
@@ -41,5 +52,5 @@ pub fn hash_bitwise(h: u128, value: u128, blocks: &[u8]) -> u128
     ensures on { result ≡ hashed h value blocks.now (length blocks.now / 16) }
     ensures hash { value ≡ 0 → result ≡ ghash h blocks.now }
 {
-    hash_whole::<WithMasks, HighestFirst>(h, value, blocks)
+    hash_whole::<WithMasks, HighestFirst>(&WithMasks { h }, value, blocks)
 }

@@ -9,13 +9,13 @@ ghost use Rattle.gcm.specs.Gcm.{hashed, padded, product};
 ghost use Rattle.gcm.specs.Multiples.{subkey_in, HasMultiples, subkey_alone, IsAlone};
 ghost use Rattle.gcm.specs.Multiples.{subkey_of_words, AreWords};
 
-use crate::alone::{Multiplier, hash_on_by, hash_to_end_by};
-use crate::bitwise::WithMasks;
+use crate::bitwise::{WithMasks, product_bitwise};
 use crate::hash::{hash_string, hash_string_and};
-use crate::holes::WithHoles;
+use crate::holes::{WithHoles, product_with_holes};
 use crate::multiples::{Multiples, Room, put_multiples};
 use crate::numbers::{number_of, vector_of};
 use crate::order::HighestFirst;
+use crate::singly::{hash_on_singly, hash_to_end_singly};
 use crate::words::{number_of_words, words_of};
 use aes_cipher::blocks::{block_of_number, number_of_block};
 use aes_cipher::cipher::Block;
@@ -102,17 +102,19 @@ impl HashRoom for SubkeyRoom {
 
     #[inline(always)]
     fn product(&self, x: u128) -> u128 {
-        WithMasks::product(x, number_of_block(&self[0]))
+        product_bitwise(x, number_of_block(&self[0]))
     }
 
     #[inline(always)]
     fn hash_on(&self, value: u128, bytes: &[u8]) -> u128 {
-        hash_on_by::<WithMasks>(number_of_block(&self[0]), value, bytes)
+        let h = number_of_block(&self[0]);
+        hash_on_singly(&WithMasks { h }, value, bytes)
     }
 
     #[inline(always)]
     fn hash_to_end(&self, value: u128, bytes: &[u8], end: &Block) -> u128 {
-        hash_to_end_by::<WithMasks>(number_of_block(&self[0]), value, bytes, end)
+        let h = number_of_block(&self[0]);
+        hash_to_end_singly(&WithMasks { h }, value, bytes, end)
     }
 }
 
@@ -132,17 +134,19 @@ impl HashRoom for WordsRoom {
 
     #[inline(always)]
     fn product(&self, x: u128) -> u128 {
-        WithHoles::product(x, number_of_words(self))
+        product_with_holes(x, number_of_words(self))
     }
 
     #[inline(always)]
     fn hash_on(&self, value: u128, bytes: &[u8]) -> u128 {
-        hash_on_by::<WithHoles>(number_of_words(self), value, bytes)
+        let h = number_of_words(self);
+        hash_on_singly(&WithHoles { h }, value, bytes)
     }
 
     #[inline(always)]
     fn hash_to_end(&self, value: u128, bytes: &[u8], end: &Block) -> u128 {
-        hash_to_end_by::<WithHoles>(number_of_words(self), value, bytes, end)
+        let h = number_of_words(self);
+        hash_to_end_singly(&WithHoles { h }, value, bytes, end)
     }
 }
 

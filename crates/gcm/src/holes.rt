@@ -6,7 +6,9 @@ ghost use Rattle.std.specs.Prelude.{◌≡◌, ◌*◌, ◌+◌, ◌%◌, ◌^�
 ghost use Rattle.gcm.specs.Gcm.{product};
 ghost use Rattle.gcm.specs.Carryless.{carryless};
 
-use crate::alone::Multiplier;
+use crate::numbers::number_of;
+use crate::singly::Factor;
+use std::simd::prelude::*;
 
 // Every fourth bit of a word, from bit 0, 1, 2 or 3 on.
 const HOLES_0: u32 = 0x1111_1111;
@@ -85,12 +87,21 @@ pub fn product_with_holes(x: u128, h: u128) -> u128
     kept ^ (all ^ all >> 1 ^ all >> 2 ^ all >> 7)
 }
 
-/// Products with holes between the bits of numbers.
-pub struct WithHoles;
+/// The block H, which is multiplied by products of numbers with holes between their bits.
+#[derive(Drop)]
+pub struct WithHoles {
+    pub h: u128,
+}
 
-impl Multiplier for WithHoles {
+impl Factor for WithHoles {
+    type Value = u128;
+
+    ghost number = { λ value. value };
+
+    ghost subkey = { λ factor. factor.h };
+
     #[inline(always)]
-    fn product(x: u128, h: u128) -> u128 {
-        product_with_holes(x, h)
+    fn after(&self, value: u128, block: u8x16) -> u128 {
+        product_with_holes(value ^ number_of(block), self.h)
     }
 }

@@ -2,7 +2,6 @@
 //! that encrypts.
 #![tactic(auto)]
 
-mod alone;
 mod bitwise;
 mod counter;
 mod errors;
@@ -21,14 +20,14 @@ mod numbers;
 mod order;
 mod pieces;
 mod row_pairs;
+mod singly;
 mod words;
 
-pub use alone::{Multiplier, hash_string_by};
 pub use bitwise::{WithMasks, hash_bitwise, product_bitwise};
 pub use counter::Counter;
 pub use errors::{InvalidMessage, InvalidPiece, NotAccepted, OutOfTurn, Refused, TooLong};
 pub use field::next_v;
-pub use hash::{hash_singly, hash_string, hash_string_and};
+pub use hash::{hash_string, hash_string_and};
 pub use hash_room::{BorrowedRoom, HashRoom, SubkeyRoom, WordsRoom};
 pub use holes::{WithHoles, product_with_holes};
 pub use laws::{text_twice, turns};
@@ -37,4 +36,5 @@ pub use mode::{BorrowedGcm, Gcm, LONGEST_HASHED, LONGEST_TEXT, SHALLOW, is_short
 pub use multiples::{Multiples, Room, Table, TableRoom, put_multiples, put_one_table};
 pub use numbers::sum;
 pub use order::{ByteOrder, HighestFirst};
+pub use singly::{Factor, hash_singly};
 pub use words::{number_of_words, words_of};

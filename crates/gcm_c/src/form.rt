@@ -9,7 +9,6 @@
 //!   leaves nothing of it.
 //! - `Aes` is the struct of the library of blocks. `holds_key_of(aes)` says whether it holds a key,
 //!   and `put_key_of(aes, kept)` writes that key, reading nothing of what was kept.
-//! - `is_key_size(bytes)` says whether keys have this many bytes.
 //! - `cipher_of(kept)` lends the key of a struct that holds one as a cipher, which is a `BuildCipher`.
 //! - `TagRoom` is room for what the tags of GCM are made with, a `HashRoom`; `ShortRoom` and
 //!   `LongRoom` are that of a message of AES-GCM-SIV, each a `PolyvalRoom`, the first for short ones.
@@ -22,7 +21,7 @@ use crate::width::BuildWidth;
 use aes_cipher::cipher::Encrypt;
 use aes_hybrid::borrowed_cipher::BorrowedCipher;
 use aes_hybrid::kept_key::KeptBothWays;
-pub(crate) use aes_hybrid::kept_key::{KeptKey, is_key_size};
+pub(crate) use aes_hybrid::kept_key::KeptKey;
 
 /// Room for what tags are made with: the multiples of H.
 pub type TagRoom = gcm::Room;

@@ -5,10 +5,9 @@ ghost use Rattle.aes_cipher.specs.KeySizes.{IsKeySize};
 ghost use Rattle.gcm_c.specs.Form.{key_in, key_of, HoldsKey, IsKept, IsZeroAfter};
 ghost use Rattle.gcm_c.specs.Kept.{no_gcm, round_keys_in, IsMade};
 
-use crate::form::{
-    Aes, BuildCipher, KeptKey, TagRoom, cipher_of, holds_key_of, is_key_size, put_key_of,
-};
+use crate::form::{Aes, BuildCipher, KeptKey, TagRoom, cipher_of, holds_key_of, put_key_of};
 use crate::status::{DONE, KEY_LENGTH, NO_KEY};
+use aes_cipher::aes::is_key_size;
 use aes_cipher::not_clone::NotClone;
 use aes_cipher::zeroize::{Zeroize, zeroize_elements};
 use gcm::{BorrowedGcm, prepare};

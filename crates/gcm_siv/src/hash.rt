@@ -11,9 +11,9 @@ use aes_cipher::blocks::{block_of_halves, block_of_number, number_of_block};
 use aes_cipher::cipher::Block;
 use aes_cipher::zeroize::Zeroize;
 use gcm::{
-    ByteOrder, Multiples, Multiplier, Room, SubkeyRoom, Table, TableRoom, WithHoles, WithMasks,
-    WordsRoom, hash_singly, hash_string, hash_string_and, hash_string_by, number_of_words,
-    put_multiples, put_one_table, sum, words_of,
+    ByteOrder, Factor, Multiples, Room, SubkeyRoom, Table, TableRoom, WithHoles, WithMasks,
+    WordsRoom, hash_singly, hash_string, hash_string_and, number_of_words, put_multiples,
+    put_one_table, words_of,
 };
 use std::simd::prelude::*;
 
@@ -80,6 +80,19 @@ pub trait PolyvalRoom: Zeroize {
             → result ≡ to_le_bytes w128 (hash h additional.now text.now) };
 }
 
+// S_s of additional data and a text, block by block.
+fn hash_by<F: Factor>(factor: &F, zero: F::Value, additional: &[u8], text: &[u8]) -> F::Value
+    requires zero { F.number zero ≡ 0 }
+    requires additional { length additional.now ≤ 2 ^ 36 }
+    requires text { length text.now ≤ 2 ^ 36 }
+    ensures { (h : ℕ) → h < 2 ^ 128 → F.subkey factor.now ≡ next_v h
+        → F.number result ≡ hash h additional.now text.now }
+{
+    let first = hash_singly::<F, LowestFirst>(factor, zero, additional);
+    let second = hash_singly::<F, LowestFirst>(factor, first, text);
+    factor.after(second, last_block(additional, text))
+}
+
 // Room for a few blocks: multiples of the factor alone.
 impl PolyvalRoom for TableRoom {
     ghost IsMade = { IsTable };
@@ -92,11 +105,8 @@ impl PolyvalRoom for TableRoom {
     }
 
     fn hash(&self, additional: &[u8], text: &[u8]) -> Block {
-        let table = Table::lent(self);
-        let first = hash_singly::<LowestFirst>(&table, u8x16::splat(0), additional);
-        let second = hash_singly::<LowestFirst>(&table, first, text);
-        let end = last_block(additional, text);
-        bytes_of(table.product(sum(second, end)))
+        let zero = u8x16::splat(0);
+        bytes_of(hash_by(&Table::lent(self), zero, additional, text))
     }
 }
 
@@ -120,20 +130,6 @@ impl PolyvalRoom for Room {
     }
 }
 
-// S_s of additional data and a text by a factor alone, with no table of its multiples.
-fn hash_by<M: Multiplier>(factor: u128, additional: &[u8], text: &[u8]) -> Block
-    requires additional { length additional.now ≤ 2 ^ 36 }
-    requires text { length text.now ≤ 2 ^ 36 }
-    ensures { (h : ℕ) → h < 2 ^ 128 → factor ≡ next_v h
-        → result ≡ to_le_bytes w128 (hash h additional.now text.now) }
-{
-    let first = hash_string_by::<M, LowestFirst>(factor, 0, additional);
-    let second = hash_string_by::<M, LowestFirst>(factor, first, text);
-    let lengths = last_block(additional, text).to_array();
-    let end = number_of_block(&lengths);
-    M::product(second ^ end, factor).to_le_bytes()
-}
-
 // Room for a processor without a byte shuffle: the factor alone, and products bit by bit.
 impl PolyvalRoom for SubkeyRoom {
     ghost IsMade = { IsAlone };
@@ -146,11 +142,13 @@ impl PolyvalRoom for SubkeyRoom {
     }
 
     fn hash(&self, additional: &[u8], text: &[u8]) -> Block {
-        hash_by::<WithMasks>(number_of_block(&self[0]), additional, text)
+        let h = number_of_block(&self[0]);
+        hash_by(&WithMasks { h }, 0, additional, text).to_le_bytes()
     }
 }
 
-// The same, and products with holes between the bits.
+// Room for a processor without a byte shuffle: the factor alone, and products with holes between
+// the bits.
 impl PolyvalRoom for WordsRoom {
     ghost IsMade = { AreWords };
 
@@ -162,6 +160,7 @@ impl PolyvalRoom for WordsRoom {
     }
 
     fn hash(&self, additional: &[u8], text: &[u8]) -> Block {
-        hash_by::<WithHoles>(number_of_words(self), additional, text)
+        let h = number_of_words(self);
+        hash_by(&WithHoles { h }, 0, additional, text).to_le_bytes()
     }
 }

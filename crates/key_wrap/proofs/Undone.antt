@@ -23,12 +23,12 @@ number_semiblock : (n : ℕ) → IsSemiblock (to_be_bytes w64 n)
 number_semiblock n = (refl, drop_bytes 8 (to_be_bytes w128 n) (number_block n).1)
 
 -- a semiblock with a number added is a semiblock
-added_semiblock : (half : List ℕ) (t : ℕ) → IsSemiblock (number_added half t)
+pub added_semiblock : (half : List ℕ) (t : ℕ) → IsSemiblock (number_added half t)
 unfolding number_added
 added_semiblock half t = number_semiblock (bit_xor (from_be_bytes w64 half) t)
 
 -- adding a number once more gives the semiblock back
-added_twice : (half : List ℕ) (t : ℕ) → IsSemiblock half → t < 2 ^ 64
+pub added_twice : (half : List ℕ) (t : ℕ) → IsSemiblock half → t < 2 ^ 64
     → number_added (number_added half t) t ≡ half
 unfolding number_added
 added_twice half t (long, small) lt =

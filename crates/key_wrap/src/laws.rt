@@ -35,6 +35,18 @@ pub fn wrapping_undone()
     halves_and_blocks();
 }
 
+/// No effect; states that a string of semiblocks that unwrapping accepts is the wrapping of the key
+/// that comes out, under round keys of the standard: no other string is accepted for that key (KW,
+/// 6.2).
+pub fn one_wrapping()
+    ensures { (w key sealed : List (List ℕ)) → fips.AreRoundKeys w → All IsSemiblock sealed
+        → 2 ≤ length sealed → length sealed ≤ 2 ^ 54
+        → unwrapped w sealed ≡ integrity_check ∷ key → sealed ≡ wrapped w key }
+{
+    laws::inverse_ciphers_with();
+    halves_and_blocks();
+}
+
 /// No effect; states that unwrapping undoes wrapping with padding, under round keys of the
 /// standard: no key is refused, and each comes back (KWP, 6.3).
 pub fn padding_undone()

@@ -1,8 +1,15 @@
 //! The sizes of keys: AES-128, AES-192 and AES-256.
 
-ghost use Rattle.std.specs.Prelude.{◌≡◌, ℕ, List, length};
+ghost use Rattle.std.specs.Prelude.{◌≡◌, ◌↔◌, ℕ, List, length, IsTrue};
 ghost use Rattle.std.proofs.Common.{inl, inr, refl};
 ghost use Rattle.aes_cipher.specs.KeySizes.{IsKeySize};
+
+/// Returns whether keys have this many bytes: 16, 24 or 32.
+pub fn is_key_size(bytes: usize) -> bool
+    ensures { IsTrue result ↔ IsKeySize bytes }
+{
+    bytes == 16 || bytes == 24 || bytes == 32
+}
 
 /// A size of keys.
 pub trait KeySize {

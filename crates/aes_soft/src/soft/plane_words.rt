@@ -4,10 +4,9 @@ ghost use Rattle.aes_planes.specs.Fips197 as fips;
 ghost use Rattle.aes_planes.specs.Planes.{held, words_at};
 
 use aes_planes::expansion::FourWords;
+use aes_planes::soft::copies::{round_key, store_round_key};
+use aes_planes::soft::key_columns::{add_round_constant, straddle_columns, summed_columns};
 use aes_planes::soft::sbox::{Layers, sub_bytes, sub_bytes_nots};
-use aes_planes::soft::utils::{
-    add_round_constant, round_key, store_round_key, straddle_columns, summed_columns,
-};
 use aes_planes::soft::word::Word;
 use std::marker::PhantomData;
 

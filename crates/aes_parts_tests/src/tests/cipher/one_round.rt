@@ -13,7 +13,7 @@ use aes_cipher::cipher::{
 };
 use aes_planes::laws;
 use aes_planes::soft::sbox::{Layers, inv_sub_bytes, sub_bytes, sub_bytes_nots};
-use aes_planes::soft::utils::{inv_shift_rows_1, shift_rows_1};
+use aes_planes::soft::shifts::{inv_shift_rows_1, shift_rows_1};
 use aes_planes::soft::word::{Batch, Blocks1, Word};
 use std::fmt;
 

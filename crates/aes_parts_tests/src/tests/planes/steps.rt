@@ -5,16 +5,19 @@ ghost use Rattle.std.specs.Prelude.{◌<◌};
 use super::{packed, unpacked};
 use crate::tests::words::{WordTrial, try_words};
 use aes_cipher::blocks::sum_of_blocks;
+use aes_planes::soft::copies::{round_key, store_round_key};
+use aes_planes::soft::key_columns::{
+    add_round_constant_bit, straddle_columns, summed_columns, xor_columns,
+};
 use aes_planes::soft::mix_columns::{
     inv_mix_columns_0, inv_mix_columns_1, inv_mix_columns_2, inv_mix_columns_3, mix_columns_0,
     mix_columns_1, mix_columns_2, mix_columns_3,
 };
 use aes_planes::soft::sbox::{Layers, sub_bytes, sub_bytes_nots};
-use aes_planes::soft::utils::{
-    add_round_constant_bit, add_round_key, inv_shift_rows_1, inv_shift_rows_2, inv_shift_rows_3,
-    round_key, shift_rows_1, shift_rows_2, shift_rows_3, store_round_key, straddle_columns,
-    summed_columns, xor_columns,
+use aes_planes::soft::shifts::{
+    inv_shift_rows_1, inv_shift_rows_2, inv_shift_rows_3, shift_rows_1, shift_rows_2, shift_rows_3,
 };
+use aes_planes::soft::sums::add_round_key;
 use aes_planes::soft::word::{Batch, Block, Word};
 use standards::expansions::ROUND_KEYS_A1;
 use standards::keys::KEY_A1;

@@ -55,9 +55,9 @@ where
     requires { B.PAR_BLOCKS ≡ 8 }
 {
     let (whole, single) = encrypted(backend);
-    let (back, single_back) = decrypted(backend, whole);
-    let there = whole == single && whole[5] == slot5.to_be_bytes();
-    there && [back, single_back] == [batch(), batch()]
+    let (decrypted_batch, single_back) = decrypted(backend, whole);
+    let is_encrypted = whole == single && whole[5] == slot5.to_be_bytes();
+    is_encrypted && [decrypted_batch, single_back] == [batch(), batch()]
 }
 
 // FIPS 197, appendices C.1 to C.3.

@@ -63,7 +63,7 @@ impl SizedKey for [u8; 32] {
 
 // Whether both layouts encrypt eight blocks as wanted and decrypt them again, each in each slot of a word, beside seven others.
 fn works<W: Word, K: SizedKey>(key: &K, plain: &[Block; 8], wanted: &[Block; 8]) -> bool {
-    let mut right = true;
+    let mut is_right = true;
     for first in 0..8usize {
         let mut blocks = W::Blocks::zero();
         for slot in 0..W::Blocks::LEN {
@@ -73,12 +73,14 @@ fn works<W: Word, K: SizedKey>(key: &K, plain: &[Block; 8], wanted: &[Block; 8])
         let (full_there, full_back) = key.full::<W>(&blocks);
         for slot in 0..W::Blocks::LEN {
             let i = (first + slot % 8) % 8;
-            let there = compact_there.get(slot) == wanted[i] && full_there.get(slot) == wanted[i];
-            let back = compact_back.get(slot) == plain[i] && full_back.get(slot) == plain[i];
-            right = right && there && back;
+            let is_encrypted = compact_there.get(slot) == wanted[i]
+                && full_there.get(slot) == wanted[i];
+            let is_decrypted = compact_back.get(slot) == plain[i]
+                && full_back.get(slot) == plain[i];
+            is_right = is_right && is_encrypted && is_decrypted;
         }
     }
-    right
+    is_right
 }
 
 // Eight blocks, and their encryption under a key of each size.

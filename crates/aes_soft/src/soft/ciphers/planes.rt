@@ -9,7 +9,7 @@ use super::rounds::{Deferred0, Deferred1, Deferred2, Deferred3, add_key, inv_rou
 use aes_cipher::cipher::{Decrypt, Direction, Encrypt};
 use aes_planes::soft::mix_columns::{inv_mix_columns_0, mix_columns_0};
 use aes_planes::soft::sbox::{Layers, inv_sub_bytes, sub_bytes, sub_bytes_nots};
-use aes_planes::soft::utils::{inv_shift_rows_1, inv_shift_rows_2, shift_rows_1, shift_rows_2};
+use aes_planes::soft::shifts::{inv_shift_rows_1, inv_shift_rows_2, shift_rows_1, shift_rows_2};
 use aes_planes::soft::word::{Batch, Word};
 
 /// A direction's cipher and its round on planes.

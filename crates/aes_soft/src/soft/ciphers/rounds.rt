@@ -3,12 +3,13 @@ ghost use Rattle.std.specs.Prelude.{◌≡◌, ℕ, ◌+◌, ◌*◌, ◌<◌, �
 ghost use Rattle.aes_planes.specs.Fips197 as fips;
 ghost use Rattle.aes_planes.specs.Planes.{held, between_shifts, plus63, words_at, zip_with};
 
+use aes_planes::soft::copies::round_key;
 use aes_planes::soft::mix_columns::{
     inv_mix_columns_0, inv_mix_columns_1, inv_mix_columns_2, inv_mix_columns_3, mix_columns_0,
     mix_columns_1, mix_columns_2, mix_columns_3,
 };
 use aes_planes::soft::sbox::{Layers, inv_sub_bytes, sub_bytes};
-use aes_planes::soft::utils::{add_round_key, round_key};
+use aes_planes::soft::sums::add_round_key;
 use aes_planes::soft::word::Word;
 
 // Adds round key `i` to every block.

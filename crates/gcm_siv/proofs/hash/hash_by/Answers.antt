@@ -1,6 +1,6 @@
 -- What is left to show of `hash::hash_by`.
 use Rattle.std.proofs.Common.{ℕ, List, ◌/◌, ◌∙◌, ap, bit_xor, length}
-use Rattle.std.specs.Int.{w128, from_le_bytes, to_le_bytes}
+use Rattle.std.specs.Int.{w128, from_le_bytes}
 use Rattle.gcm.specs.Gcm.{padded, product}
 use Rattle.gcm.specs.Hashed.{hashed_as}
 use Rattle.gcm_siv.proofs.Hashing.{hash_is}
@@ -8,14 +8,13 @@ use Rattle.gcm_siv.proofs.hash.hash_by.Goals as goal
 
 pub returns : goal.returns
 returns b c h small is =
-    let g : ℕ = c.args.factor in
+    let g : ℕ = b.F.Factor.subkey c.args.factor.now in
     let a : List ℕ = c.args.additional.now in
     let p : List ℕ = c.args.text.now in
     let on = λ (s : ℕ) (x : List ℕ). hashed_as (from_le_bytes w128) g s (padded x)
     (length (padded x) / 16) in
-    c.to_le_bytes.ensures
-    ∙ ap (to_le_bytes w128) (c.product.ensures
-    ∙ ap (λ v. product v g) (λ t. bit_xor
-    ((c.hash_string_by-second.ensures ∙ ap (λ s. on s p) c.hash_string_by-first.ensures) t)
-    ((c.number_of_block-end.ensures.number ∙ c.last_block.ensures) t))
-    ∙ hash_is h g a p is small)
+    c.after.ensures
+    ∙ ap (λ v. product v g) (λ t. bit_xor ((c.hash_singly-second.ensures
+    ∙ ap (λ s. on s p) (c.hash_singly-first.ensures ∙ ap (λ s. on s a) c.requires.zero)) t)
+    (c.last_block.ensures t))
+    ∙ hash_is h g a p is small

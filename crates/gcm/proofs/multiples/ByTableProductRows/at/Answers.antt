@@ -1,0 +1,14 @@
+-- What is left to show of `multiples::ByTableProductRows::at`.
+use Rattle.std.proofs.Common.{List, ℕ, sym}
+use Rattle.gcm.proofs.RowPairs.{rows_in_halves}
+use Rattle.gcm.proofs.RowSums.{rows_found}
+use Rattle.gcm.proofs.multiples.ByTableProductRows.at.Goals as goal
+
+pub returns : goal.returns
+returns c =
+    let x : List ℕ = c.args.self.now.1 in
+    rw (sym c.table.view_is) (rows_found x _ c.table.inside.rows.now c.args.r c.table.invariant.0
+    c.requires c.is_block.ensures
+    (rows_in_halves _ _ _ _ x _ _ _ _ c.is_block.ensures.0 c.low_nibbles_twice.ensures.nibbles
+    c.high_nibbles_twice.ensures.nibbles c.lookup_in_halves-low.ensures
+    c.lookup_in_halves-high.ensures))
