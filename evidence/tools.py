@@ -22,7 +22,7 @@ RIGHT, WRONG, BLIND, STOPPED, PARTIAL = range(5)
 HERE = pathlib.Path(__file__).resolve().parent
 TOP = HERE.parent
 MEASUREMENTS = TOP / "docs" / "MEASUREMENTS.md"
-sys.path.append(str(TOP / "tools" / "edit_parts"))
+sys.path.append(str(TOP / "tools"))
 # Outside the repository: the gate refuses sources there that it does not read.
 ROOM = pathlib.Path(os.environ.get("AES_EVIDENCE_ROOM") or pathlib.Path.home() / ".cache" / "aes-evidence")
 ROOM.mkdir(parents=True, exist_ok=True)
@@ -108,15 +108,15 @@ def exports_library(compiler):
     made, total = ROOM / f"lib{EXPORTS}-{compiler}.a", sources()
     stamp = made.with_suffix(".stamp")
     if not (made.exists() and stamp.exists() and stamp.read_text() == total):
-        import libraries
+        import toolchain
         say(f"proving and building {EXPORTS} by {compiler}, over what is proved already")
         start = time.time()
         with tempfile.TemporaryDirectory() as room:
-            crates = libraries.workspace(room, add_exports)
+            crates = toolchain.workspace(room, add_exports)
             crate = next(it for it in crates if it.name == EXPORTS)
-            libraries.given(crates, [crate])
-            flags = ["--backend", compiler, "--toolchain", f"{libraries.KIT}/toolchain", "--incremental", f"{ROOM}/kept"]
-            run(libraries.build_words(crate, *flags, "-o", f"{made}"), f"{EXPORTS} was not proved or not built", cwd=crate.folder)
+            toolchain.given(crates, [crate])
+            flags = ["--backend", compiler, "--toolchain", f"{toolchain.KIT}/toolchain", "--incremental", f"{ROOM}/kept"]
+            run(toolchain.build_words(crate, *flags, "-o", f"{made}"), f"{EXPORTS} was not proved or not built", cwd=crate.folder)
             os.chdir(TOP)
         stamp.write_text(total)
         say(f"built in {time.time() - start:.0f} seconds")
