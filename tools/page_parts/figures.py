@@ -8,7 +8,6 @@ The words of a mark are a kind and what it is about. A FILE may be a pattern (`*
 
     lines FILE ..       the lines of the files
     edits               the wrong bodies that have to be refused
-    rows FILE           the rows of the tables in a page
     ratios CALLS BLOCKS the least and the most time of OpenSSL with AES instructions, divided by this library's, in calls
                         (`encrypt,decrypt`) on so many blocks, over the sizes of keys
 
@@ -47,13 +46,6 @@ def edits():
     return sum(len(re.findall("^bug:", path.read_text(encoding="utf-8"), re.M)) for path in found)
 
 
-def rows(page):
-    """The rows of tables: each table has two lines more, its head and the line under it."""
-    text = (ROOT / page).read_text(encoding="utf-8").splitlines()
-    tables = sum(bool(re.fullmatch(r"\|[-|: ]+\|", line)) for line in text)
-    return sum(line.startswith("|") for line in text) - 2 * tables
-
-
 def ratios(calls, blocks):
     text = (ROOT / "evidence/speed/summary.csv").read_text(encoding="utf-8").splitlines()
     wanted = {"peer": "OpenSSL", "how": "AES instructions", "amount": blocks}
@@ -67,7 +59,7 @@ def ratios(calls, blocks):
     return f"{min(found):.2f} to {max(found):.2f}"
 
 
-KINDS = {it.__name__: it for it in (lines, edits, rows, ratios)}
+KINDS = {it.__name__: it for it in (lines, edits, ratios)}
 
 
 def figure(words):
