@@ -226,11 +226,6 @@ def finish(found, options, text):
 
 def end(status, text):
     """The last line, and the status."""
-    names = {
-        RIGHT: "as it should be",
-        WRONG: "NOT as it should be",
-        BLIND: "a planted fault was NOT found, so this shows nothing",
-        PARTIAL: "as it should be, with parts left out",
-    }
-    say(f"VERDICT: {names[status]}: {text}")
+    said = ("as it should be", "NOT as it should be", "a planted fault was NOT found, so this shows nothing", "", "as it should be, with parts left out")
+    say(f"VERDICT: {said[status]}: {text}")
     sys.exit(status)
