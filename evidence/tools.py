@@ -169,6 +169,17 @@ def briefly(where):
     return ", ".join([day, load, *rest])
 
 
+def rows_of(path):
+    """The rows of a list by tabs, but for those that are comments."""
+    return [it.split("\t") for it in path.read_text().splitlines() if it and not it.startswith("#")]
+
+
+def explained(items, reasons, speaks_of):
+    """The items of which no reason speaks, and the reasons that speak of none."""
+    missed = [it for it in items if not any(speaks_of(reason, it) for reason in reasons)]
+    return missed, [reason for reason in reasons if not any(speaks_of(reason, it) for it in items)]
+
+
 def compiled(source, name, archive, *flags):
     """A program of one C file and an archive."""
     made = ROOM / f"{source.parent.name}-{source.stem}-{name}"

@@ -66,24 +66,11 @@ def jumps(archive):
     return found
 
 
-def rows_of(path):
-    return [it.split("\t") for it in path.read_text().splitlines() if it and not it.startswith("#")]
-
-
-def unexplained(found):
-    """The jumps that no line of reasons.tsv speaks of, and the lines that speak of none."""
-    reasons, used, missed = rows_of(REASONS), set(), []
-    for key in sorted(found):
-        why = [i for i, row in enumerate(reasons) if speaks_of(row, *key)]
-        used.update(why[:1])
-        missed += [] if why else [key]
-    return missed, [" ".join(it[:2]) for i, it in enumerate(reasons) if i not in used]
-
-
-def speaks_of(row, function, compares, jump):
+def speaks_of(row, jump):
+    function, compares, name = jump
     functions, comparisons = row[0].split(" "), row[1].split("|")
     return any(fnmatch.fnmatchcase(function, it) for it in functions) and any(
-        fnmatch.fnmatchcase(f"{compares}, {jump}", it) for it in comparisons
+        fnmatch.fnmatchcase(f"{compares}, {name}", it) for it in comparisons
     )
 
 
@@ -94,9 +81,9 @@ def looked_at(archive, record, found):
         lines = ["\t".join([*key, str(count)]) for key, count in sorted(there.items())]
         LIST.write_text("\n".join([HEAD, *lines]) + "\n")
         tools.say(f"recorded: {len(there)} kinds in {LIST}")
-    was = {tuple(key): int(count) for *key, count in rows_of(LIST)[1:]}
+    was = {tuple(key): int(count) for *key, count in tools.rows_of(LIST)[1:]}
     new = {key: count for key, count in (there | PLANTED).items() if count > was.get(key, 0)}
-    missed, idle = unexplained(there | PLANTED)
+    missed, idle = tools.explained(sorted(there | PLANTED), tools.rows_of(REASONS), speaks_of)
     if not (PLANTED.keys() <= new.keys() and PLANTED.keys() <= {*missed}):
         found.blind.append("a jump that nobody looked at")
     wrong = [f"not in {LIST.name}: {', '.join(key)}: {new[key]} in place of {was.get(key, 0)}" for key in sorted(new.keys() - PLANTED.keys())]
@@ -105,5 +92,5 @@ def looked_at(archive, record, found):
     functions, gone = {it[0] for it in there}, sum(it not in there for it in was)
     tools.say(f"jumps: {sum(there.values())} of {len(there)} kinds in {len(functions)} functions; wrong: {len(wrong)}, recorded and gone: {gone}")
     if idle:
-        tools.say(f"lines of {REASONS.name} for nothing: {'; '.join(idle)}")
+        tools.say(f"lines of {REASONS.name} for nothing: {'; '.join(' '.join(it[:2]) for it in idle)}")
     found.summary.append(f"llvm, {sum(there.values()):,} conditional jumps in {len(functions)} functions, all explained")

@@ -56,27 +56,15 @@ def public_functions():
     return found
 
 
-def reasons():
-    rows = [it.split("\t") for it in (HERE / "elsewhere.tsv").read_text().splitlines() if it and not it.startswith("#")]
-    return [(crate, names.split(" "), why) for crate, names, why in rows]
-
-
-def matches(pattern, path, name):
-    return fnmatch.fnmatch(f"{path}:{name}" if ":" in pattern else name, pattern)
+def speaks_of(reason, function):
+    (of, pattern), (crate, path, name) = reason, function
+    return of in (crate, "*") and fnmatch.fnmatch(f"{path}:{name}" if ":" in pattern else name, pattern)
 
 
 def not_called(calls, functions):
     """Those of the functions that neither the exports nor the calls name and that no reason stands for, and the reasons
     that stand for none."""
     words = set(re.findall(r"\w+", calls + "\n".join(expand.texts().values())))
-    rows, used, missed = reasons(), set(), []
-    for crate, path, name in functions:
-        if name in words:
-            continue
-        of_crate = [(of, it) for of, names, _ in rows if of in (crate, "*") for it in names]
-        why = [it for it in of_crate if matches(it[1], path, name)]
-        used.update(why)
-        if not why:
-            missed.append(f"{crate}/src/{path}: {name}")
-    idle = [f"{crate} {it}" for crate, names, _ in rows for it in names if (crate, it) not in used]
-    return missed, idle
+    reasons = [(crate, it) for crate, names, _ in tools.rows_of(HERE / "elsewhere.tsv") for it in names.split(" ")]
+    missed, idle = tools.explained([it for it in functions if it[2] not in words], reasons, speaks_of)
+    return [f"{crate}/src/{path}: {name}" for crate, path, name in missed], [" ".join(it) for it in idle]
