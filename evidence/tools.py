@@ -72,17 +72,6 @@ def run(words, what, **how):
     return done.stdout
 
 
-def assembled(name, dist=TOP / "dist", room=ROOM):
-    """The archive of one assembly file of a folder dist/ for x86-64, by the C compiler's assembler: as `make` builds it there, but without
-    the choice between two builds."""
-    room.mkdir(parents=True, exist_ok=True)
-    made = room / f"libfotsgure_{name}.a"
-    made.unlink(missing_ok=True)
-    run(["cc", "-c", dist / "x86_64" / f"{name}.s", "-o", made.with_suffix(".o")], f"assembling {name}.s")
-    run(["ar", "rcs", made, made.with_suffix(".o")], "the archive")
-    return made
-
-
 def sources():
     """A sum of all that decides what the library of exports is."""
     total = hashlib.sha256(run(["rt", "version"], "rt version").encode())

@@ -7,6 +7,8 @@ import tables
 import tools
 
 HERE = pathlib.Path(__file__).resolve().parent
+# What the builds are called by the end of their files' names.
+BUILDS = {"": tables.BASE, "_v3": tables.AVX2}
 COMPILE = ["cc", "-std=c11", "-D_GNU_SOURCE", "-O2", "-Wall", "-Wextra"]
 
 
@@ -18,19 +20,32 @@ def suffixes(options, found):
     return [""]
 
 
-def engine(room, archives, include=tools.TOP / "dist" / "include", name="library", how=None):
-    """The object that times a build of this library, and its archives. With `how`, which tells it from others, what it exports
-    gets a prefix, so that several builds fit into one program."""
-    made = room / f"{name}.o"
-    told = [f'-DHOW="{how}"', f"-DADD=add_{name}"] if how else []
-    tools.run([*COMPILE, *told, f"-I{include}", "-c", "-o", made, HERE / "library.c"], "library.c")
-    if not how:
-        return [made, *archives]
-    (room / "names").write_text("".join(f"{it} {name}_{it}\n" for of in archives for it in sorted(tools.exported(of))))
-    renamed = [made, *(room / f"{name}_{it.name}" for it in archives)]
-    for it, to in zip([made, *archives], renamed):
-        tools.run(["objcopy", f"--redefine-syms={room / 'names'}", it, to], "objcopy")
-    return renamed
+def assembled(name, dist, room):
+    """The archive of one assembly file of a folder dist/ for x86-64, by the C compiler's assembler: as `make` builds it there, but without
+    the choice between two builds."""
+    made = room / f"libfotsgure_{name}.a"
+    made.unlink(missing_ok=True)
+    tools.run(["cc", "-c", dist / "x86_64" / f"{name}.s", "-o", made.with_suffix(".o")], f"assembling {name}.s")
+    tools.run(["ar", "rcs", made, made.with_suffix(".o")], "the archive")
+    return made
+
+
+def engines_of(room, suffixes, dist=tools.TOP / "dist", at=""):
+    """The engines of a folder dist/, each its object and archives. What all but the first build of the tree export gets a prefix, so that
+    several fit into one program; `at` tells those of a folder from others."""
+    made = {}
+    for suffix in suffixes:
+        name, parts = f"library{at}{suffix}", room / f"made{at}{suffix}"
+        told = [f'-DHOW="{f"{at} {BUILDS[suffix]}".strip()}"', f"-DADD=add_{name}"] if at or suffix else []
+        parts.mkdir(parents=True, exist_ok=True)
+        tools.run([*COMPILE, *told, f"-I{dist}/include", "-c", "-o", parts / "library.o", HERE / "library.c"], "library.c")
+        archives = [assembled(f"{it}{suffix}", dist, parts) for it in ("aes", "gcm")]
+        made[name] = [parts / "library.o", *archives]
+        if told:
+            (parts / "names").write_text("".join(f"{it} {name}_{it}\n" for of in archives for it in sorted(tools.exported(of))))
+            for it in made[name]:
+                tools.run(["objcopy", f"--redefine-syms={parts / 'names'}", it], "objcopy")
+    return made
 
 
 def build(room, engines, links=()):
