@@ -1,8 +1,8 @@
--- What is left to show of `lists::EncryptionKeysStoredKeys::has_key`.
+-- What is left to show of `stored_keys::EncryptionKeysStoredKeys::has_key`.
 use Rattle.std.proofs.Common.{◌+◌, ◌/◌, ap, sym, ◌∙◌, length}
 use Rattle.aes_permute.specs.Keys.{stored_keys}
 use Rattle.aes_permute.proofs.KeyOfLanes.{stored_size}
-use Rattle.aes_hybrid.proofs.lists.EncryptionKeysStoredKeys.has_key.Goals as goal
+use Rattle.aes_hybrid.proofs.stored_keys.EncryptionKeysStoredKeys.has_key.Goals as goal
 
 pub returns-clause-sized : goal.returns-clause-sized
 returns-clause-sized g c =
