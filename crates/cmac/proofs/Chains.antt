@@ -1,12 +1,10 @@
 -- Chains over strings: piece by piece, and with zeros behind the last block.
-use Rattle.std.proofs.Common.{◌≡◌, ◌↔◌, ℕ, zero, suc, ◌+◌, ◌-◌, ◌*◌, ◌/◌, ◌%◌, ◌<◌, ◌≤◌, List, ◌++◌}
+use Rattle.std.proofs.Common.{◌≡◌, ℕ, zero, suc, ◌+◌, ◌-◌, ◌*◌, ◌/◌, ◌%◌, ◌<◌, ◌≤◌, List, ◌++◌}
 use Rattle.std.proofs.Common.{length, take, drop, replicate, refl, ap, sym, ◌∙◌, arith}
 use Rattle.std.proofs.Common.{append_assoc, length-append, length-drop, min, inl, inr}
-use Rattle.std.proofs.lemmas.List.{take-append-le, drop-append-le, take_all, take-append-drop}
+use Rattle.std.proofs.lemmas.List.{take_all, take-append-drop}
 use Rattle.std.proofs.lemmas.List.{append-nil, length-take-le}
 use Rattle.std.proofs.lemmas.Bool.{cases_lt}
-use Rattle.std.proofs.lemmas.Simd.{length-replicate}
-use Rattle.std.proofs.Math.Seq.{drop-append-add, take-append_seam}
 use Rattle.std.specs.List.{slice_range}
 use Rattle.aes_planes.specs.Fips197.{cipher_with, add_round_key}
 use Rattle.aes_cipher.specs.Blocks.{padded}
@@ -102,6 +100,7 @@ whole_part s part i is long =
 pub part_padded : (s part : List ℕ) (i e : ℕ) → i < (length s + 15) / 16
     → e ≡ min (length s) (16 * i + 16) → part ≡ slice_range s (16 * i) e
     → part ++ replicate (16 - length part) 0 ≡ block_at (padded s) i
+unfolding block_at
 part_padded s part i e below end is =
     elim (cases_lt (length s) (16 * i + 16)) [
       | inl short ↦
