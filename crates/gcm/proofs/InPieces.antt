@@ -1,5 +1,5 @@
 -- GHASH and GCTR of strings that come in pieces.
-use Rattle.std.proofs.Common.{◌≡◌, ℕ, suc, ◌+◌, ◌-◌, ◌*◌, ◌/◌, ◌%◌, ◌^◌, ◌<◌, ◌≤◌, List, [], ◌++◌}
+use Rattle.std.proofs.Common.{◌≡◌, ℕ, suc, ◌+◌, ◌-◌, ◌*◌, ◌/◌, ◌%◌, ◌<◌, List, [], ◌++◌}
 use Rattle.std.proofs.Common.{length, take, drop, inl, inr, subst, replicate, bit_xor, refl, ap}
 use Rattle.std.proofs.Common.{sym, ◌∙◌, arith, length-append, length-drop, length-take}
 use Rattle.std.proofs.Common.{append_assoc}
@@ -9,7 +9,7 @@ use Rattle.std.specs.Int.{w64, w128, to_be_bytes, from_be_bytes}
 use Rattle.aes_ctr.specs.CounterMode.{plus_stream}
 use Rattle.aes_ctr.proofs.Sums.{plus-append, length-plus}
 use Rattle.gcm.specs.Gcm.{product, block_at, hashed, padded, inc32, gctr, gctr_byte, bit_length}
-use Rattle.gcm.specs.Gcm.{hash_subkey, pre_counter, text, hash}
+use Rattle.gcm.specs.Gcm.{hash_subkey, pre_counter, text, hash, IsHashedLength, IsTextLength}
 use Rattle.gcm.specs.Pieces.{hashed_padded, IsHashing, IsAt}
 use Rattle.gcm.specs.declared.message.Message.{Message}
 use Rattle.gcm.specs.declared.message.Phase.{Phase}
@@ -166,9 +166,9 @@ first_text h v a c rest is none =
 pub record IsSoFar (w : List (List ℕ)) (iv a c : List ℕ) (m : Message) : Type 0 where
   pub first : from_be_bytes w128 m.first ≡ pre_counter (hash_subkey w) iv
   pub additional : m.additional ≡ length a
-  pub short : length a < 2 ^ 61
+  pub short : IsHashedLength (length a)
   pub text : m.text ≡ length c
-  pub short_text : length c ≤ 2 ^ 36 - 32
+  pub short_text : IsTextLength (length c)
 
 -- a message that is at either phase has what `IsSoFar` says, so that a tag is proved once for both
 pub so_far : (turn : Phase) (w : List (List ℕ)) (iv a c : List ℕ) (m : Message)
