@@ -30,7 +30,7 @@ pub trait Factor {
 }
 
 // The value after the whole blocks of a string (6.4).
-#[tactic(auto, using(crate::proofs::Hashing::hashed_next))]
+#[tactic(auto, using(crate::proofs::Messages::Hashing::hashed_next))]
 #[inline(always)]
 pub(crate) fn hash_whole<F: Factor, O: ByteOrder>(
     factor: &F,

@@ -11,8 +11,8 @@ use Rattle.std.specs.Int.Bits.{xor_assoc, xor_self, xor_zero_r}
 use Rattle.gcm.specs.Gcm.{bit_of, next_v, v_at, product}
 use Rattle.gcm.specs.Hashed.{hashed_as, number_at}
 use Rattle.gcm.specs.Multiples.{sum_of}
-use Rattle.gcm.proofs.Linear.{term, product_terms, sum-agree, sum-first}
-use Rattle.gcm.proofs.Powers.{right_v, by_one, product_below}
+use Rattle.gcm.proofs.Products.Linear.{term, product_terms, sum-agree, sum-first}
+use Rattle.gcm.proofs.Products.Powers.{right_v, by_one, product_below}
 use Rattle.gcm_siv.specs.GcmSiv.{polynomial, inverse_power, times_x, times_power, times_below}
 use Rattle.gcm_siv.specs.GcmSiv.{times, dot, block_at, summed}
 

@@ -4,7 +4,7 @@ use Rattle.std.proofs.Common.{sym, ◌∙◌}
 use Rattle.std.specs.Int.{w128, from_le_bytes}
 use Rattle.gcm.specs.Gcm.{next_v, padded, product}
 use Rattle.gcm.specs.Hashed.{hashed_as}
-use Rattle.gcm.proofs.Hashing.{length-padded, pieces_as}
+use Rattle.gcm.proofs.Messages.Hashing.{length-padded, pieces_as}
 use Rattle.gcm_siv.specs.GcmSiv.{hash, length_block, polyval}
 use Rattle.gcm_siv.proofs.Field.{summed_is}
 

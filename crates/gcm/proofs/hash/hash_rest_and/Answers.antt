@@ -4,7 +4,7 @@ use Rattle.std.specs.Int.{w128, from_be_bytes}
 use Rattle.std.specs.List.{slice_range}
 use Rattle.gcm.specs.Gcm.{product}
 use Rattle.gcm.specs.Hashed.{hashed_as}
-use Rattle.gcm.proofs.Hashing.{whole_as, with_rest}
+use Rattle.gcm.proofs.Messages.Hashing.{whole_as, with_rest}
 use Rattle.gcm.proofs.hash.hash_rest_and.Goals as goal
 
 pub returns-then-left-eq0 : goal.returns-then-left-eq0

@@ -1,6 +1,6 @@
 -- What is left to show of `holes::product_of_numbers`.
 use Rattle.std.proofs.Common.{ℕ, ◌∙◌, arith, bit_xor, refl}
-use Rattle.gcm.proofs.Carryless.{by_three, columns}
+use Rattle.gcm.proofs.WithoutCarries.Carryless.{by_three, columns}
 use Rattle.gcm.proofs.holes.product_of_numbers.Goals as goal
 
 pub returns : goal.returns

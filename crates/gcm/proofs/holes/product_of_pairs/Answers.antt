@@ -1,7 +1,7 @@
 -- What is left to show of `holes::product_of_pairs`.
 use Rattle.std.proofs.Common.{◌≡◌, ℕ, ◌*◌, ◌%◌, ◌^◌, ◌<◌, ◌∙◌, arith, bit_xor, refl}
 use Rattle.std.proofs.lemmas.Nat.{xor_lt}
-use Rattle.gcm.proofs.Carryless.{by_three}
+use Rattle.gcm.proofs.WithoutCarries.Carryless.{by_three}
 use Rattle.gcm.proofs.holes.product_of_pairs.Goals as goal
 
 pub returns : goal.returns

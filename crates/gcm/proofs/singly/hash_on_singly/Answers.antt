@@ -1,7 +1,7 @@
 -- What is left to show of `singly::hash_on_singly`.
 use Rattle.std.proofs.Common.{ℕ, ◌/◌, ◌∙◌, List, length}
 use Rattle.gcm.specs.Gcm.{padded}
-use Rattle.gcm.proofs.Hashing.{hashed_is}
+use Rattle.gcm.proofs.Messages.Hashing.{hashed_is}
 use Rattle.gcm.proofs.singly.hash_on_singly.Goals as goal
 
 pub returns : goal.returns

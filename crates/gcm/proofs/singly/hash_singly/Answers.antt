@@ -1,7 +1,7 @@
 -- What is left to show of `singly::hash_singly`.
 use Rattle.std.proofs.Common.{◌≡◌, ℕ, ◌-◌, ◌*◌, ◌/◌, ◌%◌, ◌∙◌, ap, arith, length, List, refl}
 use Rattle.std.specs.List.{slice_range}
-use Rattle.gcm.proofs.Hashing.{whole_as, with_rest}
+use Rattle.gcm.proofs.Messages.Hashing.{whole_as, with_rest}
 use Rattle.gcm.proofs.singly.hash_singly.Goals as goal
 
 pub returns-then-over-eq0 : goal.returns-then-over-eq0

@@ -11,7 +11,7 @@ use Rattle.aes_permute.specs.Lookup.{looked, is_index, AreIndices}
 use Rattle.gcm.specs.declared.multiples.TheConstants.{WITHOUT}
 use Rattle.gcm.specs.Gcm.{next_v, v_at}
 use Rattle.gcm.specs.Multiples.{sum_of, byte_of, nibble_multiple, bit_row, multiples_row}
-use Rattle.gcm.proofs.Rows.{by_sixteen, byte_of_sum, byte_at}
+use Rattle.gcm.proofs.Tables.Rows.{by_sixteen, byte_of_sum, byte_at}
 
 -- ---- a byte that is looked up for each nibble
 

@@ -13,8 +13,8 @@ use Rattle.gcm.specs.Gcm.{hash_subkey, pre_counter, text, hash, IsHashedLength, 
 use Rattle.gcm.specs.Pieces.{hashed_padded, IsHashing, IsAt}
 use Rattle.gcm.specs.declared.message.Message.{Message}
 use Rattle.gcm.specs.declared.message.Phase.{Phase}
-use Rattle.gcm.proofs.Counting.{from_second}
-use Rattle.gcm.proofs.Hashing.{hashed_first, hashed_on, all_whole, length-padded, in_pieces}
+use Rattle.gcm.proofs.Messages.Counting.{from_second}
+use Rattle.gcm.proofs.Messages.Hashing.{hashed_first, hashed_on, all_whole, length-padded, in_pieces}
 
 -- a piece that doesn't fill the block
 pub unfilled : (h y v : ℕ) (s rest b after : List ℕ) → IsHashing h y s v rest

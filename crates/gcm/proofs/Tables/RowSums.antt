@@ -13,11 +13,11 @@ use Rattle.aes_permute.proofs.ByHalves.{zip2_take, zip2_drop}
 use Rattle.gcm.specs.Gcm.{v_at}
 use Rattle.gcm.specs.Multiples.{folded, reduced, IsTable, HasRows, subkey_in, row_number}
 use Rattle.gcm.specs.Multiples.{rows_after}
-use Rattle.gcm.proofs.Linear.{exchanged, v_keeps, v_add}
-use Rattle.gcm.proofs.Counting.{block_below}
-use Rattle.gcm.proofs.Reduction.{folded_keeps, reduced_next}
-use Rattle.gcm.proofs.Rows.{zeros_next, value_next, block_moved, block_summed, number_summed}
-use Rattle.gcm.proofs.Rows.{zeros_block, zero_at, half_found}
+use Rattle.gcm.proofs.Products.Linear.{exchanged, v_keeps, v_add}
+use Rattle.gcm.proofs.Messages.Counting.{block_below}
+use Rattle.gcm.proofs.Products.Reduction.{folded_keeps, reduced_next}
+use Rattle.gcm.proofs.Tables.Rows.{zeros_next, value_next, block_moved, block_summed, number_summed}
+use Rattle.gcm.proofs.Tables.Rows.{zeros_block, zero_at, half_found}
 
 -- ---- the sum of the last k rows, with the bits that fell out
 

@@ -17,9 +17,9 @@ use Rattle.aes_permute.proofs.ByHalves.{half_of_both, half_of_zip}
 use Rattle.gcm.specs.declared.moved_rows.TheConstants.{FALLEN_FIRST, FALLEN_SECOND}
 use Rattle.gcm.specs.Gcm.{next_v, v_at}
 use Rattle.gcm.specs.Multiples.{byte_of, nibble_multiple, multiples_row, multiples_rows, row_at}
-use Rattle.gcm.proofs.Linear.{sum-agree, v-sum, v_keeps, v_swap, v_shifted, term, term_through}
-use Rattle.gcm.proofs.Linear.{nibble_below}
-use Rattle.gcm.proofs.Rows.{byte_of_sum, zero_at}
+use Rattle.gcm.proofs.Products.Linear.{sum-agree, v-sum, v_keeps, v_swap, v_shifted, term, term_through}
+use Rattle.gcm.proofs.Products.Linear.{nibble_below}
+use Rattle.gcm.proofs.Tables.Rows.{byte_of_sum, zero_at}
 
 -- ---- a number times x^4
 

@@ -11,9 +11,9 @@ use Rattle.std.specs.Int.Bits.{xor_zero_l, xor_zero_r}
 use Rattle.aes_planes.proofs.Bits.ByteCases.{by_two, by_four, by_pairs}
 use Rattle.gcm.specs.Carryless.{carryless, holes}
 use Rattle.gcm.specs.Multiples.{sum_of}
-use Rattle.gcm.proofs.Carryless.{shift_keeps, joined, left_keeps, right_keeps, left_zero, right_zero}
-use Rattle.gcm.proofs.Carryless.{right_shifted, split, no_bits, cut}
-use Rattle.gcm.proofs.Linear.{exchanged, sum-agree, sum-first, sum-swap, sum-through}
+use Rattle.gcm.proofs.WithoutCarries.Carryless.{shift_keeps, joined, left_keeps, right_keeps, left_zero, right_zero}
+use Rattle.gcm.proofs.WithoutCarries.Carryless.{right_shifted, split, no_bits, cut}
+use Rattle.gcm.proofs.Products.Linear.{exchanged, sum-agree, sum-first, sum-swap, sum-through}
 
 -- ---- masks
 

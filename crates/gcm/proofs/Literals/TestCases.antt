@@ -8,7 +8,7 @@ use Rattle.aes_planes.proofs.Bits.ByteCases.{by_four}
 use Rattle.aes_ctr.specs.CounterMode.{plus_stream}
 use Rattle.aes_ctr.specs.Private.{byte_of_blocks}
 use Rattle.gcm.specs.Gcm.{inc32, counter_at, pre_counter, text}
-use Rattle.gcm.proofs.OnLiterals.{gcm_on_literals, text_by}
+use Rattle.gcm.proofs.Literals.OnLiterals.{gcm_on_literals, text_by}
 
 -- the round keys of the cases' key
 abbrev pub w : List (List ℕ)

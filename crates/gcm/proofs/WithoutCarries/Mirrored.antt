@@ -6,7 +6,7 @@ use Rattle.std.proofs.lemmas.Bool.{eqb-true}
 use Rattle.std.specs.Int.{reverse_bits_onto, reverse_bits, w32}
 use Rattle.aes_planes.proofs.Bits.ByteCases.{all_below, all_pairs, all_pairs_tell}
 use Rattle.gcm.specs.Carryless.{carryless}
-use Rattle.gcm.proofs.Carryless.{joined, left_keeps, left_zero, right_keeps, right_zero, same_linear}
+use Rattle.gcm.proofs.WithoutCarries.Carryless.{joined, left_keeps, left_zero, right_keeps, right_zero, same_linear}
 
 -- reversed bits behind others: sums stay
 onto_keeps : (k a b c d : ℕ) → reverse_bits_onto k (bit_xor a b) (bit_xor c d)

@@ -10,11 +10,11 @@ use Rattle.aes_planes.proofs.Bits.ByteCases.{all_below, all_below_tells, by_two}
 use Rattle.gcm.specs.Gcm.{bit_of, next_v, v_at, product}
 use Rattle.gcm.specs.Carryless.{carryless}
 use Rattle.gcm.specs.Multiples.{sum_of, folded}
-use Rattle.gcm.proofs.Linear.{exchanged, sum-agree, term, term_adds, term_keeps, term_through}
-use Rattle.gcm.proofs.Linear.{term_zero}
-use Rattle.gcm.proofs.Linear.{product_terms, v_add, v_below, v_keeps, v_shifted, v_zero}
-use Rattle.gcm.proofs.Powers.{product_below}
-use Rattle.gcm.proofs.Reduction.{folded_keeps}
+use Rattle.gcm.proofs.Products.Linear.{exchanged, sum-agree, term, term_adds, term_keeps, term_through}
+use Rattle.gcm.proofs.Products.Linear.{term_zero}
+use Rattle.gcm.proofs.Products.Linear.{product_terms, v_add, v_below, v_keeps, v_shifted, v_zero}
+use Rattle.gcm.proofs.Products.Powers.{product_below}
+use Rattle.gcm.proofs.Products.Reduction.{folded_keeps}
 
 -- ---- numbers that are shifted
 

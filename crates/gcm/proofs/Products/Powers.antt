@@ -7,11 +7,11 @@ use Rattle.std.proofs.lemmas.Bool.{eqb-true}
 use Rattle.aes_planes.proofs.Bits.ByteCases.{all_below, all_below_tells}
 use Rattle.gcm.specs.Gcm.{bit_of, v_at, next_v, product}
 use Rattle.gcm.specs.Multiples.{sum_of, byte_of, nibble_multiple, byte_multiple}
-use Rattle.gcm.proofs.Linear.{term, term_adds, term_keeps, term_zero, term_below, term_through}
-use Rattle.gcm.proofs.Linear.{product_terms, product_bytes, byte_small, sum-agree, sum-add}
-use Rattle.gcm.proofs.Linear.{sum-zero, sum-through, v-sum, v_keeps, v_zero, v_swap, v_below}
-use Rattle.gcm.proofs.Linear.{sum-below}
-use Rattle.gcm.proofs.Reduction.{number_sum, placed}
+use Rattle.gcm.proofs.Products.Linear.{term, term_adds, term_keeps, term_zero, term_below, term_through}
+use Rattle.gcm.proofs.Products.Linear.{product_terms, product_bytes, byte_small, sum-agree, sum-add}
+use Rattle.gcm.proofs.Products.Linear.{sum-zero, sum-through, v-sum, v_keeps, v_zero, v_swap, v_below}
+use Rattle.gcm.proofs.Products.Linear.{sum-below}
+use Rattle.gcm.proofs.Products.Reduction.{number_sum, placed}
 
 -- ---- products keep sums
 
