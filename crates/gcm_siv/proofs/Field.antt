@@ -1,18 +1,19 @@
 -- POLYVAL's field is GCM's with the bits in the other order: dot is GCM's product with x^-1 times a
 -- factor (RFC 8452, appendix A).
 use Rattle.std.proofs.Common.{◌≡◌, ℕ, zero, suc, ◌+◌, ◌-◌, ◌*◌, ◌/◌, ◌%◌, ◌^◌, ◌<◌, ◌≤◌, ◌==◌}
-use Rattle.std.proofs.Common.{if◌then◌else◌, Bool, List, true, false, inl, inr, bit_xor, refl, ap}
+use Rattle.std.proofs.Common.{if◌then◌else◌, List, inl, inr, bit_xor, refl, ap}
 use Rattle.std.proofs.Common.{sym, ◌∙◌, arith}
 use Rattle.std.proofs.lemmas.Bool.{cases_lt}
-use Rattle.std.proofs.lemmas.Nat.{xor_comm, xor_shr, xor_mod}
+use Rattle.std.proofs.lemmas.Nat.{xor_comm, xor_shr}
 use Rattle.std.specs.Int.{w128, from_le_bytes}
 use Rattle.std.specs.List.{slice_range}
-use Rattle.std.specs.Int.Bits.{xor_assoc, xor_self, xor_zero_r}
+use Rattle.std.specs.Int.Bits.{xor_zero_r}
 use Rattle.gcm.specs.Gcm.{bit_of, next_v, v_at, product}
 use Rattle.gcm.specs.Hashed.{hashed_as, number_at}
 use Rattle.gcm.specs.Multiples.{sum_of}
-use Rattle.gcm.proofs.Products.Linear.{term, product_terms, sum-agree, sum-first}
-use Rattle.gcm.proofs.Products.Powers.{right_v, by_one, product_below}
+use Rattle.gcm.proofs.Products.Linear.{added_unless, next_even, next_keeps, term, product_terms}
+use Rattle.gcm.proofs.Products.Linear.{sum-agree, sum-first}
+use Rattle.gcm.proofs.Products.Powers.{product_right_v, product_by_one, product_below}
 use Rattle.gcm_siv.specs.GcmSiv.{polynomial, inverse_power, times_x, times_power, times_below}
 use Rattle.gcm_siv.specs.GcmSiv.{times, dot, block_at, summed}
 
@@ -49,27 +50,20 @@ times_small b small = elim (cases_lt b (2 ^ 127)) [
 
 -- x^-1 undoes x where the element had no x^127
 even_back : (b : ℕ) → next_v (2 * b) ≡ b
-unfolding next_v
 even_back b =
-    let none : 2 * b % 2 ≡ 0 = omega arith in
-    let half : 2 * b / 2 ≡ b = omega arith in
-    ap (λ r. if r == 0 then 2 * b / 2 else bit_xor (2 * b / 2) (0xe1 * 2 ^ 120)) none ∙ half
+    let turned : 2 * b ≡ b * 2 = omega arith in
+    ap next_v turned ∙ next_even b
 
--- x^-1 undoes x where the element had x^127: the polynomial was added, whose last bit tells
-odd_back : (b : ℕ) → next_v (bit_xor (2 * b) polynomial) ≡ b
+-- x^-1 times the polynomial, which is 0 in the field
+none_of_polynomial : next_v polynomial ≡ 0
 unfolding next_v
+none_of_polynomial = refl
+
+-- x^-1 undoes x where the element had x^127: the polynomial was added
+odd_back : (b : ℕ) → next_v (bit_xor (2 * b) polynomial) ≡ b
 odd_back b =
-    let n : ℕ = bit_xor (2 * b) polynomial in
-    let none : 2 * b % 2 ≡ 0 = omega arith in
-    let whole : 2 * b / 2 ≡ b = omega arith in
-    let last : n % 2 ≡ 1 = xor_mod (2 * b) polynomial 1 ∙ ap (λ r. bit_xor r 1) none in
-    let half : n / 2 ≡ bit_xor b (0xe1 * 2 ^ 120) =
-    xor_shr (2 * b) polynomial 1 ∙ ap (λ h. bit_xor h (0xe1 * 2 ^ 120)) whole in
-    ap (λ r. if r == 0 then n / 2 else bit_xor (n / 2) (0xe1 * 2 ^ 120)) last
-    ∙ ap (λ h. bit_xor h (0xe1 * 2 ^ 120)) half
-    ∙ xor_assoc b (0xe1 * 2 ^ 120) (0xe1 * 2 ^ 120)
-    ∙ ap (bit_xor b) (xor_self (0xe1 * 2 ^ 120))
-    ∙ xor_zero_r b
+    next_keeps (2 * b) polynomial
+    ∙ (λ t. bit_xor (even_back b t) (none_of_polynomial t)) ∙ xor_zero_r b
 
 -- x^-1 undoes x
 back : (b : ℕ) → b < 2 ^ 128 → next_v (times_x b) ≡ b
@@ -135,12 +129,8 @@ times_terms : (a b n : ℕ) → times_below a b n
 unfolding times_below sum_of term
 times_terms a b zero = refl
 times_terms a b (suc n) =
-    by_test (a / 2 ^ n % 2 == 0) (times_below a b n) (times_power b n)
+    added_unless (a / 2 ^ n % 2 == 0) (times_below a b n) (times_power b n)
     ∙ ap (λ s. bit_xor s (term (a / 2 ^ n % 2) (times_power b n))) (times_terms a b n)
-  where
-    by_test : (t : Bool) (z v : ℕ) → (if t then z else bit_xor z v) ≡ bit_xor z (if t then 0 else v)
-    by_test true z v = sym (xor_zero_r z)
-    by_test false z v = refl
 
 -- GCM's product has x^-127
 times_is : (a b : ℕ) → b < 2 ^ 128 → times a b ≡ product a (times_power b 127)
@@ -170,9 +160,9 @@ dot_is a b small =
     ap (λ n. times n inverse_power) (times_is a b small)
     ∙ times_is c inverse_power (omega arith)
     ∙ ap (product c) inverse_is
-    ∙ right_v c (2 ^ 127) 128
-    ∙ ap (λ n. v_at n 128) (by_one c c_small)
-    ∙ sym (right_v a (times_power b 127) 128)
+    ∙ product_right_v c (2 ^ 127) 128
+    ∙ ap (λ n. v_at n 128) (product_by_one c c_small)
+    ∙ sym (product_right_v a (times_power b 127) 128)
     ∙ ap (product a) (back_one b small)
 
 -- POLYVAL by GCM's products

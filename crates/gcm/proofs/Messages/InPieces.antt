@@ -14,7 +14,8 @@ use Rattle.gcm.specs.Pieces.{hashed_padded, IsHashing, IsAt}
 use Rattle.gcm.specs.declared.message.Message.{Message}
 use Rattle.gcm.specs.declared.message.Phase.{Phase}
 use Rattle.gcm.proofs.Messages.Counting.{from_second}
-use Rattle.gcm.proofs.Messages.Hashing.{hashed_first, hashed_on, all_whole, length-padded, in_pieces}
+use Rattle.gcm.proofs.Messages.Hashing.{hashed_first, hashed_on, hashed_whole, length-padded}
+use Rattle.gcm.proofs.Messages.Hashing.{ghash_pieces}
 
 -- a piece that doesn't fill the block
 pub unfilled : (h y v : ℕ) (s rest b after : List ℕ) → IsHashing h y s v rest
@@ -71,7 +72,7 @@ whole_blocks h y v s rest b after is before whole =
     let blocks : n + m ≡ length (s ++ b) / 16 = omega (arith, long, before, whole) in
     let places : length (s ++ b) % 16 ≡ 0 = omega (arith, long, before, whole) in
     record {
-      value = sym (all_whole h v (hashed h v b m) m b refl refl (omega (arith, whole)))
+      value = sym (hashed_whole h v (hashed h v b m) m b refl refl (omega (arith, whole)))
           ∙ ap (λ z. hashed h z b m) is.value ∙ sym (hashed_on h y s b n m (omega (arith, before)))
           ∙ ap (hashed h y (s ++ b)) blocks;
       rest = ap (λ k. take k after) places
@@ -143,7 +144,8 @@ unfolding hashed_padded hash bit_length
 summed h v m n a c is a_long c_long =
     (λ t. product (bit_xor (is t)
     (from_be_bytes w128 (to_be_bytes w64 (8 * a_long t) ++ to_be_bytes w64 (8 * c_long t)))) h)
-    ∙ sym (in_pieces h (padded a) (padded c) (bit_length a ++ bit_length c) ((length a + 15) / 16)
+    ∙ sym (ghash_pieces h (padded a) (padded c) (bit_length a ++ bit_length c)
+    ((length a + 15) / 16)
     ((length c + 15) / 16)
     (length-padded a) (length-padded c) refl)
 

@@ -1,13 +1,14 @@
 -- Rows of multiples for four powers of x more.
-use Rattle.std.proofs.Common.{◌≡◌, ℕ, suc, ◌+◌, ◌-◌, ◌*◌, ◌/◌, ◌%◌, ◌^◌, ◌<◌, ◌==◌, Bool, true, false}
-use Rattle.std.proofs.Common.{cond, List, [], ◌++◌, length, take, drop, get_or, map, replicate}
-use Rattle.std.proofs.Common.{bit_xor, refl, ap, sym, ◌∙◌, arith}
-use Rattle.std.proofs.lemmas.Nat.{xor_block, shr-shr}
+use Rattle.std.proofs.Common.{◌≡◌, ℕ, suc, ◌+◌, ◌-◌, ◌*◌, ◌/◌, ◌%◌, ◌^◌, ◌<◌, ◌==◌, cond}
+use Rattle.std.proofs.Common.{Bool, true, false, List, [], ◌++◌, length, take, drop, get_or, map}
+use Rattle.std.proofs.Common.{replicate, bit_xor, refl, ap, sym, ◌∙◌, arith}
+use Rattle.std.proofs.lemmas.Nat.{xor_comm, shr-shr}
 use Rattle.std.proofs.lemmas.Bool.{eqb-true}
-use Rattle.std.proofs.lemmas.List.{get_or-map, length-map, length-take, length-drop, take_at, drop_at}
+use Rattle.std.proofs.lemmas.List.{get_or-map, length-map, length-take, length-drop, take_at}
+use Rattle.std.proofs.lemmas.List.{drop_at}
 use Rattle.std.proofs.lemmas.Simd.{get_or-zip2, length-zip2}
 use lib.Lanes.{zip2}
-use Rattle.std.specs.Int.Bits.{xor_zero_l, xor_zero_r}
+use Rattle.std.specs.Int.Bits.{xor_zero_r}
 use Rattle.aes_planes.proofs.Bits.ByteCases.{all_below, all_below_tells}
 use Rattle.aes_planes.proofs.Lists.{get_or-build, build_is}
 use Rattle.aes_planes.proofs.Words.ByteLanes.{lane_of_splats, shr8, shl8}
@@ -17,8 +18,9 @@ use Rattle.aes_permute.proofs.ByHalves.{half_of_both, half_of_zip}
 use Rattle.gcm.specs.declared.moved_rows.TheConstants.{FALLEN_FIRST, FALLEN_SECOND}
 use Rattle.gcm.specs.Gcm.{next_v, v_at}
 use Rattle.gcm.specs.Multiples.{byte_of, nibble_multiple, multiples_row, multiples_rows, row_at}
-use Rattle.gcm.proofs.Products.Linear.{sum-agree, v-sum, v_keeps, v_swap, v_shifted, term, term_through}
-use Rattle.gcm.proofs.Products.Linear.{nibble_below}
+use Rattle.gcm.proofs.Products.Linear.{sum-agree, v-sum, v_keeps, v_swap, v_shifted, term}
+use Rattle.gcm.proofs.Products.Linear.{term_through}
+use Rattle.gcm.proofs.Products.Linear.{joined, nibble_below}
 use Rattle.gcm.proofs.Tables.Rows.{byte_of_sum, zero_at}
 
 -- ---- a number times x^4
@@ -27,20 +29,15 @@ use Rattle.gcm.proofs.Tables.Rows.{byte_of_sum, zero_at}
 four_shifted : (k : ℕ) → v_at k 4 ≡ bit_xor (k / 16) (v_at (k % 16) 4)
 four_shifted k =
     let parts : k ≡ bit_xor (k / 16 * 2 ^ 4) (k % 16) =
-    sym ((λ t. bit_xor (let e : k / 16 * 2 ^ 4 ≡ k / 16 * 2 ^ 4 + 0 = omega arith in e t)
-    (let e : k % 16 ≡ 0 * 2 ^ 4 + k % 16 = omega arith in e t))
-    ∙ xor_block 4 (k / 16) 0 0 (k % 16) (omega arith) (omega arith)
-    ∙ (λ t. xor_zero_r (k / 16) t * 2 ^ 4 + xor_zero_l (k % 16) t) ∙ omega arith) in
+    sym (joined 4 (k / 16) (k % 16) (omega arith) ∙ omega arith) in
     ap (λ y. v_at y 4) parts ∙ v_keeps 4 (k / 16 * 2 ^ 4) (k % 16)
     ∙ ap (λ y. bit_xor y (v_at (k % 16) 4)) (v_shifted 4 (k / 16))
 
 -- a nibble behind another
 nibbles_sum : (a b : ℕ) → a < 16 → bit_xor a (b * 16 % 256) ≡ b * 16 % 256 + a
 nibbles_sum a b small =
-    (λ t. bit_xor (let e : a ≡ 0 * 2 ^ 4 + a = omega arith in e t)
-    (let e : b * 16 % 256 ≡ b % 16 * 2 ^ 4 + 0 = omega arith in e t))
-    ∙ xor_block 4 0 (b % 16) a 0 small (omega arith)
-    ∙ (λ t. xor_zero_l (b % 16) t * 2 ^ 4 + xor_zero_r a t) ∙ omega arith
+    let shifted : b * 16 % 256 ≡ b % 16 * 2 ^ 4 = omega arith in
+    ap (bit_xor a) shifted ∙ xor_comm a (b % 16 * 2 ^ 4) ∙ joined 4 (b % 16) a small ∙ omega arith
 
 -- a byte of the bits that are left, with those of the byte before it
 byte_moved : (m r : ℕ) → r < 15
@@ -139,10 +136,10 @@ row_with v r row long lanes =
     (λ n h. ap (λ y. byte_of y r) (nibble_four v n) ∙ sym (lanes n h)))
 
 -- a lane of a row that there is
-there : (v p n : ℕ) (rows : List (List ℕ)) → rows ≡ multiples_rows v → p < 16 → n < 16
+lane_of_row : (v p n : ℕ) (rows : List (List ℕ)) → rows ≡ multiples_rows v → p < 16 → n < 16
     → get_or (get_or rows p []) n 0 ≡ byte_of (nibble_multiple v n) (row_at p)
 unfolding multiples_rows multiples_row
-there v p n rows is inside small =
+lane_of_row v p n rows is inside small =
     ap (λ l. get_or (get_or l p []) n 0) is
     ∙ ap (λ l. get_or l n 0) (get_or-build 16 p (λ i. multiples_row v (row_at i)) [] inside)
     ∙ get_or-build 16 n (λ n. byte_of (nibble_multiple v n) (row_at p)) 0 small
@@ -155,8 +152,9 @@ pub later_row : (v r p q : ℕ) (rows : List (List ℕ)) (row : List ℕ) → ro
     → row ≡ multiples_row (v_at v 4) (row_at p)
 later_row v r p q rows row is hp hq inside p_is q_is long lanes =
     row_with v (suc (suc r)) row long (λ n h. lanes n h
-    ∙ (λ t. bit_xor ((there v p n rows is hp h ∙ ap (byte_of (nibble_multiple v n)) p_is) t / 16)
-    ((there v q n rows is hq h ∙ ap (byte_of (nibble_multiple v n)) q_is) t * 16 % 256))
+    ∙ (λ t. bit_xor ((lane_of_row v p n rows is hp h
+    ∙ ap (byte_of (nibble_multiple v n)) p_is) t / 16)
+    ((lane_of_row v q n rows is hq h ∙ ap (byte_of (nibble_multiple v n)) q_is) t * 16 % 256))
     ∙ sym (four_later (nibble_multiple v n) r inside))
     ∙ ap (multiples_row (v_at v 4)) (sym p_is)
 
@@ -194,9 +192,9 @@ first_row v rows m t last small is long sized lanes t_is last_is =
     (fallen_long FALLEN_FIRST m t last (get_or rows 15 []) long sized t_is last_is)
     (λ n h. fallen_lane FALLEN_FIRST m t last (get_or rows 15 []) long sized t_is last_is n h
     ∙ (λ u. bit_xor ((lanes n h
-    ∙ (λ w. bit_xor (there v 0 n rows is (omega arith) h w / 16) (zero_at n w * 16 % 256))
+    ∙ (λ w. bit_xor (lane_of_row v 0 n rows is (omega arith) h w / 16) (zero_at n w * 16 % 256))
     ∙ xor_zero_r (byte_of (nibble_multiple v n) 0 / 16)) u)
-    (looked FALLEN_FIRST (there v 15 n rows is (omega arith) h u % 16)))
+    (looked FALLEN_FIRST (lane_of_row v 15 n rows is (omega arith) h u % 16)))
     ∙ sym (four_first (nibble_multiple v n) (nibble_below v n small)))
 
 -- the second row for four powers of x more
@@ -211,9 +209,9 @@ second_row v rows m t last is long sized lanes t_is last_is =
     (fallen_long FALLEN_SECOND m t last (get_or rows 15 []) long sized t_is last_is)
     (λ n h. fallen_lane FALLEN_SECOND m t last (get_or rows 15 []) long sized t_is last_is n h
     ∙ (λ u. bit_xor ((lanes n h
-    ∙ (λ w. bit_xor (there v 2 n rows is (omega arith) h w / 16)
-    (there v 0 n rows is (omega arith) h w * 16 % 256))) u)
-    (looked FALLEN_SECOND (there v 15 n rows is (omega arith) h u % 16)))
+    ∙ (λ w. bit_xor (lane_of_row v 2 n rows is (omega arith) h w / 16)
+    (lane_of_row v 0 n rows is (omega arith) h w * 16 % 256))) u)
+    (looked FALLEN_SECOND (lane_of_row v 15 n rows is (omega arith) h u % 16)))
     ∙ sym (four_second (nibble_multiple v n)))
 
 -- ---- two rows in a vector

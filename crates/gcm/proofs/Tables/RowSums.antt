@@ -8,12 +8,13 @@ use Rattle.std.specs.Int.{w128, from_be_bytes}
 use Rattle.std.specs.Int.Bits.{xor_assoc, xor_zero_r}
 use lib.Lanes.{zip2}
 use Rattle.aes_planes.specs.Fips197.{IsBlock}
+use Rattle.aes_planes.proofs.Standard.FieldLaws.{add_swap}
 use Rattle.aes_permute.specs.Lookup.{by_nibbles}
 use Rattle.aes_permute.proofs.ByHalves.{zip2_take, zip2_drop}
 use Rattle.gcm.specs.Gcm.{v_at}
 use Rattle.gcm.specs.Multiples.{folded, reduced, IsTable, HasRows, subkey_in, row_number}
 use Rattle.gcm.specs.Multiples.{rows_after}
-use Rattle.gcm.proofs.Products.Linear.{exchanged, v_keeps, v_add}
+use Rattle.gcm.proofs.Products.Linear.{v_keeps, v_add}
 use Rattle.gcm.proofs.Messages.Counting.{block_below}
 use Rattle.gcm.proofs.Products.Reduction.{folded_keeps, reduced_next}
 use Rattle.gcm.proofs.Tables.Rows.{zeros_next, value_next, block_moved, block_summed, number_summed}
@@ -103,55 +104,55 @@ rows_summed f g r p q a b =
 -- ---- eight bytes on
 
 -- one byte on: the two blocks stand for the same number times x ^ 8
-chain : (y n k l k' l' t : ℕ) → reduced k l ≡ v_at y n → k' ≡ k / 256
+one_byte_on : (y n k l k' l' t : ℕ) → reduced k l ≡ v_at y n → k' ≡ k / 256
     → l' ≡ k % 256 * 2 ^ 120 + l / 256 → l ≡ t * 2 ^ 16
     → l < 2 ^ 128 → reduced k' l' ≡ v_at y (n + 8)
-chain y n k l k' l' t before k_is l_is is small =
+one_byte_on y n k l k' l' t before k_is l_is is small =
     (λ u. reduced ((k_is ∙ sym (xor_zero_r (k / 256))) u) (l_is u))
     ∙ reduced_next k l t 0 is small ∙ xor_zero_r (v_at (reduced k l) 8)
     ∙ ap (λ z. v_at z 8) before ∙ v_add y n 8
 
 -- eight bytes on, in one shift: the upper half's sum has to be moved so far before it is added to
 -- the lower's
-eight_on : (k l q : ℕ) → l ≡ q * 2 ^ 72 → l < 2 ^ 128
+eight_bytes_on : (k l q : ℕ) → l ≡ q * 2 ^ 72 → l < 2 ^ 128
     → reduced (k / 2 ^ 64) (k % 2 ^ 64 * 2 ^ 64 + l / 2 ^ 64) ≡ v_at (reduced k l) 64
 unfolding v_at
-eight_on k l q is small =
+eight_bytes_on k l q is small =
     let y = reduced k l in
     let e1 : reduced (k / 2 ^ 8) (k % 2 ^ 8 * 2 ^ 120 + l / 2 ^ 8) ≡ v_at y 8 =
-    chain y 0 k l (k / 2 ^ 8) (k % 2 ^ 8 * 2 ^ 120 + l / 2 ^ 8) (q * 2 ^ 56) refl
+    one_byte_on y 0 k l (k / 2 ^ 8) (k % 2 ^ 8 * 2 ^ 120 + l / 2 ^ 8) (q * 2 ^ 56) refl
     (omega arith) (omega arith) (omega (arith, is)) small in
     let e2 : reduced (k / 2 ^ 16) (k % 2 ^ 16 * 2 ^ 112 + l / 2 ^ 16) ≡ v_at y 16 =
-    chain y 8 (k / 2 ^ 8) (k % 2 ^ 8 * 2 ^ 120 + l / 2 ^ 8) (k / 2 ^ 16)
+    one_byte_on y 8 (k / 2 ^ 8) (k % 2 ^ 8 * 2 ^ 120 + l / 2 ^ 8) (k / 2 ^ 16)
     (k % 2 ^ 16 * 2 ^ 112 + l / 2 ^ 16)
     (k % 2 ^ 8 * 2 ^ 104 + q * 2 ^ 48) e1 (omega arith) (omega arith) (omega (arith, is))
     (omega (arith, small)) in
     let e3 : reduced (k / 2 ^ 24) (k % 2 ^ 24 * 2 ^ 104 + l / 2 ^ 24) ≡ v_at y 24 =
-    chain y 16 (k / 2 ^ 16) (k % 2 ^ 16 * 2 ^ 112 + l / 2 ^ 16) (k / 2 ^ 24)
+    one_byte_on y 16 (k / 2 ^ 16) (k % 2 ^ 16 * 2 ^ 112 + l / 2 ^ 16) (k / 2 ^ 24)
     (k % 2 ^ 24 * 2 ^ 104 + l / 2 ^ 24)
     (k % 2 ^ 16 * 2 ^ 96 + q * 2 ^ 40) e2 (omega arith) (omega arith) (omega (arith, is))
     (omega (arith, small)) in
     let e4 : reduced (k / 2 ^ 32) (k % 2 ^ 32 * 2 ^ 96 + l / 2 ^ 32) ≡ v_at y 32 =
-    chain y 24 (k / 2 ^ 24) (k % 2 ^ 24 * 2 ^ 104 + l / 2 ^ 24) (k / 2 ^ 32)
+    one_byte_on y 24 (k / 2 ^ 24) (k % 2 ^ 24 * 2 ^ 104 + l / 2 ^ 24) (k / 2 ^ 32)
     (k % 2 ^ 32 * 2 ^ 96 + l / 2 ^ 32)
     (k % 2 ^ 24 * 2 ^ 88 + q * 2 ^ 32) e3 (omega arith) (omega arith) (omega (arith, is))
     (omega (arith, small)) in
     let e5 : reduced (k / 2 ^ 40) (k % 2 ^ 40 * 2 ^ 88 + l / 2 ^ 40) ≡ v_at y 40 =
-    chain y 32 (k / 2 ^ 32) (k % 2 ^ 32 * 2 ^ 96 + l / 2 ^ 32) (k / 2 ^ 40)
+    one_byte_on y 32 (k / 2 ^ 32) (k % 2 ^ 32 * 2 ^ 96 + l / 2 ^ 32) (k / 2 ^ 40)
     (k % 2 ^ 40 * 2 ^ 88 + l / 2 ^ 40)
     (k % 2 ^ 32 * 2 ^ 80 + q * 2 ^ 24) e4 (omega arith) (omega arith) (omega (arith, is))
     (omega (arith, small)) in
     let e6 : reduced (k / 2 ^ 48) (k % 2 ^ 48 * 2 ^ 80 + l / 2 ^ 48) ≡ v_at y 48 =
-    chain y 40 (k / 2 ^ 40) (k % 2 ^ 40 * 2 ^ 88 + l / 2 ^ 40) (k / 2 ^ 48)
+    one_byte_on y 40 (k / 2 ^ 40) (k % 2 ^ 40 * 2 ^ 88 + l / 2 ^ 40) (k / 2 ^ 48)
     (k % 2 ^ 48 * 2 ^ 80 + l / 2 ^ 48)
     (k % 2 ^ 40 * 2 ^ 72 + q * 2 ^ 16) e5 (omega arith) (omega arith) (omega (arith, is))
     (omega (arith, small)) in
     let e7 : reduced (k / 2 ^ 56) (k % 2 ^ 56 * 2 ^ 72 + l / 2 ^ 56) ≡ v_at y 56 =
-    chain y 48 (k / 2 ^ 48) (k % 2 ^ 48 * 2 ^ 80 + l / 2 ^ 48) (k / 2 ^ 56)
+    one_byte_on y 48 (k / 2 ^ 48) (k % 2 ^ 48 * 2 ^ 80 + l / 2 ^ 48) (k / 2 ^ 56)
     (k % 2 ^ 56 * 2 ^ 72 + l / 2 ^ 56)
     (k % 2 ^ 48 * 2 ^ 64 + q * 2 ^ 8) e6 (omega arith) (omega arith) (omega (arith, is))
     (omega (arith, small)) in
-    chain y 56 (k / 2 ^ 56) (k % 2 ^ 56 * 2 ^ 72 + l / 2 ^ 56) (k / 2 ^ 64)
+    one_byte_on y 56 (k / 2 ^ 56) (k % 2 ^ 56 * 2 ^ 72 + l / 2 ^ 56) (k / 2 ^ 64)
     (k % 2 ^ 64 * 2 ^ 64 + l / 2 ^ 64)
     (k % 2 ^ 56 * 2 ^ 56 + q) e7 (omega arith) (omega arith) (omega (arith, is))
     (omega (arith, small))
@@ -185,7 +186,7 @@ reduced_keeps : (a b c d : ℕ) → reduced (bit_xor a b) (bit_xor c d)
     ≡ bit_xor (reduced a c) (reduced b d)
 unfolding reduced
 reduced_keeps a b c d = ap (bit_xor (bit_xor a b)) (folded_keeps c d)
-    ∙ exchanged a b (folded c) (folded d)
+    ∙ add_swap a b (folded c) (folded d)
 
 -- the last nine bytes of what fell out are zeros, so eight of them can go
 nine_zeros : (x : List ℕ) → ((i : ℕ) → 8 ≤ i + 1 → get_or x i 0 ≡ 0)
@@ -256,7 +257,7 @@ both_halves row k first second is end =
     (from_be_bytes w128 (take 16 second))
     (x % 2 ^ 64 * 2 ^ 64 + y / 2 ^ 64)
     ∙ (λ u. bit_xor (all.lower.value u)
-    ((eight_on x y (y / 2 ^ 72) (nine_zeros (drop 16 second) all.upper.zeros)
+    ((eight_bytes_on x y (y / 2 ^ 72) (nine_zeros (drop 16 second) all.upper.zeros)
     (block_below (drop 16 second) all.upper.second_block) ∙ ap (λ v. v_at v 64) all.upper.value) u))
     ∙ xor_comm (rows_after (lower_rows row) 8) (v_at (rows_after row 8) 64)
     ∙ sym (rows_on row 8)

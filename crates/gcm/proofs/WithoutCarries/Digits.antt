@@ -1,19 +1,24 @@
--- Numbers by digits of 16, and products of numbers with holes between their bits: no carry reaches the next bit, so they are
--- products without carries.
+-- Numbers by digits of 16, and products of numbers with holes between their bits: no carry reaches
+-- the next bit, so they are products without carries.
 use Rattle.std.proofs.Common.{◌≡◌, ℕ, zero, suc, ◌+◌, ◌-◌, ◌*◌, ◌/◌, ◌%◌, ◌^◌, ◌<◌, ◌≤◌}
 use Rattle.std.proofs.Common.{bit_and, bit_xor, min, refl, ap, sym, ◌∙◌, subst}
 use Rattle.std.proofs.Common.{arith, inl, inr}
 use Rattle.std.proofs.lemmas.Bool.{cases_lt}
-use Rattle.std.proofs.lemmas.Nat.{xor_comm, and_block, and_comm, and_le_r, and_mask, pow_pos, mul-lt}
+use Rattle.std.proofs.lemmas.Nat.{xor_comm, and_block, and_comm, and_le_r, and_mask, pow_pos}
+use Rattle.std.proofs.lemmas.Nat.{mul-lt}
 use Rattle.std.proofs.lemmas.Nat.{pow-add, shl-shr, shr_high, and_mod, xor_mod}
 use Rattle.std.proofs.lemmas.Nat.Bits.{bit_at-lt, bit_at_and, bit_at_xor, same_from_bits}
-use Rattle.std.specs.Int.Bits.{xor_zero_l, xor_zero_r}
+use Rattle.std.specs.Int.Bits.{and_zero_r, xor_zero_l, xor_zero_r}
 use Rattle.aes_planes.proofs.Bits.ByteCases.{by_two, by_four, by_pairs}
+use Rattle.aes_planes.proofs.Standard.FieldLaws.{add_swap}
 use Rattle.gcm.specs.Carryless.{carryless, holes}
 use Rattle.gcm.specs.Multiples.{sum_of}
-use Rattle.gcm.proofs.WithoutCarries.Carryless.{shift_keeps, joined, left_keeps, right_keeps, left_zero, right_zero}
-use Rattle.gcm.proofs.WithoutCarries.Carryless.{right_shifted, split, no_bits, cut}
-use Rattle.gcm.proofs.Products.Linear.{exchanged, sum-agree, sum-first, sum-swap, sum-through}
+use Rattle.gcm.proofs.WithoutCarries.Carryless.{carryless_left_keeps, carryless_right_keeps}
+use Rattle.gcm.proofs.WithoutCarries.Carryless.{carryless_left_zero, carryless_right_zero}
+use Rattle.gcm.proofs.WithoutCarries.Carryless.{carryless_right_shifted, carryless_split}
+use Rattle.gcm.proofs.WithoutCarries.Carryless.{carryless_no_bits, carryless_cut}
+use Rattle.gcm.proofs.Products.Linear.{shift_keeps, joined, sum-agree, sum-first, sum-swap}
+use Rattle.gcm.proofs.Products.Linear.{sum-through}
 
 -- ---- masks
 
@@ -37,9 +42,8 @@ masked_shifted : (k n m r : ℕ) → r < 2 ^ k
     → bit_and (n * 2 ^ k + r) (m * 2 ^ k) ≡ bit_and n m * 2 ^ k
 masked_shifted k n m r small =
     let mask : m * 2 ^ k ≡ m * 2 ^ k + 0 = omega arith in
-    let none : bit_and r 0 ≡ 0 = omega (arith, and_le_r r 0) in
     ap (bit_and (n * 2 ^ k + r)) mask ∙ and_block k n m r 0 small (pow_pos k)
-    ∙ ap (λ z. bit_and n m * 2 ^ k + z) none ∙ omega arith
+    ∙ ap (λ z. bit_and n m * 2 ^ k + z) (and_zero_r r) ∙ omega arith
 
 -- the lowest bits of n + 1 digits
 holes_next : (x n : ℕ) → bit_and x (holes (suc n)) ≡ bit_and (x / 16) (holes n) * 16 + x % 2
@@ -99,14 +103,10 @@ bits_apart : (x n : ℕ) → bit_and x (holes (suc n))
 bits_apart x n = holes_next x n
     ∙ sym (joined 4 (bit_and (x / 16) (holes n)) (x % 2) (omega arith))
 
--- nothing is left of a number under a mask of no bit
-none_left : (x : ℕ) → bit_and x 0 ≡ 0
-none_left x = omega (arith, and_le_r x 0)
-
 -- nothing is left of a number under the mask of no digit
 none_masked : (x : ℕ) → bit_and x (holes 0) ≡ 0
 unfolding holes
-none_masked x = none_left x
+none_masked x = and_zero_r x
 
 -- the lowest bits of the digits of a sum that has no carry
 bits_summed : (m k n x y : ℕ) → m + k < 16 → AreDigits m n x → AreDigits k n y
@@ -125,7 +125,7 @@ bits_summed m k (suc n) x y small is also =
     ∙ (λ t. bit_xor ((ap (λ z. bit_and z (holes n)) upper
     ∙ bits_summed m k n (x / 16) (y / 16) small is.1 also.1) t * 2 ^ 4) (last t))
     ∙ ap (λ z. bit_xor z (bit_xor (x % 2) (y % 2))) (sym (shift_keeps 4 p q))
-    ∙ exchanged (p * 2 ^ 4) (q * 2 ^ 4) (x % 2) (y % 2)
+    ∙ add_swap (p * 2 ^ 4) (q * 2 ^ 4) (x % 2) (y % 2)
     ∙ (λ t. bit_xor (sym (bits_apart x n) t) (sym (bits_apart y n) t))
   where
     bit_cases : (a b : ℕ) → a < 2 → b < 2 → (a + b) % 2 ≡ bit_xor a b
@@ -159,7 +159,7 @@ unfolding carryless
 one_digit d y small = by_two (λ d. carryless 4 d y ≡ d * y) none one d small
   where
     none : carryless 4 0 y ≡ 0 * y
-    none = left_zero 4 y ∙ omega arith
+    none = carryless_left_zero 4 y ∙ omega arith
 
     one : carryless 4 1 y ≡ 1 * y
     one = xor_zero_l y ∙ omega arith
@@ -201,7 +201,7 @@ digits_times zero n x y small is also =
     record {
       digits = subst (AreDigits 0 (0 + n)) none (zeros 0 (0 + n));
       bits = ap (λ z. bit_and z (holes (0 + n))) (sym none) ∙ and_comm 0 (holes (0 + n))
-          ∙ none_left (holes (0 + n)) ∙ sym (none_by x y);
+          ∙ and_zero_r (holes (0 + n)) ∙ sym (none_by x y);
     }
 digits_times (suc k) n x y small is also =
     let low : x % 16 < 2 = omega (arith, is.0) in
@@ -229,8 +229,8 @@ digits_times (suc k) n x y small is also =
           ∙ (λ u. bit_and (sym above u) (holes (k + n)) * 16 + even u)
           ∙ ap (λ c. c * 16 + 0) inner.bits) t) (bits_are (suc (k + n)) q lower t))
           ∙ (λ t. bit_xor (plain (carryless (4 * k) (x / 16) y) t)
-          (sym (cut 4 x y ∙ one_digit (x % 16) y low) t))
-          ∙ sym (split (4 * k) 4 x y) ∙ ap (λ j. carryless j x y) (sym four);
+          (sym (carryless_cut 4 x y ∙ one_digit (x % 16) y low) t))
+          ∙ sym (carryless_split (4 * k) 4 x y) ∙ ap (λ j. carryless j x y) (sym four);
     }
   where
     parts : (x y : ℕ) → x / 16 * y * 16 + x % 16 * y ≡ x * y
@@ -261,19 +261,19 @@ unfolding holes
 few_bits x = omega (arith, and_le_r x (holes 8))
 
 -- a shifted number of no more than m bits, in the first factor
-left_shifted : (m r a y : ℕ) → a < 2 ^ m → carryless (m + r) (a * 2 ^ r) y
+carryless_left_shifted : (m r a y : ℕ) → a < 2 ^ m → carryless (m + r) (a * 2 ^ r) y
     ≡ carryless (m + r) a y * 2 ^ r
-left_shifted m r a y small =
+carryless_left_shifted m r a y small =
     let back : a * 2 ^ r / 2 ^ r ≡ a = shl-shr a r in
     let turned : m + r ≡ r + m = omega arith in
     let below : a ≡ 0 * 2 ^ m + a = omega arith in
     let none : a / 2 ^ m ≡ 0 = ap (λ z. z / 2 ^ m) below ∙ shr_high 0 m a small in
-    split m r (a * 2 ^ r) y
-    ∙ (λ t. bit_xor (carryless m (back t) y * 2 ^ r) (no_bits r a y t))
+    carryless_split m r (a * 2 ^ r) y
+    ∙ (λ t. bit_xor (carryless m (back t) y * 2 ^ r) (carryless_no_bits r a y t))
     ∙ xor_zero_r (carryless m a y * 2 ^ r)
-    ∙ ap (λ c. c * 2 ^ r) (sym (ap (λ j. carryless j a y) turned ∙ split r m a y
+    ∙ ap (λ c. c * 2 ^ r) (sym (ap (λ j. carryless j a y) turned ∙ carryless_split r m a y
     ∙ ap (λ z. bit_xor (carryless r z y * 2 ^ m) (carryless m a y)) none
-    ∙ ap (λ z. bit_xor (z * 2 ^ m) (carryless m a y)) (left_zero r y)
+    ∙ ap (λ z. bit_xor (z * 2 ^ m) (carryless m a y)) (carryless_left_zero r y)
     ∙ drop (2 ^ m) (carryless m a y)))
   where
     drop : (p c : ℕ) → bit_xor (0 * p) c ≡ c
@@ -310,7 +310,7 @@ part x y r s t hr hs is =
     let bits : bit_and (a * b) (holes 16) ≡ carryless 32 a b =
     (digits_times 8 8 a b (omega arith) (are_ones 8 (x / 2 ^ r)) (are_ones 8 (y / 2 ^ s))).bits in
     let left : carryless 32 (a * 2 ^ r) b ≡ carryless 32 a b * 2 ^ r =
-    ap (λ j. carryless j (a * 2 ^ r) b) (sym whole) ∙ left_shifted (32 - r) r a b fits
+    ap (λ j. carryless j (a * 2 ^ r) b) (sym whole) ∙ carryless_left_shifted (32 - r) r a b fits
     ∙ ap (λ j. carryless j a b * 2 ^ r) whole in
     (λ u. bit_and (from_first x r u * from_first y s u) (holes 16 * 2 ^ t))
     ∙ ap (λ n. bit_and n (holes 16 * 2 ^ t)) (apart a (2 ^ r) b (2 ^ s)
@@ -321,7 +321,7 @@ part x y r s t hr hs is =
     ∙ ap (λ p. carryless 32 a b * p) (pow-add 2 r s)
     ∙ grouped (carryless 32 a b) (2 ^ r) (2 ^ s)
     ∙ ap (λ c. c * 2 ^ s) (sym left)
-    ∙ sym (right_shifted 32 (a * 2 ^ r) b s)
+    ∙ sym (carryless_right_shifted 32 (a * 2 ^ r) b s)
     ∙ (λ u. carryless 32 (sym (from_first x r) u) (sym (from_first y s) u))
   where
     apart : (a p b q : ℕ) → a * p * (b * q) ≡ a * b * (p * q)
@@ -375,7 +375,7 @@ products_at x y t = sum_of 4 (λ r. every_fourth x r * every_fourth y ((t + 4 - 
 fourths_sum : (x : ℕ) → x < 2 ^ 32 → sum_of 4 (every_fourth x) ≡ x
 unfolding every_fourth sum_of holes
 fourths_sum x small =
-    sym (sum-through (bit_and x) (none_left x) (λ a b. and_comm x (bit_xor a b)
+    sym (sum-through (bit_and x) (and_zero_r x) (λ a b. and_comm x (bit_xor a b)
     ∙ masked_sum x a b ∙ (λ t. bit_xor (and_comm a x t) (and_comm b x t))) 4
     (λ r. holes 8 * 2 ^ r))
     ∙ and_mask x 32 ∙ omega (arith, small)
@@ -390,7 +390,8 @@ products_sum x y hx hy =
     (λ t. sum_of 4 (λ r. term r ((t + 4 - r) % 4)))
     (λ t ht.
     sum-through (λ z. bit_and z (holes 16 * 2 ^ t))
-    (and_comm 0 (holes 16 * 2 ^ t) ∙ none_left (holes 16 * 2 ^ t)) (masked_sum (holes 16 * 2 ^ t)) 4
+    (and_comm 0 (holes 16 * 2 ^ t) ∙ and_zero_r (holes 16 * 2 ^ t))
+    (masked_sum (holes 16 * 2 ^ t)) 4
     (λ r. every_fourth x r * every_fourth y ((t + 4 - r) % 4))
     ∙ sum-agree 4
     (λ r. bit_and (every_fourth x r * every_fourth y ((t + 4 - r) % 4)) (holes 16 * 2 ^ t))
@@ -400,10 +401,12 @@ products_sum x y hx hy =
     ∙ sum-agree 4 (λ r. sum_of 4 (λ t. term r ((t + 4 - r) % 4))) (λ r. sum_of 4 (term r))
     (λ r hr. turned (term r) r hr)
     ∙ sum-agree 4 (λ r. sum_of 4 (term r)) (λ r. carryless 32 (every_fourth x r) y)
-    (λ r hr. sym (sum-through (carryless 32 (every_fourth x r)) (right_zero 32 (every_fourth x r))
-    (right_keeps 32 (every_fourth x r)) 4 (every_fourth y))
+    (λ r hr. sym (sum-through (carryless 32 (every_fourth x r))
+    (carryless_right_zero 32 (every_fourth x r))
+    (carryless_right_keeps 32 (every_fourth x r)) 4 (every_fourth y))
     ∙ ap (carryless 32 (every_fourth x r)) (fourths_sum y hy))
-    ∙ sym (sum-through (λ z. carryless 32 z y) (left_zero 32 y) (λ a b. left_keeps 32 a b y) 4
+    ∙ sym (sum-through (λ z. carryless 32 z y) (carryless_left_zero 32 y)
+    (λ a b. carryless_left_keeps 32 a b y) 4
     (every_fourth x))
     ∙ ap (λ z. carryless 32 z y) (fourths_sum x hx)
 
@@ -446,4 +449,5 @@ pub class : (x y t a b c d : ℕ) → a ≡ every_fourth x 0 * every_fourth y ((
     → bit_xor (bit_xor (bit_xor a b) c) d ≡ lower_at x y t
 unfolding lower_at sum_of
 class x y t a b c d a_is b_is c_is d_is =
-    four a b c d ∙ (λ u. bit_xor (bit_xor (bit_xor (bit_xor 0 (a_is u)) (b_is u)) (c_is u)) (d_is u))
+    four a b c d ∙ (λ u. bit_xor (bit_xor (bit_xor (bit_xor 0 (a_is u)) (b_is u)) (c_is u))
+    (d_is u))

@@ -6,7 +6,10 @@ use Rattle.std.proofs.lemmas.Bool.{eqb-true}
 use Rattle.std.specs.Int.{reverse_bits_onto, reverse_bits, w32}
 use Rattle.aes_planes.proofs.Bits.ByteCases.{all_below, all_pairs, all_pairs_tell}
 use Rattle.gcm.specs.Carryless.{carryless}
-use Rattle.gcm.proofs.WithoutCarries.Carryless.{joined, left_keeps, left_zero, right_keeps, right_zero, same_linear}
+use Rattle.gcm.proofs.WithoutCarries.Carryless.{carryless_left_keeps, carryless_left_zero}
+use Rattle.gcm.proofs.WithoutCarries.Carryless.{carryless_right_keeps, carryless_right_zero}
+use Rattle.gcm.proofs.WithoutCarries.Carryless.{same_linear}
+use Rattle.gcm.proofs.Products.Linear.{joined}
 
 -- reversed bits behind others: sums stay
 onto_keeps : (k a b c d : ℕ) → reverse_bits_onto k (bit_xor a b) (bit_xor c d)
@@ -40,12 +43,12 @@ mirrored x y = reversed (carryless 32 (reversed x) (reversed y) % 2 ^ 32) / 2
 -- `upper` and `mirrored` keep sums of either factor
 upper_left : (y a b : ℕ) → upper (bit_xor a b) y ≡ bit_xor (upper a y) (upper b y)
 unfolding upper
-upper_left y a b = ap (λ z. z / 2 ^ 32) (left_keeps 32 a b y)
+upper_left y a b = ap (λ z. z / 2 ^ 32) (carryless_left_keeps 32 a b y)
     ∙ xor_shr (carryless 32 a y) (carryless 32 b y) 32
 
 upper_right : (x a b : ℕ) → upper x (bit_xor a b) ≡ bit_xor (upper x a) (upper x b)
 unfolding upper
-upper_right x a b = ap (λ z. z / 2 ^ 32) (right_keeps 32 x a b)
+upper_right x a b = ap (λ z. z / 2 ^ 32) (carryless_right_keeps 32 x a b)
     ∙ xor_shr (carryless 32 x a) (carryless 32 x b) 32
 
 -- what is done to a product of reversed words keeps sums
@@ -61,7 +64,7 @@ unfolding mirrored
 mirrored_left y a b =
     ap (λ z. reversed (z % 2 ^ 32) / 2)
     (ap (λ z. carryless 32 z (reversed y)) (reversed_keeps a b)
-    ∙ left_keeps 32 (reversed a) (reversed b) (reversed y))
+    ∙ carryless_left_keeps 32 (reversed a) (reversed b) (reversed y))
     ∙ back_keeps (carryless 32 (reversed a) (reversed y)) (carryless 32 (reversed b) (reversed y))
 
 mirrored_right : (x a b : ℕ) → mirrored x (bit_xor a b) ≡ bit_xor (mirrored x a) (mirrored x b)
@@ -69,19 +72,19 @@ unfolding mirrored
 mirrored_right x a b =
     ap (λ z. reversed (z % 2 ^ 32) / 2)
     (ap (carryless 32 (reversed x)) (reversed_keeps a b)
-    ∙ right_keeps 32 (reversed x) (reversed a) (reversed b))
+    ∙ carryless_right_keeps 32 (reversed x) (reversed a) (reversed b))
     ∙ back_keeps (carryless 32 (reversed x) (reversed a)) (carryless 32 (reversed x) (reversed b))
 
 -- with 0 both are 0
-none_left : (y : ℕ) → upper 0 y ≡ mirrored 0 y
+halves_of_zero_left : (y : ℕ) → upper 0 y ≡ mirrored 0 y
 unfolding upper mirrored reversed reverse_bits_onto
-none_left y = ap (λ z. z / 2 ^ 32) (left_zero 32 y)
-    ∙ sym (ap (λ z. reversed (z % 2 ^ 32) / 2) (left_zero 32 (reversed y)))
+halves_of_zero_left y = ap (λ z. z / 2 ^ 32) (carryless_left_zero 32 y)
+    ∙ sym (ap (λ z. reversed (z % 2 ^ 32) / 2) (carryless_left_zero 32 (reversed y)))
 
-none_right : (x : ℕ) → upper x 0 ≡ mirrored x 0
+halves_of_zero_right : (x : ℕ) → upper x 0 ≡ mirrored x 0
 unfolding upper mirrored reversed reverse_bits_onto
-none_right x = ap (λ z. z / 2 ^ 32) (right_zero 32 x)
-    ∙ sym (ap (λ z. reversed (z % 2 ^ 32) / 2) (right_zero 32 (reversed x)))
+halves_of_zero_right x = ap (λ z. z / 2 ^ 32) (carryless_right_zero 32 x)
+    ∙ sym (ap (λ z. reversed (z % 2 ^ 32) / 2) (carryless_right_zero 32 (reversed x)))
 
 -- `upper` and `mirrored` agree on words of one bit
 pair_test : all_pairs 32 32 (λ i j. upper (2 ^ i) (2 ^ j) == mirrored (2 ^ i) (2 ^ j)) ≡ true
@@ -91,8 +94,9 @@ pair_test = refl
 -- the upper half of a product is what `mirrored` computes
 halves_are : (x y : ℕ) → x < 2 ^ 32 → y < 2 ^ 32 → upper x y ≡ mirrored x y
 halves_are x y hx hy =
-    same_linear (λ x. upper x y) (λ x. mirrored x y) (none_left y) (upper_left y) (mirrored_left y) 32
-    (λ i hi. same_linear (upper (2 ^ i)) (mirrored (2 ^ i)) (none_right (2 ^ i))
+    same_linear (λ x. upper x y) (λ x. mirrored x y) (halves_of_zero_left y) (upper_left y)
+    (mirrored_left y) 32
+    (λ i hi. same_linear (upper (2 ^ i)) (mirrored (2 ^ i)) (halves_of_zero_right (2 ^ i))
     (upper_right (2 ^ i)) (mirrored_right (2 ^ i)) 32
     (λ j hj. eqb-true _ _ (all_pairs_tell 32 32
     (λ i j. upper (2 ^ i) (2 ^ j) == mirrored (2 ^ i) (2 ^ j)) pair_test i j hi hj)) y hy) x hx
