@@ -100,10 +100,10 @@ pub fn siv_set_key_and_seal(
     text: &mut [u8],
     tag: &mut [u8; 16],
 ) -> u32
-    ensures key_length { result ≡ KEY_LENGTH ↔ ¬ rfc.IsKeySize (length key.now) }
-    ensures too_long { result ≡ TOO_LONG ↔ rfc.IsKeySize (length key.now)
+    ensures key_length { result ≡ KEY_LENGTH ↔ ¬ rfc.IsSivKeySize (length key.now) }
+    ensures too_long { result ≡ TOO_LONG ↔ rfc.IsSivKeySize (length key.now)
         × IsSivTooLong (length additional.now) (length text.old) }
-    ensures done { result ≡ DONE ↔ rfc.IsKeySize (length key.now)
+    ensures done { result ≡ DONE ↔ rfc.IsSivKeySize (length key.now)
         × ((length additional.now ≤ 2 ^ 36) × (length text.old ≤ 2 ^ 36)) }
     ensures tag { result ≡ DONE → tag.new ≡ rfc.tag key.now nonce.now additional.now text.old }
     ensures encrypted { result ≡ DONE → text.new ≡ rfc.text key.now nonce.now tag.new text.old }

@@ -3,7 +3,7 @@ use Rattle.std.proofs.Common.{◌≡◌, ℕ, ◌+◌, ◌/◌, ◌<◌, ◌==�
 use Rattle.std.proofs.Common.{map, slice_index_or, inl, inr, ap, sym, ◌∙◌, arith, take, drop}
 use Rattle.std.proofs.lemmas.List.{append-nil, get_or-take, take-take}
 use Rattle.aes_planes.specs.Fips197.{cipher_with, key_expansion}
-use Rattle.gcm_siv.specs.GcmSiv.{derived, authentication_key, encryption_key, IsKeySize}
+use Rattle.gcm_siv.specs.GcmSiv.{derived, authentication_key, encryption_key, IsSivKeySize}
 use Rattle.gcm_siv.specs.Private.{derived_keys, halves_of_six, numbered}
 
 -- the halves of the ciphers of the first four numbered blocks
@@ -27,7 +27,7 @@ six w nonce first keys is made =
 
 -- four ciphers for a key of 16 bytes, six for one of 32
 pub derived_is : (w : List (List ℕ)) (nonce : List ℕ) (first keys : List (List ℕ)) (size : ℕ)
-    → IsKeySize size
+    → IsSivKeySize size
     → first ≡ map (cipher_with w) (take (size / 8 + 2) (numbered nonce))
     → take 3 keys ≡ halves_of_six (first ++ drop (size / 8 + 2) (numbered nonce))
     → take (size / 16 + 1) keys ≡ take (size / 16 + 1) (derived_keys w nonce)
@@ -92,8 +92,8 @@ long_is key nonce w keys expanded second third sized =
     ++ (if n == 32 then derived v nonce 4 ++ derived v nonce 5 else [])) sized)
 
 -- the encryption key, of either size
-pub encryption_is : (key nonce made : List ℕ) (w keys : List (List ℕ)) (size : ℕ) → IsKeySize size
-    → length key ≡ size
+pub encryption_is : (key nonce made : List ℕ) (w keys : List (List ℕ)) (size : ℕ)
+    → IsSivKeySize size → length key ≡ size
     → w ≡ key_expansion key → take (size / 16 + 1) keys
     ≡ take (size / 16 + 1) (derived_keys w nonce)
     → (size ≡ 16 → made ≡ slice_index_or keys 1 [])

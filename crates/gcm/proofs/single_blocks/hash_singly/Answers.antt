@@ -2,7 +2,7 @@
 use Rattle.std.proofs.Common.{◌≡◌, ℕ, ◌-◌, ◌*◌, ◌/◌, ◌%◌, ◌∙◌, ap, arith, length, List, refl}
 use Rattle.std.specs.List.{slice_range}
 use Rattle.gcm.proofs.Messages.Hashing.{hashed_as_whole, hashed_as_with_rest}
-use Rattle.gcm.proofs.singly.hash_singly.Goals as goal
+use Rattle.gcm.proofs.single_blocks.hash_singly.Goals as goal
 
 pub returns-then-over-eq0 : goal.returns-then-over-eq0
 returns-then-over-eq0 g c =

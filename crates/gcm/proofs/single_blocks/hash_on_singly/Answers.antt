@@ -2,7 +2,7 @@
 use Rattle.std.proofs.Common.{ℕ, ◌/◌, ◌∙◌, List, length}
 use Rattle.gcm.specs.Gcm.{padded}
 use Rattle.gcm.proofs.Messages.Hashing.{hashed_is}
-use Rattle.gcm.proofs.singly.hash_on_singly.Goals as goal
+use Rattle.gcm.proofs.single_blocks.hash_on_singly.Goals as goal
 
 pub returns : goal.returns
 returns g c =

@@ -6,8 +6,8 @@ ghost use Rattle.std.specs.Int.Bits.{bit_xor};
 ghost use Rattle.gcm.specs.Gcm.{hashed, product, padded};
 ghost use Rattle.gcm.specs.Hashed.{hashed_as};
 
+use crate::byte_order::{ByteOrder, HighestFirst};
 use crate::hash::{block_at, last_block};
-use crate::order::{ByteOrder, HighestFirst};
 use aes_cipher::cipher::Block;
 use std::simd::prelude::*;
 
