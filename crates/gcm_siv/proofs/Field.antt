@@ -74,18 +74,18 @@ back b small = elim (cases_lt b (2 ^ 127)) [
 
 -- ---- powers of x
 
--- the power 0 changes nothing
+-- an element times x^0 is the element
 power_start : (b : ℕ) → times_power b 0 ≡ b
 unfolding times_power
 power_start b = refl
 
--- powers of x keep elements elements
+-- an element times a power of x is an element
 power_small : (b i : ℕ) → b < 2 ^ 128 → times_power b i < 2 ^ 128
 unfolding times_power
 power_small b zero small = small
 power_small b (suc i) small = times_small (times_power b i) (power_small b i small)
 
--- x^-j times x^(j + n)
+-- x^-j times x^(j + n) is x^n
 back_by : (b j n : ℕ) → b < 2 ^ 128 → v_at (times_power b (j + n)) j ≡ times_power b n
 unfolding times_power v_at
 back_by b zero n small =
@@ -97,12 +97,12 @@ back_by b (suc j) n small =
     ∙ ap next_v (back_by b j (suc n) small)
     ∙ back (times_power b n) (power_small b n small)
 
--- a power of x^-1 more, by the definition
+-- one power of x^-1 more, by the definition
 one_more : (y n : ℕ) → v_at y (suc n) ≡ next_v (v_at y n)
 unfolding v_at
 one_more y n = refl
 
--- x^-128 times x^127
+-- x^-128 times x^127 is x^-1
 back_one : (b : ℕ) → b < 2 ^ 128 → v_at (times_power b 127) 128 ≡ next_v b
 back_one b small =
     one_more (times_power b 127) 127 ∙ ap next_v (back_by b 127 0 small ∙ power_start b)
@@ -123,7 +123,7 @@ turned (suc n) f =
     ∙ ap (λ m. bit_xor (f m) rest) last
     ∙ sym (sum-first n (λ i. f (suc n - 1 - i)))
 
--- a product is the sum of the multiples at the bits, as GCM's is
+-- a product of elements is the sum of the multiples at the bits, as GCM's is
 times_terms : (a b n : ℕ) → times_below a b n
     ≡ sum_of n (λ i. term (a / 2 ^ i % 2) (times_power b i))
 unfolding times_below sum_of term
@@ -132,7 +132,7 @@ times_terms a b (suc n) =
     added_unless (a / 2 ^ n % 2 == 0) (times_below a b n) (times_power b n)
     ∙ ap (λ s. bit_xor s (term (a / 2 ^ n % 2) (times_power b n))) (times_terms a b n)
 
--- GCM's product has x^-127
+-- a product of elements is GCM's product, which has x^-127, with x^127
 times_is : (a b : ℕ) → b < 2 ^ 128 → times a b ≡ product a (times_power b 127)
 unfolding times product bit_of
 times_is a b small =
@@ -151,7 +151,7 @@ inverse_is : times_power inverse_power 127 ≡ v_at (2 ^ 127) 128
 unfolding times_power times_x v_at next_v
 inverse_is = refl
 
--- dot by one product of GCM, so that POLYVAL runs on GHASH's tables
+-- dot of two elements is one product of GCM, so that POLYVAL runs on GHASH's tables
 pub dot_is : (a b : ℕ) → b < 2 ^ 128 → dot a b ≡ product a (next_v b)
 unfolding dot
 dot_is a b small =
@@ -165,7 +165,7 @@ dot_is a b small =
     ∙ sym (product_right_v a (times_power b 127) 128)
     ∙ ap (product a) (back_one b small)
 
--- POLYVAL by GCM's products
+-- POLYVAL's value after j blocks, by GCM's products
 pub summed_is : (h s : ℕ) (x : List ℕ) (j : ℕ) → h < 2 ^ 128
     → hashed_as (from_le_bytes w128) (next_v h) s x j ≡ summed h s x j
 unfolding hashed_as summed number_at block_at

@@ -60,7 +60,7 @@ product_right_zero x =
     (λ i l. ap (term (bit_of x i)) (v_zero i) ∙ term_zero (bit_of x i))
     ∙ sum-zero 128
 
--- a bit goes through a product
+-- a product with a term is the term of the product
 product_right_term : (x b y : ℕ) → product x (term b y) ≡ term b (product x y)
 unfolding term
 product_right_term x b y = by_test (b == 0)
@@ -95,12 +95,13 @@ product_left_swap x y h =
     ∙ ap (term (bit_of y i)) (product_right_v x h i))
     ∙ sym (product_terms y (product x h) 128)
 
--- the block that is one
+-- the multiple by a byte of the block that is one is the byte, at the first place
 one_test : all_below 256 (λ b. byte_multiple (2 ^ 127) b == b * 2 ^ 120) ≡ true
 unfolding all_below byte_multiple nibble_multiple sum_of v_at next_v
 one_test = refl
 
--- times that block nothing changes, so the law above turns into one on two factors
+-- a product with the block that is one is the other factor, so the law above turns into one on two
+-- factors
 pub product_by_one : (a : ℕ) → a < 2 ^ 128 → product a (2 ^ 127) ≡ a
 product_by_one a small =
     product_bytes a (2 ^ 127)
@@ -111,13 +112,13 @@ product_by_one a small =
     one_test (byte_of a j) (byte_small a j))) ∙ sym (placed (byte_of a j) j l))
     ∙ number_sum a small
 
--- factors can change places
+-- the two factors of a product can change places
 product_comm : (a b : ℕ) → a < 2 ^ 128 → b < 2 ^ 128 → product a b ≡ product b a
 product_comm a b ha hb = ap (product a) (sym (product_by_one b hb))
     ∙ product_left_swap a b (2 ^ 127)
     ∙ ap (product b) (product_by_one a ha)
 
--- what equals a block is one
+-- a number that equals a block is a block
 small_as : (a b : ℕ) → a ≡ b → b < 2 ^ 128 → a < 2 ^ 128
 small_as a b e small = rw e small
 
@@ -129,7 +130,7 @@ product_below x h small =
     (sum-below 128 128 (λ i. term (bit_of x i) (v_at h i))
     (λ i l. term_below (bit_of x i) (v_at h i) (v_below i h small)))
 
--- a product times a block
+-- products of three blocks can be grouped in either way
 product_assoc : (x q h : ℕ) → q < 2 ^ 128 → h < 2 ^ 128
     → product (product x q) h ≡ product x (product q h)
 product_assoc x q h hq hh = product_comm (product x q) h (product_below x q hq) hh
@@ -138,14 +139,14 @@ product_assoc x q h hq hh = product_comm (product x q) h (product_below x q hq) 
 
 -- ---- two and three blocks, hashed
 
--- two blocks: the first is multiplied twice, so by the square
+-- two blocks, hashed: the first is multiplied twice, so by the square of H
 pub two_hashed : (h b c : ℕ) → h < 2 ^ 128
     → product (bit_xor (product b h) c) h ≡ bit_xor (product b (product h h)) (product c h)
 two_hashed h b c small =
     product_left_keeps (product b h) c h
     ∙ ap (λ y. bit_xor y (product c h)) (product_assoc b h h small small)
 
--- three blocks, with the powers of the subkey as the tables have them
+-- three blocks, hashed, by the powers of H that the tables have
 pub three_hashed : (h p b c h2 h3 : ℕ) → h < 2 ^ 128 → h2 ≡ product h h → h3 ≡ product h2 h
     → product (bit_xor (product (bit_xor (product p h) b) h) c) h
     ≡ bit_xor (bit_xor (product p h3) (product b h2)) (product c h)

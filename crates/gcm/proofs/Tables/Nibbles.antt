@@ -23,7 +23,7 @@ unfolding all_below is_index
 indices = all_pairs_tell 4 16
     (λ bit r. list_all is_index (zip2 bit_or (replicate 16 r) (get_or WITHOUT bit []))) refl
 
--- the entry at such an index: byte r of a number's block, or 0 under the mask
+-- the entry of a number's block at index r is byte r, and 0 where the index is above 127
 masked_entry : (x r : ℕ) (block : List ℕ) (t : Bool) → r < 16 → block ≡ to_be_bytes w128 x
     → looked block (bit_or r (if t then 128 else 0)) ≡ (if t then 0 else byte_of x r)
 masked_entry x r block true inside is =

@@ -33,7 +33,7 @@ pub record Summed (row : ℕ → ℕ) (k : ℕ) (first second : List ℕ) : Type
   pub start : k ≡ 0 → get_or first 15 0 ≡ 0
   pub value : reduced (from_be_bytes w128 first) (from_be_bytes w128 second) ≡ rows_after row k
 
--- before the first step both are zeros
+-- before the first step both blocks are zeros
 pub summed_none : (row : ℕ → ℕ) → Summed row 0 (replicate 16 0) (replicate 16 0)
 unfolding reduced folded rows_after
 summed_none row = record {
@@ -44,7 +44,7 @@ summed_none row = record {
   value = refl;
 }
 
--- a step moves both one byte on and adds the row before
+-- a step moves both blocks one byte on and adds the row before
 pub summed_next : (row : ℕ → ℕ) (k : ℕ) (first second added first' second' : List ℕ) → k < 16
     → Summed row k first second
     → IsBlock added → from_be_bytes w128 added ≡ row (15 - k)
@@ -103,7 +103,7 @@ rows_summed f g r p q a b =
 
 -- ---- eight bytes on
 
--- one byte on: the two blocks stand for the same number times x ^ 8
+-- the two blocks, moved one byte on, stand for the same number times x ^ 8
 one_byte_on : (y n k l k' l' t : ℕ) → reduced k l ≡ v_at y n → k' ≡ k / 256
     → l' ≡ k % 256 * 2 ^ 120 + l / 256 → l ≡ t * 2 ^ 16
     → l < 2 ^ 128 → reduced k' l' ≡ v_at y (n + 8)
@@ -112,8 +112,8 @@ one_byte_on y n k l k' l' t before k_is l_is is small =
     ∙ reduced_next k l t 0 is small ∙ xor_zero_r (v_at (reduced k l) 8)
     ∙ ap (λ z. v_at z 8) before ∙ v_add y n 8
 
--- eight bytes on, in one shift: the upper half's sum has to be moved so far before it is added to
--- the lower's
+-- the two blocks, moved eight bytes on in one shift, stand for their number times x ^ 64: the
+-- upper half's sum has to be moved so far before it is added to the lower's
 eight_bytes_on : (k l q : ℕ) → l ≡ q * 2 ^ 72 → l < 2 ^ 128
     → reduced (k / 2 ^ 64) (k % 2 ^ 64 * 2 ^ 64 + l / 2 ^ 64) ≡ v_at (reduced k l) 64
 unfolding v_at
@@ -163,7 +163,7 @@ eight_bytes_on k l q is small =
 abbrev pub lower_rows : (ℕ → ℕ) → ℕ → ℕ
 lower_rows row r = row (r - 8)
 
--- eight rows and n more: the first eight are moved on by n bytes
+-- the sum of eight rows and n more: the first eight are moved on by n bytes
 rows_on : (row : ℕ → ℕ) (n : ℕ)
     → rows_after row (8 + n) ≡ bit_xor (v_at (rows_after row 8) (8 * n))
     (rows_after (lower_rows row) n)
@@ -206,12 +206,13 @@ nine_zeros x zeros =
       at 15 (omega arith),
     )
 
--- rows 7 to 0 in the lower half, and rows 15 to 8 in the upper one
+-- the sums after k steps: of rows 7 to 0 in the lower halves, and of rows 15 to 8 in the upper
+-- ones
 pub record SummedInHalves (row : ℕ → ℕ) (k : ℕ) (first second : List ℕ) : Type 0 where
   pub lower : Summed (lower_rows row) k (take 16 first) (take 16 second)
   pub upper : Summed row k (drop 16 first) (drop 16 second)
 
--- before the first step
+-- before the first step both vectors are zeros
 pub halves_none : (row : ℕ → ℕ) → SummedInHalves row 0 (replicate 32 0) (replicate 32 0)
 halves_none row = record { lower = summed_none (lower_rows row); upper = summed_none row }
 

@@ -21,7 +21,7 @@ use Rattle.gcm.proofs.Products.Reduction.{folded_keeps}
 
 -- ---- sums
 
--- the product of a sum, in the first factor
+-- a product without carries keeps sums in the first factor
 pub carryless_left_keeps : (n a b y : ℕ) → carryless n (bit_xor a b) y
     ≡ bit_xor (carryless n a y) (carryless n b y)
 unfolding carryless term
@@ -47,13 +47,13 @@ carryless_right_keeps (suc n) x a b =
     ∙ add_swap (carryless n (x / 2) a * 2) (carryless n (x / 2) b * 2) (term (x % 2) a)
     (term (x % 2) b)
 
--- 0 times a number is 0
+-- the product without carries of 0 and a number is 0
 pub carryless_left_zero : (n y : ℕ) → carryless n 0 y ≡ 0
 unfolding carryless
 carryless_left_zero zero y = refl
 carryless_left_zero (suc n) y = ap (λ c. bit_xor (c * 2) 0) (carryless_left_zero n y)
 
--- a number times 0 is 0
+-- the product without carries of a number and 0 is 0
 pub carryless_right_zero : (n x : ℕ) → carryless n x 0 ≡ 0
 unfolding carryless term
 carryless_right_zero zero x = refl
@@ -62,7 +62,7 @@ carryless_right_zero (suc n) x =
 
 -- ---- shifts
 
--- the product with a shifted number is shifted
+-- the product without carries with a shifted number is shifted
 pub carryless_right_shifted : (n x y k : ℕ) → carryless n x (y * 2 ^ k) ≡ carryless n x y * 2 ^ k
 unfolding carryless
 carryless_right_shifted zero x y k = omega arith
@@ -77,7 +77,7 @@ carryless_right_shifted (suc n) x y k =
     by_test true = omega arith
     by_test false = refl
 
--- the upper bits of the first factor and the lower ones
+-- a product without carries is the sum of those of its first factor's upper and lower bits
 pub carryless_split : (m n x y : ℕ) → carryless (m + n) x y
     ≡ bit_xor (carryless m (x / 2 ^ n) y * 2 ^ n) (carryless n x y)
 unfolding carryless
@@ -106,7 +106,7 @@ carryless_split m (suc n) x y =
     grouped : (c p : ℕ) → c * p * 2 ≡ c * (p * 2)
     grouped c p = grind arith
 
--- a number whose last n bits are zeros has no product of these
+-- the product without carries of n bits is 0 if the last n bits of its first factor are zeros
 pub carryless_no_bits : (n a y : ℕ) → carryless n (a * 2 ^ n) y ≡ 0
 unfolding carryless
 carryless_no_bits zero a y = refl
@@ -120,7 +120,7 @@ carryless_no_bits (suc n) a y =
 
 -- ---- parts
 
--- the last n bits of a number are all that counts
+-- the product without carries of n bits is that of the last n bits of its first factor
 pub carryless_cut : (n x y : ℕ) → carryless n x y ≡ carryless n (x % 2 ^ n) y
 carryless_cut n x y =
     let parts : x ≡ bit_xor (x / 2 ^ n * 2 ^ n) (x % 2 ^ n) =
@@ -141,7 +141,7 @@ middle a b c d =
     ∙ ap (λ s. bit_xor s (bit_xor c d)) (ap (λ s. bit_xor s a) (xor_comm a b) ∙ add_twice b a))
     ∙ xor_assoc b (bit_xor c d) d ∙ ap (bit_xor b) (add_twice c d)
 
--- a product of 2 n bits by three products of n bits (Karatsuba)
+-- a product without carries of 2 n bits by three products of n bits (Karatsuba)
 pub karatsuba : (n x y x0 x1 y0 y1 : ℕ) → x1 ≡ x / 2 ^ n → x0 ≡ x % 2 ^ n → y1 ≡ y / 2 ^ n
     → y0 ≡ y % 2 ^ n → (l h m : ℕ) → l ≡ carryless n x0 y0 → h ≡ carryless n x1 y1
     → m ≡ bit_xor (bit_xor (carryless n (bit_xor x0 x1) (bit_xor y0 y1)) l) h
@@ -174,7 +174,7 @@ karatsuba n x y x0 x1 y0 y1 x1_is x0_is y1_is y0_is l h m l_is h_is m_is =
 
 -- ---- products of blocks
 
--- the product of n + 1 bits, without carries, is a sum of multiples once it is shifted back
+-- the product without carries of n + 1 bits is a sum of multiples once it is shifted back
 shifted_back : (n x h : ℕ) → v_at (carryless (suc n) x h) n
     ≡ sum_of (suc n) (λ i. term (x / 2 ^ (n - i) % 2) (v_at h i))
 unfolding carryless sum_of term v_at
@@ -255,12 +255,12 @@ same_linear f g none f_keeps g_keeps (suc n) agree x small =
     ap f parts ∙ f_keeps (b * 2 ^ n) r ∙ (λ t. bit_xor (upper t) (lower t))
     ∙ sym (ap g parts ∙ g_keeps (b * 2 ^ n) r)
 
--- each bit, times x^128, is folded in
+-- each bit of a block, times x^128, is folded in, by all cases
 bit_test : all_below 128 (λ i. v_at (2 ^ i) 128 == folded (spread (2 ^ i))) ≡ true
 unfolding all_below v_at next_v folded spread
 bit_test = refl
 
--- any block times x^128
+-- a block, times x^128, is folded in
 folded_in : (f : ℕ) → f < 2 ^ 128 → v_at f 128 ≡ folded (spread f)
 unfolding folded spread
 folded_in =
@@ -269,7 +269,7 @@ folded_in =
     (λ i l. eqb-true _ _ (all_below_tells 128
     (λ i. v_at (2 ^ i) 128 == folded (spread (2 ^ i))) bit_test i l))
 
--- the product of two blocks by that of their numbers
+-- the product of two blocks, by the halves of the product without carries
 pub reduced_product : (x h high low : ℕ) → high * 2 ^ 128 + low ≡ carryless 128 x h → h < 2 ^ 128
     → low < 2 ^ 128
     → bit_xor (bit_xor (high * 2 % 2 ^ 128) (low / 2 ^ 127)) (folded (spread (low * 2 % 2 ^ 128)))
@@ -298,7 +298,7 @@ reduced_product x h high low is small fits =
     joined 1 high (low / 2 ^ 127) (omega (arith, fits)) in
     ap (λ z. bit_xor (bit_xor z (low / 2 ^ 127)) w) kept ∙ ap (λ z. bit_xor z w) joint ∙ whole
 
--- a product of 256 bits: its upper and its lower half
+-- the upper and the lower half of a product of 256 bits, by the products of its parts
 pub columns : (h m l : ℕ) → l < 2 ^ 128 → bit_xor h (m / 2 ^ 64) * 2 ^ 128
     + bit_xor l (m * 2 ^ 64 % 2 ^ 128)
     ≡ bit_xor (bit_xor (h * 2 ^ 64 * 2 ^ 64) (m * 2 ^ 64)) l

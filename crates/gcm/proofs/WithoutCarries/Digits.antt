@@ -22,7 +22,7 @@ use Rattle.gcm.proofs.Products.Linear.{sum-through}
 
 -- ---- masks
 
--- bits of a sum under a mask
+-- a bit of a sum under a bit of a mask
 bit_case : (p q r : ℕ) → p < 2 → q < 2 → r < 2 → min ((p + q) % 2) r ≡ (min p r + min q r) % 2
 bit_case p q r hp hq hr =
     by_two (λ r. min ((p + q) % 2) r ≡ (min p r + min q r) % 2) (omega arith) (omega arith) r hr
@@ -37,7 +37,7 @@ masked_sum m a b =
     ∙ sym (bit_at_xor (bit_and a m) (bit_and b m) i
     ∙ (λ t. (bit_at_and a m i t + bit_at_and b m i t) % 2)))
 
--- a shifted number under a shifted mask
+-- a shifted number under a shifted mask is the masked number, shifted
 masked_shifted : (k n m r : ℕ) → r < 2 ^ k
     → bit_and (n * 2 ^ k + r) (m * 2 ^ k) ≡ bit_and n m * 2 ^ k
 masked_shifted k n m r small =
@@ -45,7 +45,7 @@ masked_shifted k n m r small =
     ap (bit_and (n * 2 ^ k + r)) mask ∙ and_block k n m r 0 small (pow_pos k)
     ∙ ap (λ z. bit_and n m * 2 ^ k + z) (and_zero_r r) ∙ omega arith
 
--- the lowest bits of n + 1 digits
+-- the lowest bits of n + 1 digits, by those of the first n and the last one
 holes_next : (x n : ℕ) → bit_and x (holes (suc n)) ≡ bit_and (x / 16) (holes n) * 16 + x % 2
 unfolding holes
 holes_next x n =
@@ -62,19 +62,19 @@ AreDigits : ℕ → ℕ → ℕ → Type 0
 AreDigits m zero x = x ≡ 0
 AreDigits m (suc n) x = (x % 16 ≤ m) × AreDigits m n (x / 16)
 
--- 0 has any number of them
+-- 0 has n digits of 16, for every n
 zeros : (m n : ℕ) → AreDigits m n 0
 unfolding AreDigits
 zeros m zero = refl
 zeros m (suc n) = (omega arith, zeros m n)
 
--- one zero before them
+-- a number of n digits has n + 1: a zero stands before them
 one_before : (m n x : ℕ) → AreDigits m n x → AreDigits m (suc n) x
 unfolding AreDigits
 one_before m zero x is = (omega (arith, is), omega (arith, is))
 one_before m (suc n) x is = (is.0, one_before m n (x / 16) is.1)
 
--- k zeros before them
+-- a number of n digits has k + n: zeros stand before them
 more_before : (k m n x : ℕ) → AreDigits m n x → AreDigits m (k + n) x
 more_before zero m n x is =
     let e : n ≡ 0 + n = omega arith in
@@ -97,7 +97,7 @@ summed m k (suc n) x y small is also =
           (summed m k n (x / 16) (y / 16) small is.1 also.1),
     )
 
--- the lowest bits of n + 1 digits, as a sum
+-- the lowest bits of n + 1 digits, as a sum modulo 2
 bits_apart : (x n : ℕ) → bit_and x (holes (suc n))
     ≡ bit_xor (bit_and (x / 16) (holes n) * 2 ^ 4) (x % 2)
 bits_apart x n = holes_next x n
@@ -144,7 +144,7 @@ bits_are (suc n) x is =
     let low : x % 16 ≤ 1 = is.0 in
     holes_next x n ∙ ap (λ y. y * 16 + x % 2) (bits_are n (x / 16) is.1) ∙ omega arith
 
--- every fourth bit of a number has such digits
+-- the lowest bits of n digits are digits that are 0 or 1
 are_ones : (n x : ℕ) → AreDigits 1 n (bit_and x (holes n))
 unfolding AreDigits
 are_ones zero x = none_masked x
@@ -153,7 +153,7 @@ are_ones (suc n) x =
     omega (arith, holes_next x n) in
     (omega (arith, holes_next x n), subst (AreDigits 1 n) upper (are_ones n (x / 16)))
 
--- a digit times a number, without carries
+-- the product without carries of a digit 0 or 1 and a number is their product
 one_digit : (d y : ℕ) → d < 2 → carryless 4 d y ≡ d * y
 unfolding carryless
 one_digit d y small = by_two (λ d. carryless 4 d y ≡ d * y) none one d small
@@ -164,7 +164,7 @@ one_digit d y small = by_two (λ d. carryless 4 d y ≡ d * y) none one d small
     one : carryless 4 1 y ≡ 1 * y
     one = xor_zero_l y ∙ omega arith
 
--- a number that has a digit 0 or 1, times such digits, has such digits
+-- a digit 0 or 1, times digits that are 0 or 1, has such digits
 digit_times : (d n y : ℕ) → d < 2 → AreDigits 1 n y → AreDigits 1 n (d * y)
 digit_times d n y small is = by_two (λ d. AreDigits 1 n (d * y)) none one d small
   where
@@ -174,7 +174,7 @@ digit_times d n y small is = by_two (λ d. AreDigits 1 n (d * y)) none one d sma
     one : AreDigits 1 n (1 * y)
     one = let e : y ≡ 1 * y = omega arith in subst (AreDigits 1 n) e is
 
--- a digit 0 behind others
+-- a number of n digits, times 16, has n + 1: a zero stands behind them
 zero_behind : (m n x : ℕ) → AreDigits m n x → AreDigits m (suc n) (x * 16)
 unfolding AreDigits
 zero_behind m n x is =
@@ -192,7 +192,8 @@ none_by : (x y : ℕ) → carryless (4 * 0) x y ≡ 0
 unfolding carryless
 none_by x y = refl
 
--- a product of digits that are 0 or 1
+-- the product of two numbers whose digits are 0 or 1 is their product without carries, between the
+-- holes
 digits_times : (k n x y : ℕ) → k < 15 → AreDigits 1 k x → AreDigits 1 n y → IsProduct k n x y
 unfolding AreDigits
 digits_times zero n x y small is also =
@@ -260,7 +261,7 @@ few_bits : (x : ℕ) → bit_and x (holes 8) < 2 ^ 29
 unfolding holes
 few_bits x = omega (arith, and_le_r x (holes 8))
 
--- a shifted number of no more than m bits, in the first factor
+-- a product without carries whose first factor, of no more than m bits, is shifted is shifted
 carryless_left_shifted : (m r a y : ℕ) → a < 2 ^ m → carryless (m + r) (a * 2 ^ r) y
     ≡ carryless (m + r) a y * 2 ^ r
 carryless_left_shifted m r a y small =
@@ -279,7 +280,7 @@ carryless_left_shifted m r a y small =
     drop : (p c : ℕ) → bit_xor (0 * p) c ≡ c
     drop p c = let e : 0 * p ≡ 0 = omega arith in ap (λ z. bit_xor z c) e ∙ xor_zero_l c
 
--- a product of two words' every fourth bits has 58 bits, so the last of 16 digits is 0
+-- the lowest bits of a product of 58 bits that is moved by a digit: of 16 digits the last is 0
 fifteen : (n : ℕ) → n < 2 ^ 58 → bit_and (n * 16) (holes 16) ≡ bit_and n (holes 16) * 16
 unfolding holes
 fifteen n small =
@@ -353,12 +354,12 @@ part x y r s t hr hs is =
           ∙ ap (λ k. bit_and n (holes 16) * 2 ^ k) (sym four)
     ]
 
--- four terms, from the last one on
+-- a sum of four terms is the same from its last term on
 turn : (g : ℕ → ℕ) → sum_of 4 (λ t. g ((t + 3) % 4)) ≡ sum_of 4 g
 unfolding sum_of
 turn g = sum-first 3 (λ t. g ((t + 3) % 4)) ∙ xor_comm (g 3) (sum_of 3 g)
 
--- four terms in another order
+-- a sum of four terms is the same from any of its terms on
 turned : (g : ℕ → ℕ) (r : ℕ) → r < 4 → sum_of 4 (λ t. g ((t + 4 - r) % 4)) ≡ sum_of 4 g
 unfolding sum_of
 turned g =
@@ -416,7 +417,7 @@ unfolding sum_of
 lower_at x y t =
     sum_of 4 (λ r. every_fourth x r * every_fourth y ((t + 4 - r) % 4) % 2 ^ 32)
 
--- a mask's lower half
+-- the lower half of a mask of sixteen digits is one of eight
 mask_halved : (t : ℕ) → t < 4 → holes 16 * 2 ^ t % 2 ^ 32 ≡ holes 8 * 2 ^ t
 unfolding holes
 mask_halved = by_four (λ t. holes 16 * 2 ^ t % 2 ^ 32 ≡ holes 8 * 2 ^ t) refl refl refl refl
@@ -436,7 +437,7 @@ lower_sum x y hx hy =
     (λ t ht. and_mod (products_at x y t) (holes 16 * 2 ^ t) 32
     ∙ (λ u. bit_and (sum-through (λ z. z % 2 ^ 32) refl halved 4 (at t) u) (mask_halved t ht u))))
 
--- four terms as a sum
+-- the sum of four terms, from 0 on
 pub four : (a b c d : ℕ) → bit_xor (bit_xor (bit_xor a b) c) d
     ≡ bit_xor (bit_xor (bit_xor (bit_xor 0 a) b) c) d
 four a b c d = ap (λ z. bit_xor (bit_xor (bit_xor z b) c) d) (sym (xor_zero_l a))
