@@ -10,12 +10,12 @@ ghost use Rattle.gcm.specs.Multiples.{subkey_in, HasMultiples, subkey_alone, IsA
 ghost use Rattle.gcm.specs.Multiples.{subkey_of_words, AreWords};
 
 use crate::bitwise::{WithMasks, product_bitwise};
+use crate::byte_order::HighestFirst;
 use crate::hash::{hash_string, hash_string_and};
 use crate::holes::{WithHoles, product_with_holes};
 use crate::multiples::{Multiples, Room, put_multiples};
 use crate::numbers::{number_of, vector_of};
-use crate::order::HighestFirst;
-use crate::singly::{hash_on_singly, hash_to_end_singly};
+use crate::single_blocks::{hash_on_singly, hash_to_end_singly};
 use crate::words::{number_of_words, words_of};
 use aes_cipher::blocks::{block_of_number, number_of_block};
 use aes_cipher::cipher::Block;

@@ -85,8 +85,8 @@ encryption_key key nonce = let w = fips.key_expansion key in
     derived w nonce 4 ++ derived w nonce 5 else [])
 
 -- a key-generating key has this many bytes
-abbrev pub IsKeySize : ℕ → Type 0
-IsKeySize n = (n ≡ 16) ⊎ (n ≡ 32)
+abbrev pub IsSivKeySize : ℕ → Type 0
+IsSivKeySize n = (n ≡ 16) ⊎ (n ≡ 32)
 
 -- ---- counter mode (4): the first 32 bits of a block count, their lowest byte first
 

@@ -7,7 +7,7 @@ use Rattle.std.proofs.Math.Seq.{take-append_seam}
 use Rattle.std.specs.Int.{w128, from_be_bytes}
 use Rattle.gcm.specs.Gcm.{product, hashed, padded}
 use Rattle.gcm.specs.Pieces.{IsHashing}
-use Rattle.gcm.proofs.InPieces.{unfilled, three_parts}
+use Rattle.gcm.proofs.Messages.InPieces.{unfilled, three_parts}
 use Rattle.gcm.proofs.hash_room.hash_piece.Goals as goal
 use borrow.Rule.Slice.PartMut.{post_of, put_mid, same_len_mid}
 

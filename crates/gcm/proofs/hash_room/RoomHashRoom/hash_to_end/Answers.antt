@@ -4,7 +4,7 @@ use Rattle.std.specs.Int.{w128, from_be_bytes}
 use Rattle.gcm.specs.Gcm.{padded, product}
 use Rattle.gcm.specs.Hashed.{hashed_as}
 use Rattle.gcm.specs.Multiples.{subkey_in}
-use Rattle.gcm.proofs.Hashing.{hashed_is}
+use Rattle.gcm.proofs.Messages.Hashing.{hashed_is}
 use Rattle.gcm.proofs.hash_room.RoomHashRoom.hash_to_end.Goals as goal
 
 pub returns : goal.returns

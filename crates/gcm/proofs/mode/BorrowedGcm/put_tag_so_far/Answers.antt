@@ -3,7 +3,7 @@ use Rattle.std.proofs.Common.{◌≡◌, ℕ, ◌*◌, ◌/◌, ◌∙◌, ◌++
 use Rattle.std.specs.Int.{w64, w128, to_be_bytes, from_be_bytes}
 use Rattle.gcm.specs.Gcm.{gctr, hash_subkey, hashed, padded, product, tag}
 use Rattle.gcm.specs.Pieces.{hashed_padded}
-use Rattle.gcm.proofs.InPieces.{no_text, so_far, summed}
+use Rattle.gcm.proofs.Messages.InPieces.{no_text, so_far, summed}
 use Rattle.gcm.proofs.mode.BorrowedGcm.put_tag_so_far.Goals as goal
 
 pub returns : goal.returns

@@ -1,90 +1,75 @@
 -- Products of numbers without carries: they keep sums, split into products of parts, and are
 -- products of blocks before the reduction.
 use Rattle.std.proofs.Common.{◌≡◌, ℕ, zero, suc, ◌+◌, ◌-◌, ◌*◌, ◌/◌, ◌%◌, ◌^◌, ◌<◌, ◌==◌}
-use Rattle.std.proofs.Common.{if◌then◌else◌, Bool, true, false, bit_xor, refl, ap, sym, ◌∙◌, arith, subst}
-use Rattle.std.proofs.lemmas.Nat.{xor_comm, xor_shr, xor_mod, xor_block, xor_lt, shr_below, shr-shr, pow_pos}
+use Rattle.std.proofs.Common.{if◌then◌else◌, Bool, true, false, bit_xor, refl, ap, sym, ◌∙◌, arith}
+use Rattle.std.proofs.Common.{subst}
+use Rattle.std.proofs.lemmas.Nat.{xor_comm, xor_shr, xor_mod, xor_block, xor_lt, shr_below, shr-shr}
+use Rattle.std.proofs.lemmas.Nat.{pow_pos}
 use Rattle.std.proofs.lemmas.Bool.{eqb-true}
 use Rattle.std.proofs.Math.Nat.{pow-suc}
-use Rattle.std.specs.Int.Bits.{xor_assoc, xor_self, xor_zero_l, xor_zero_r}
+use Rattle.std.specs.Int.Bits.{xor_assoc, xor_zero_l, xor_zero_r}
 use Rattle.aes_planes.proofs.Bits.ByteCases.{all_below, all_below_tells, by_two}
+use Rattle.aes_planes.proofs.Standard.FieldLaws.{add_swap, add_twice}
 use Rattle.gcm.specs.Gcm.{bit_of, next_v, v_at, product}
 use Rattle.gcm.specs.Carryless.{carryless}
 use Rattle.gcm.specs.Multiples.{sum_of, folded}
-use Rattle.gcm.proofs.Linear.{exchanged, sum-agree, term, term_adds, term_keeps, term_through}
-use Rattle.gcm.proofs.Linear.{term_zero}
-use Rattle.gcm.proofs.Linear.{product_terms, v_add, v_below, v_keeps, v_shifted, v_zero}
-use Rattle.gcm.proofs.Powers.{product_below}
-use Rattle.gcm.proofs.Reduction.{folded_keeps}
-
--- ---- numbers that are shifted
-
--- a shift keeps sums
-pub shift_keeps : (k a b : ℕ) → bit_xor (a * 2 ^ k) (b * 2 ^ k) ≡ bit_xor a b * 2 ^ k
-shift_keeps k a b =
-    let left : a * 2 ^ k ≡ a * 2 ^ k + 0 = omega arith in
-    let right : b * 2 ^ k ≡ b * 2 ^ k + 0 = omega arith in
-    (λ t. bit_xor (left t) (right t)) ∙ xor_block k a b 0 0 (pow_pos k) (pow_pos k)
-    ∙ ap (λ r. bit_xor a b * 2 ^ k + r) (xor_zero_l 0) ∙ omega arith
-
--- a shifted number and one that fits below it are summed without a carry
-pub joined : (k a r : ℕ) → r < 2 ^ k → bit_xor (a * 2 ^ k) r ≡ a * 2 ^ k + r
-joined k a r small =
-    let left : a * 2 ^ k ≡ a * 2 ^ k + 0 = omega arith in
-    let right : r ≡ 0 * 2 ^ k + r = omega arith in
-    (λ t. bit_xor (left t) (right t)) ∙ xor_block k a 0 0 r (pow_pos k) small
-    ∙ (λ t. xor_zero_r a t * 2 ^ k + xor_zero_l r t)
+use Rattle.gcm.proofs.Products.Linear.{shift_keeps, joined, sum-agree, term, term_adds}
+use Rattle.gcm.proofs.Products.Linear.{term_keeps, term_through, term_zero}
+use Rattle.gcm.proofs.Products.Linear.{product_terms, v_add, v_below, v_keeps, v_shifted, v_zero}
+use Rattle.gcm.proofs.Products.Powers.{product_below}
+use Rattle.gcm.proofs.Products.Reduction.{folded_keeps}
 
 -- ---- sums
 
--- the product of a sum, in the first factor
-pub left_keeps : (n a b y : ℕ) → carryless n (bit_xor a b) y
+-- a product without carries keeps sums in the first factor
+pub carryless_left_keeps : (n a b y : ℕ) → carryless n (bit_xor a b) y
     ≡ bit_xor (carryless n a y) (carryless n b y)
 unfolding carryless term
-left_keeps zero a b y = refl
-left_keeps (suc n) a b y =
+carryless_left_keeps zero a b y = refl
+carryless_left_keeps (suc n) a b y =
     (λ t. bit_xor ((ap (λ z. carryless n z y * 2) (xor_shr a b 1)
-    ∙ ap (λ c. c * 2) (left_keeps n (a / 2) (b / 2) y)
+    ∙ ap (λ c. c * 2) (carryless_left_keeps n (a / 2) (b / 2) y)
     ∙ sym (shift_keeps 1 (carryless n (a / 2) y) (carryless n (b / 2) y))) t)
     ((ap (λ c. term c y) (xor_mod a b 1)
     ∙ term_adds (a % 2) (b % 2) y (omega arith) (omega arith)) t))
-    ∙ exchanged (carryless n (a / 2) y * 2) (carryless n (b / 2) y * 2) (term (a % 2) y)
+    ∙ add_swap (carryless n (a / 2) y * 2) (carryless n (b / 2) y * 2) (term (a % 2) y)
     (term (b % 2) y)
 
 -- a product without carries keeps sums in the second factor
-pub right_keeps : (n x a b : ℕ) → carryless n x (bit_xor a b)
+pub carryless_right_keeps : (n x a b : ℕ) → carryless n x (bit_xor a b)
     ≡ bit_xor (carryless n x a) (carryless n x b)
 unfolding carryless term
-right_keeps zero x a b = refl
-right_keeps (suc n) x a b =
-    (λ t. bit_xor ((ap (λ c. c * 2) (right_keeps n (x / 2) a b)
+carryless_right_keeps zero x a b = refl
+carryless_right_keeps (suc n) x a b =
+    (λ t. bit_xor ((ap (λ c. c * 2) (carryless_right_keeps n (x / 2) a b)
     ∙ sym (shift_keeps 1 (carryless n (x / 2) a) (carryless n (x / 2) b))) t)
     (term_keeps (x % 2) a b t))
-    ∙ exchanged (carryless n (x / 2) a * 2) (carryless n (x / 2) b * 2) (term (x % 2) a)
+    ∙ add_swap (carryless n (x / 2) a * 2) (carryless n (x / 2) b * 2) (term (x % 2) a)
     (term (x % 2) b)
 
--- 0 times a number is 0
-pub left_zero : (n y : ℕ) → carryless n 0 y ≡ 0
+-- the product without carries of 0 and a number is 0
+pub carryless_left_zero : (n y : ℕ) → carryless n 0 y ≡ 0
 unfolding carryless
-left_zero zero y = refl
-left_zero (suc n) y = ap (λ c. bit_xor (c * 2) 0) (left_zero n y)
+carryless_left_zero zero y = refl
+carryless_left_zero (suc n) y = ap (λ c. bit_xor (c * 2) 0) (carryless_left_zero n y)
 
--- a number times 0 is 0
-pub right_zero : (n x : ℕ) → carryless n x 0 ≡ 0
+-- the product without carries of a number and 0 is 0
+pub carryless_right_zero : (n x : ℕ) → carryless n x 0 ≡ 0
 unfolding carryless term
-right_zero zero x = refl
-right_zero (suc n) x =
-    (λ t. bit_xor (right_zero n (x / 2) t * 2) (term_zero (x % 2) t))
+carryless_right_zero zero x = refl
+carryless_right_zero (suc n) x =
+    (λ t. bit_xor (carryless_right_zero n (x / 2) t * 2) (term_zero (x % 2) t))
 
 -- ---- shifts
 
--- the product with a shifted number is shifted
-pub right_shifted : (n x y k : ℕ) → carryless n x (y * 2 ^ k) ≡ carryless n x y * 2 ^ k
+-- the product without carries with a shifted number is shifted
+pub carryless_right_shifted : (n x y k : ℕ) → carryless n x (y * 2 ^ k) ≡ carryless n x y * 2 ^ k
 unfolding carryless
-right_shifted zero x y k = omega arith
-right_shifted (suc n) x y k =
+carryless_right_shifted zero x y k = omega arith
+carryless_right_shifted (suc n) x y k =
     let turned : carryless n (x / 2) y * 2 ^ k * 2 ≡ carryless n (x / 2) y * 2 * 2 ^ k =
     omega arith in
-    (λ t. bit_xor ((ap (λ c. c * 2) (right_shifted n (x / 2) y k) ∙ turned) t)
+    (λ t. bit_xor ((ap (λ c. c * 2) (carryless_right_shifted n (x / 2) y k) ∙ turned) t)
     (by_test (x % 2 == 0) t))
     ∙ shift_keeps k (carryless n (x / 2) y * 2) (if x % 2 == 0 then 0 else y)
   where
@@ -92,17 +77,17 @@ right_shifted (suc n) x y k =
     by_test true = omega arith
     by_test false = refl
 
--- the upper bits of the first factor and the lower ones
-pub split : (m n x y : ℕ) → carryless (m + n) x y
+-- a product without carries is the sum of those of its first factor's upper and lower bits
+pub carryless_split : (m n x y : ℕ) → carryless (m + n) x y
     ≡ bit_xor (carryless m (x / 2 ^ n) y * 2 ^ n) (carryless n x y)
 unfolding carryless
-split m zero x y =
+carryless_split m zero x y =
     let none : m + 0 ≡ m = omega arith in
     let same : x ≡ x / 2 ^ 0 = omega arith in
     let once : carryless m x y ≡ carryless m x y * 2 ^ 0 = omega arith in
     ap (λ k. carryless k x y) none ∙ once ∙ ap (λ z. carryless m z y * 2 ^ 0) same
     ∙ sym (xor_zero_r (carryless m (x / 2 ^ 0) y * 2 ^ 0))
-split m (suc n) x y =
+carryless_split m (suc n) x y =
     let more : m + suc n ≡ suc (m + n) = omega arith in
     let one : 1 + n ≡ suc n = omega arith in
     let last : ℕ = if x % 2 == 0 then 0 else y in
@@ -112,7 +97,7 @@ split m (suc n) x y =
     ∙ ap (λ p. carryless m (x / 2 / 2 ^ n) y * p) (sym (pow-suc 2 n))
     ∙ (λ t. carryless m ((shr-shr x 1 n ∙ ap (λ k. x / 2 ^ k) one) t) y * 2 ^ suc n) in
     ap (λ k. carryless k x y) more
-    ∙ ap (λ c. bit_xor (c * 2) last) (split m n (x / 2) y)
+    ∙ ap (λ c. bit_xor (c * 2) last) (carryless_split m n (x / 2) y)
     ∙ ap (λ c. bit_xor c last) (sym (shift_keeps 1 (carryless m (x / 2 / 2 ^ n) y * 2 ^ n)
     (carryless n (x / 2) y)))
     ∙ xor_assoc (carryless m (x / 2 / 2 ^ n) y * 2 ^ n * 2) (carryless n (x / 2) y * 2) last
@@ -121,51 +106,47 @@ split m (suc n) x y =
     grouped : (c p : ℕ) → c * p * 2 ≡ c * (p * 2)
     grouped c p = grind arith
 
--- a number whose last n bits are zeros has no product of these
-pub no_bits : (n a y : ℕ) → carryless n (a * 2 ^ n) y ≡ 0
+-- the product without carries of n bits is 0 if the last n bits of its first factor are zeros
+pub carryless_no_bits : (n a y : ℕ) → carryless n (a * 2 ^ n) y ≡ 0
 unfolding carryless
-no_bits zero a y = refl
-no_bits (suc n) a y =
+carryless_no_bits zero a y = refl
+carryless_no_bits (suc n) a y =
     let twice : a * 2 ^ suc n ≡ a * 2 ^ n * 2 =
     ap (λ p. a * p) (pow-suc 2 n) ∙ grind arith in
     let half : a * 2 ^ suc n / 2 ≡ a * 2 ^ n = omega (arith, twice) in
     let even : a * 2 ^ suc n % 2 ≡ 0 = omega (arith, twice) in
     (λ t. bit_xor (carryless n (half t) y * 2) (if even t == 0 then 0 else y))
-    ∙ ap (λ c. bit_xor (c * 2) 0) (no_bits n a y)
+    ∙ ap (λ c. bit_xor (c * 2) 0) (carryless_no_bits n a y)
 
 -- ---- parts
 
--- the last n bits of a number are all that counts
-pub cut : (n x y : ℕ) → carryless n x y ≡ carryless n (x % 2 ^ n) y
-cut n x y =
+-- the product without carries of n bits is that of the last n bits of its first factor
+pub carryless_cut : (n x y : ℕ) → carryless n x y ≡ carryless n (x % 2 ^ n) y
+carryless_cut n x y =
     let parts : x ≡ bit_xor (x / 2 ^ n * 2 ^ n) (x % 2 ^ n) =
     sym (joined n (x / 2 ^ n) (x % 2 ^ n) (omega (arith, pow_pos n)) ∙ omega (arith, pow_pos n)) in
     ap (λ z. carryless n z y) parts
-    ∙ left_keeps n (x / 2 ^ n * 2 ^ n) (x % 2 ^ n) y
-    ∙ ap (λ c. bit_xor c (carryless n (x % 2 ^ n) y)) (no_bits n (x / 2 ^ n) y)
+    ∙ carryless_left_keeps n (x / 2 ^ n * 2 ^ n) (x % 2 ^ n) y
+    ∙ ap (λ c. bit_xor c (carryless n (x % 2 ^ n) y)) (carryless_no_bits n (x / 2 ^ n) y)
     ∙ xor_zero_l (carryless n (x % 2 ^ n) y)
 
 -- (p + q) + r is (p + r) + q
 turned_last : (p q r : ℕ) → bit_xor (bit_xor p q) r ≡ bit_xor (bit_xor p r) q
 turned_last p q r = xor_assoc p q r ∙ ap (bit_xor p) (xor_comm q r) ∙ sym (xor_assoc p r q)
 
--- what is added twice is gone
-twice_gone : (p q : ℕ) → bit_xor (bit_xor p q) q ≡ p
-twice_gone p q = xor_assoc p q q ∙ ap (bit_xor p) (xor_self q) ∙ xor_zero_r p
-
 -- of four products of halves, the two in the middle are the product of the sums without the others
 middle : (a b c d : ℕ) → bit_xor (bit_xor (bit_xor (bit_xor a b) (bit_xor c d)) a) d ≡ bit_xor b c
 middle a b c d =
     ap (λ s. bit_xor s d) (turned_last (bit_xor a b) (bit_xor c d) a
-    ∙ ap (λ s. bit_xor s (bit_xor c d)) (ap (λ s. bit_xor s a) (xor_comm a b) ∙ twice_gone b a))
-    ∙ xor_assoc b (bit_xor c d) d ∙ ap (bit_xor b) (twice_gone c d)
+    ∙ ap (λ s. bit_xor s (bit_xor c d)) (ap (λ s. bit_xor s a) (xor_comm a b) ∙ add_twice b a))
+    ∙ xor_assoc b (bit_xor c d) d ∙ ap (bit_xor b) (add_twice c d)
 
--- a product of 2 n bits by three products of n bits (Karatsuba)
-pub by_three : (n x y x0 x1 y0 y1 : ℕ) → x1 ≡ x / 2 ^ n → x0 ≡ x % 2 ^ n → y1 ≡ y / 2 ^ n
+-- a product without carries of 2 n bits by three products of n bits (Karatsuba)
+pub karatsuba : (n x y x0 x1 y0 y1 : ℕ) → x1 ≡ x / 2 ^ n → x0 ≡ x % 2 ^ n → y1 ≡ y / 2 ^ n
     → y0 ≡ y % 2 ^ n → (l h m : ℕ) → l ≡ carryless n x0 y0 → h ≡ carryless n x1 y1
     → m ≡ bit_xor (bit_xor (carryless n (bit_xor x0 x1) (bit_xor y0 y1)) l) h
     → bit_xor (bit_xor (h * 2 ^ n * 2 ^ n) (m * 2 ^ n)) l ≡ carryless (n + n) x y
-by_three n x y x0 x1 y0 y1 x1_is x0_is y1_is y0_is l h m l_is h_is m_is =
+karatsuba n x y x0 x1 y0 y1 x1_is x0_is y1_is y0_is l h m l_is h_is m_is =
     let a : ℕ = carryless n x0 y0 in
     let b : ℕ = carryless n x0 y1 in
     let c : ℕ = carryless n x1 y0 in
@@ -173,15 +154,16 @@ by_three n x y x0 x1 y0 y1 x1_is x0_is y1_is y0_is l h m l_is h_is m_is =
     let parts : y ≡ bit_xor (y1 * 2 ^ n) y0 =
     sym ((λ t. bit_xor (y1_is t * 2 ^ n) (y0_is t))
     ∙ joined n (y / 2 ^ n) (y % 2 ^ n) (omega (arith, pow_pos n)) ∙ omega (arith, pow_pos n)) in
-    let by = λ (z : ℕ). ap (carryless n z) parts ∙ right_keeps n z (y1 * 2 ^ n) y0
-    ∙ ap (λ p. bit_xor p (carryless n z y0)) (right_shifted n z y1 n) in
+    let by = λ (z : ℕ). ap (carryless n z) parts ∙ carryless_right_keeps n z (y1 * 2 ^ n) y0
+    ∙ ap (λ p. bit_xor p (carryless n z y0)) (carryless_right_shifted n z y1 n) in
     let m_by : m ≡ bit_xor b c =
-    m_is ∙ (λ t. bit_xor (bit_xor ((left_keeps n x0 x1 (bit_xor y0 y1)
-    ∙ (λ u. bit_xor (right_keeps n x0 y0 y1 u) (right_keeps n x1 y0 y1 u))) t) (l_is t)) (h_is t))
+    m_is ∙ (λ t. bit_xor (bit_xor ((carryless_left_keeps n x0 x1 (bit_xor y0 y1)
+    ∙ (λ u. bit_xor (carryless_right_keeps n x0 y0 y1 u) (carryless_right_keeps n x1 y0 y1 u))) t)
+    (l_is t)) (h_is t))
     ∙ middle a b c d in
-    sym (split n n x y
+    sym (carryless_split n n x y
     ∙ (λ t. bit_xor (carryless n (sym x1_is t) y * 2 ^ n)
-    ((cut n x y ∙ ap (λ z. carryless n z y) (sym x0_is)) t))
+    ((carryless_cut n x y ∙ ap (λ z. carryless n z y) (sym x0_is)) t))
     ∙ (λ t. bit_xor (by x1 t * 2 ^ n) (by x0 t))
     ∙ ap (λ p. bit_xor p (bit_xor (b * 2 ^ n) a)) (sym (shift_keeps n (d * 2 ^ n) c))
     ∙ sym (xor_assoc (bit_xor (d * 2 ^ n * 2 ^ n) (c * 2 ^ n)) (b * 2 ^ n) a)
@@ -192,7 +174,7 @@ by_three n x y x0 x1 y0 y1 x1_is x0_is y1_is y0_is l h m l_is h_is m_is =
 
 -- ---- products of blocks
 
--- the product of n + 1 bits, without carries, is a sum of multiples once it is shifted back
+-- the product without carries of n + 1 bits is a sum of multiples once it is shifted back
 shifted_back : (n x h : ℕ) → v_at (carryless (suc n) x h) n
     ≡ sum_of (suc n) (λ i. term (x / 2 ^ (n - i) % 2) (v_at h i))
 unfolding carryless sum_of term v_at
@@ -241,10 +223,10 @@ spread_keeps a b =
     (λ t. bit_xor (bit_xor (bit_xor (bit_xor a b) (lost_keeps 127 a b t)) (lost_keeps 126 a b t))
     (lost_keeps 121 a b t))
     ∙ ap (λ s. bit_xor (bit_xor s (bit_xor (p 126 a) (p 126 b))) (bit_xor (p 121 a) (p 121 b)))
-    (exchanged a b (p 127 a) (p 127 b))
+    (add_swap a b (p 127 a) (p 127 b))
     ∙ ap (λ s. bit_xor s (bit_xor (p 121 a) (p 121 b)))
-    (exchanged (bit_xor a (p 127 a)) (bit_xor b (p 127 b)) (p 126 a) (p 126 b))
-    ∙ exchanged (bit_xor (bit_xor a (p 127 a)) (p 126 a)) (bit_xor (bit_xor b (p 127 b)) (p 126 b))
+    (add_swap (bit_xor a (p 127 a)) (bit_xor b (p 127 b)) (p 126 a) (p 126 b))
+    ∙ add_swap (bit_xor (bit_xor a (p 127 a)) (p 126 a)) (bit_xor (bit_xor b (p 127 b)) (p 126 b))
     (p 121 a) (p 121 b)
 
 -- two functions that keep sums, and agree on each number that has one bit of n, agree on each of n
@@ -273,12 +255,12 @@ same_linear f g none f_keeps g_keeps (suc n) agree x small =
     ap f parts ∙ f_keeps (b * 2 ^ n) r ∙ (λ t. bit_xor (upper t) (lower t))
     ∙ sym (ap g parts ∙ g_keeps (b * 2 ^ n) r)
 
--- each bit, times x^128, is folded in
+-- each bit of a block, times x^128, is folded in, by all cases
 bit_test : all_below 128 (λ i. v_at (2 ^ i) 128 == folded (spread (2 ^ i))) ≡ true
 unfolding all_below v_at next_v folded spread
 bit_test = refl
 
--- any block times x^128
+-- a block, times x^128, is folded in
 folded_in : (f : ℕ) → f < 2 ^ 128 → v_at f 128 ≡ folded (spread f)
 unfolding folded spread
 folded_in =
@@ -287,7 +269,7 @@ folded_in =
     (λ i l. eqb-true _ _ (all_below_tells 128
     (λ i. v_at (2 ^ i) 128 == folded (spread (2 ^ i))) bit_test i l))
 
--- the product of two blocks by that of their numbers
+-- the product of two blocks, by the halves of the product without carries
 pub reduced_product : (x h high low : ℕ) → high * 2 ^ 128 + low ≡ carryless 128 x h → h < 2 ^ 128
     → low < 2 ^ 128
     → bit_xor (bit_xor (high * 2 % 2 ^ 128) (low / 2 ^ 127)) (folded (spread (low * 2 % 2 ^ 128)))
@@ -307,7 +289,8 @@ reduced_product x h high low is small fits =
     ∙ v_keeps 128 (k * 2 ^ 128) f
     ∙ (λ t. bit_xor (v_shifted 128 k t) (folded_in f fallen t))) in
     let w_small : w < 2 ^ 128 = rw (← folded_in f fallen) (v_below 128 f fallen) in
-    let k_is : k ≡ bit_xor (product x h) w = sym (ap (λ z. bit_xor z w) (sym whole) ∙ twice_gone k w) in
+    let k_is : k ≡ bit_xor (product x h) w = sym (ap (λ z. bit_xor z w) (sym whole)
+    ∙ add_twice k w) in
     let k_small : k < 2 ^ 128 =
     rw k_is (xor_lt 128 (product x h) w (product_below x h small) w_small) in
     let kept : high * 2 % 2 ^ 128 ≡ high * 2 ^ 1 = omega (arith, k_small) in
@@ -315,7 +298,7 @@ reduced_product x h high low is small fits =
     joined 1 high (low / 2 ^ 127) (omega (arith, fits)) in
     ap (λ z. bit_xor (bit_xor z (low / 2 ^ 127)) w) kept ∙ ap (λ z. bit_xor z w) joint ∙ whole
 
--- a product of 256 bits: its upper and its lower half
+-- the upper and the lower half of a product of 256 bits, by the products of its parts
 pub columns : (h m l : ℕ) → l < 2 ^ 128 → bit_xor h (m / 2 ^ 64) * 2 ^ 128
     + bit_xor l (m * 2 ^ 64 % 2 ^ 128)
     ≡ bit_xor (bit_xor (h * 2 ^ 64 * 2 ^ 64) (m * 2 ^ 64)) l

@@ -8,16 +8,17 @@ use Rattle.std.specs.Int.{w128, from_be_bytes}
 use Rattle.std.specs.Int.Bits.{xor_assoc, xor_zero_r}
 use lib.Lanes.{zip2}
 use Rattle.aes_planes.specs.Fips197.{IsBlock}
+use Rattle.aes_planes.proofs.Standard.FieldLaws.{add_swap}
 use Rattle.aes_permute.specs.Lookup.{by_nibbles}
 use Rattle.aes_permute.proofs.ByHalves.{zip2_take, zip2_drop}
 use Rattle.gcm.specs.Gcm.{v_at}
 use Rattle.gcm.specs.Multiples.{folded, reduced, IsTable, HasRows, subkey_in, row_number}
 use Rattle.gcm.specs.Multiples.{rows_after}
-use Rattle.gcm.proofs.Linear.{exchanged, v_keeps, v_add}
-use Rattle.gcm.proofs.Counting.{block_below}
-use Rattle.gcm.proofs.Reduction.{folded_keeps, reduced_next}
-use Rattle.gcm.proofs.Rows.{zeros_next, value_next, block_moved, block_summed, number_summed}
-use Rattle.gcm.proofs.Rows.{zeros_block, zero_at, half_found}
+use Rattle.gcm.proofs.Products.Linear.{v_keeps, v_add}
+use Rattle.gcm.proofs.Messages.Counting.{block_below}
+use Rattle.gcm.proofs.Products.Reduction.{folded_keeps, reduced_next}
+use Rattle.gcm.proofs.Tables.Rows.{zeros_next, value_next, block_moved, block_summed, number_summed}
+use Rattle.gcm.proofs.Tables.Rows.{zeros_block, zero_at, half_found}
 
 -- ---- the sum of the last k rows, with the bits that fell out
 
@@ -32,7 +33,7 @@ pub record Summed (row : ℕ → ℕ) (k : ℕ) (first second : List ℕ) : Type
   pub start : k ≡ 0 → get_or first 15 0 ≡ 0
   pub value : reduced (from_be_bytes w128 first) (from_be_bytes w128 second) ≡ rows_after row k
 
--- before the first step both are zeros
+-- before the first step both blocks are zeros
 pub summed_none : (row : ℕ → ℕ) → Summed row 0 (replicate 16 0) (replicate 16 0)
 unfolding reduced folded rows_after
 summed_none row = record {
@@ -43,7 +44,7 @@ summed_none row = record {
   value = refl;
 }
 
--- a step moves both one byte on and adds the row before
+-- a step moves both blocks one byte on and adds the row before
 pub summed_next : (row : ℕ → ℕ) (k : ℕ) (first second added first' second' : List ℕ) → k < 16
     → Summed row k first second
     → IsBlock added → from_be_bytes w128 added ≡ row (15 - k)
@@ -102,56 +103,56 @@ rows_summed f g r p q a b =
 
 -- ---- eight bytes on
 
--- one byte on: the two blocks stand for the same number times x ^ 8
-chain : (y n k l k' l' t : ℕ) → reduced k l ≡ v_at y n → k' ≡ k / 256
+-- the two blocks, moved one byte on, stand for the same number times x ^ 8
+one_byte_on : (y n k l k' l' t : ℕ) → reduced k l ≡ v_at y n → k' ≡ k / 256
     → l' ≡ k % 256 * 2 ^ 120 + l / 256 → l ≡ t * 2 ^ 16
     → l < 2 ^ 128 → reduced k' l' ≡ v_at y (n + 8)
-chain y n k l k' l' t before k_is l_is is small =
+one_byte_on y n k l k' l' t before k_is l_is is small =
     (λ u. reduced ((k_is ∙ sym (xor_zero_r (k / 256))) u) (l_is u))
     ∙ reduced_next k l t 0 is small ∙ xor_zero_r (v_at (reduced k l) 8)
     ∙ ap (λ z. v_at z 8) before ∙ v_add y n 8
 
--- eight bytes on, in one shift: the upper half's sum has to be moved so far before it is added to
--- the lower's
-eight_on : (k l q : ℕ) → l ≡ q * 2 ^ 72 → l < 2 ^ 128
+-- the two blocks, moved eight bytes on in one shift, stand for their number times x ^ 64: the
+-- upper half's sum has to be moved so far before it is added to the lower's
+eight_bytes_on : (k l q : ℕ) → l ≡ q * 2 ^ 72 → l < 2 ^ 128
     → reduced (k / 2 ^ 64) (k % 2 ^ 64 * 2 ^ 64 + l / 2 ^ 64) ≡ v_at (reduced k l) 64
 unfolding v_at
-eight_on k l q is small =
+eight_bytes_on k l q is small =
     let y = reduced k l in
     let e1 : reduced (k / 2 ^ 8) (k % 2 ^ 8 * 2 ^ 120 + l / 2 ^ 8) ≡ v_at y 8 =
-    chain y 0 k l (k / 2 ^ 8) (k % 2 ^ 8 * 2 ^ 120 + l / 2 ^ 8) (q * 2 ^ 56) refl
+    one_byte_on y 0 k l (k / 2 ^ 8) (k % 2 ^ 8 * 2 ^ 120 + l / 2 ^ 8) (q * 2 ^ 56) refl
     (omega arith) (omega arith) (omega (arith, is)) small in
     let e2 : reduced (k / 2 ^ 16) (k % 2 ^ 16 * 2 ^ 112 + l / 2 ^ 16) ≡ v_at y 16 =
-    chain y 8 (k / 2 ^ 8) (k % 2 ^ 8 * 2 ^ 120 + l / 2 ^ 8) (k / 2 ^ 16)
+    one_byte_on y 8 (k / 2 ^ 8) (k % 2 ^ 8 * 2 ^ 120 + l / 2 ^ 8) (k / 2 ^ 16)
     (k % 2 ^ 16 * 2 ^ 112 + l / 2 ^ 16)
     (k % 2 ^ 8 * 2 ^ 104 + q * 2 ^ 48) e1 (omega arith) (omega arith) (omega (arith, is))
     (omega (arith, small)) in
     let e3 : reduced (k / 2 ^ 24) (k % 2 ^ 24 * 2 ^ 104 + l / 2 ^ 24) ≡ v_at y 24 =
-    chain y 16 (k / 2 ^ 16) (k % 2 ^ 16 * 2 ^ 112 + l / 2 ^ 16) (k / 2 ^ 24)
+    one_byte_on y 16 (k / 2 ^ 16) (k % 2 ^ 16 * 2 ^ 112 + l / 2 ^ 16) (k / 2 ^ 24)
     (k % 2 ^ 24 * 2 ^ 104 + l / 2 ^ 24)
     (k % 2 ^ 16 * 2 ^ 96 + q * 2 ^ 40) e2 (omega arith) (omega arith) (omega (arith, is))
     (omega (arith, small)) in
     let e4 : reduced (k / 2 ^ 32) (k % 2 ^ 32 * 2 ^ 96 + l / 2 ^ 32) ≡ v_at y 32 =
-    chain y 24 (k / 2 ^ 24) (k % 2 ^ 24 * 2 ^ 104 + l / 2 ^ 24) (k / 2 ^ 32)
+    one_byte_on y 24 (k / 2 ^ 24) (k % 2 ^ 24 * 2 ^ 104 + l / 2 ^ 24) (k / 2 ^ 32)
     (k % 2 ^ 32 * 2 ^ 96 + l / 2 ^ 32)
     (k % 2 ^ 24 * 2 ^ 88 + q * 2 ^ 32) e3 (omega arith) (omega arith) (omega (arith, is))
     (omega (arith, small)) in
     let e5 : reduced (k / 2 ^ 40) (k % 2 ^ 40 * 2 ^ 88 + l / 2 ^ 40) ≡ v_at y 40 =
-    chain y 32 (k / 2 ^ 32) (k % 2 ^ 32 * 2 ^ 96 + l / 2 ^ 32) (k / 2 ^ 40)
+    one_byte_on y 32 (k / 2 ^ 32) (k % 2 ^ 32 * 2 ^ 96 + l / 2 ^ 32) (k / 2 ^ 40)
     (k % 2 ^ 40 * 2 ^ 88 + l / 2 ^ 40)
     (k % 2 ^ 32 * 2 ^ 80 + q * 2 ^ 24) e4 (omega arith) (omega arith) (omega (arith, is))
     (omega (arith, small)) in
     let e6 : reduced (k / 2 ^ 48) (k % 2 ^ 48 * 2 ^ 80 + l / 2 ^ 48) ≡ v_at y 48 =
-    chain y 40 (k / 2 ^ 40) (k % 2 ^ 40 * 2 ^ 88 + l / 2 ^ 40) (k / 2 ^ 48)
+    one_byte_on y 40 (k / 2 ^ 40) (k % 2 ^ 40 * 2 ^ 88 + l / 2 ^ 40) (k / 2 ^ 48)
     (k % 2 ^ 48 * 2 ^ 80 + l / 2 ^ 48)
     (k % 2 ^ 40 * 2 ^ 72 + q * 2 ^ 16) e5 (omega arith) (omega arith) (omega (arith, is))
     (omega (arith, small)) in
     let e7 : reduced (k / 2 ^ 56) (k % 2 ^ 56 * 2 ^ 72 + l / 2 ^ 56) ≡ v_at y 56 =
-    chain y 48 (k / 2 ^ 48) (k % 2 ^ 48 * 2 ^ 80 + l / 2 ^ 48) (k / 2 ^ 56)
+    one_byte_on y 48 (k / 2 ^ 48) (k % 2 ^ 48 * 2 ^ 80 + l / 2 ^ 48) (k / 2 ^ 56)
     (k % 2 ^ 56 * 2 ^ 72 + l / 2 ^ 56)
     (k % 2 ^ 48 * 2 ^ 64 + q * 2 ^ 8) e6 (omega arith) (omega arith) (omega (arith, is))
     (omega (arith, small)) in
-    chain y 56 (k / 2 ^ 56) (k % 2 ^ 56 * 2 ^ 72 + l / 2 ^ 56) (k / 2 ^ 64)
+    one_byte_on y 56 (k / 2 ^ 56) (k % 2 ^ 56 * 2 ^ 72 + l / 2 ^ 56) (k / 2 ^ 64)
     (k % 2 ^ 64 * 2 ^ 64 + l / 2 ^ 64)
     (k % 2 ^ 56 * 2 ^ 56 + q) e7 (omega arith) (omega arith) (omega (arith, is))
     (omega (arith, small))
@@ -162,7 +163,7 @@ eight_on k l q is small =
 abbrev pub lower_rows : (ℕ → ℕ) → ℕ → ℕ
 lower_rows row r = row (r - 8)
 
--- eight rows and n more: the first eight are moved on by n bytes
+-- the sum of eight rows and n more: the first eight are moved on by n bytes
 rows_on : (row : ℕ → ℕ) (n : ℕ)
     → rows_after row (8 + n) ≡ bit_xor (v_at (rows_after row 8) (8 * n))
     (rows_after (lower_rows row) n)
@@ -185,7 +186,7 @@ reduced_keeps : (a b c d : ℕ) → reduced (bit_xor a b) (bit_xor c d)
     ≡ bit_xor (reduced a c) (reduced b d)
 unfolding reduced
 reduced_keeps a b c d = ap (bit_xor (bit_xor a b)) (folded_keeps c d)
-    ∙ exchanged a b (folded c) (folded d)
+    ∙ add_swap a b (folded c) (folded d)
 
 -- the last nine bytes of what fell out are zeros, so eight of them can go
 nine_zeros : (x : List ℕ) → ((i : ℕ) → 8 ≤ i + 1 → get_or x i 0 ≡ 0)
@@ -205,12 +206,13 @@ nine_zeros x zeros =
       at 15 (omega arith),
     )
 
--- rows 7 to 0 in the lower half, and rows 15 to 8 in the upper one
+-- the sums after k steps: of rows 7 to 0 in the lower halves, and of rows 15 to 8 in the upper
+-- ones
 pub record SummedInHalves (row : ℕ → ℕ) (k : ℕ) (first second : List ℕ) : Type 0 where
   pub lower : Summed (lower_rows row) k (take 16 first) (take 16 second)
   pub upper : Summed row k (drop 16 first) (drop 16 second)
 
--- before the first step
+-- before the first step both vectors are zeros
 pub halves_none : (row : ℕ → ℕ) → SummedInHalves row 0 (replicate 32 0) (replicate 32 0)
 halves_none row = record { lower = summed_none (lower_rows row); upper = summed_none row }
 
@@ -256,7 +258,7 @@ both_halves row k first second is end =
     (from_be_bytes w128 (take 16 second))
     (x % 2 ^ 64 * 2 ^ 64 + y / 2 ^ 64)
     ∙ (λ u. bit_xor (all.lower.value u)
-    ((eight_on x y (y / 2 ^ 72) (nine_zeros (drop 16 second) all.upper.zeros)
+    ((eight_bytes_on x y (y / 2 ^ 72) (nine_zeros (drop 16 second) all.upper.zeros)
     (block_below (drop 16 second) all.upper.second_block) ∙ ap (λ v. v_at v 64) all.upper.value) u))
     ∙ xor_comm (rows_after (lower_rows row) 8) (v_at (rows_after row 8) 64)
     ∙ sym (rows_on row 8)

@@ -1,5 +1,5 @@
 -- GHASH and GCTR of strings that come in pieces.
-use Rattle.std.proofs.Common.{◌≡◌, ℕ, suc, ◌+◌, ◌-◌, ◌*◌, ◌/◌, ◌%◌, ◌^◌, ◌<◌, ◌≤◌, List, [], ◌++◌}
+use Rattle.std.proofs.Common.{◌≡◌, ℕ, suc, ◌+◌, ◌-◌, ◌*◌, ◌/◌, ◌%◌, ◌<◌, List, [], ◌++◌}
 use Rattle.std.proofs.Common.{length, take, drop, inl, inr, subst, replicate, bit_xor, refl, ap}
 use Rattle.std.proofs.Common.{sym, ◌∙◌, arith, length-append, length-drop, length-take}
 use Rattle.std.proofs.Common.{append_assoc}
@@ -9,14 +9,15 @@ use Rattle.std.specs.Int.{w64, w128, to_be_bytes, from_be_bytes}
 use Rattle.aes_ctr.specs.CounterMode.{plus_stream}
 use Rattle.aes_ctr.proofs.Sums.{plus-append, length-plus}
 use Rattle.gcm.specs.Gcm.{product, block_at, hashed, padded, inc32, gctr, gctr_byte, bit_length}
-use Rattle.gcm.specs.Gcm.{hash_subkey, pre_counter, text, hash}
+use Rattle.gcm.specs.Gcm.{hash_subkey, pre_counter, text, hash, IsHashedLength, IsTextLength}
 use Rattle.gcm.specs.Pieces.{hashed_padded, IsHashing, IsAt}
 use Rattle.gcm.specs.declared.message.Message.{Message}
 use Rattle.gcm.specs.declared.message.Phase.{Phase}
-use Rattle.gcm.proofs.Counting.{from_second}
-use Rattle.gcm.proofs.Hashing.{hashed_first, hashed_on, all_whole, length-padded, in_pieces}
+use Rattle.gcm.proofs.Messages.Counting.{from_second}
+use Rattle.gcm.proofs.Messages.Hashing.{hashed_first, hashed_on, hashed_whole, length-padded}
+use Rattle.gcm.proofs.Messages.Hashing.{ghash_pieces}
 
--- a piece that doesn't fill the block
+-- GHASH after a piece that doesn't fill the block: the value stays, and the block has more bytes
 pub unfilled : (h y v : ℕ) (s rest b after : List ℕ) → IsHashing h y s v rest
     → length s % 16 + length b < 16
     → take (length s % 16 + length b) after ≡ take (length s % 16) rest ++ b
@@ -34,7 +35,7 @@ unfilled h y v s rest b after is few written =
           ∙ ap (λ k. drop (16 * k) (s ++ b)) blocks;
     }
 
--- a piece that does
+-- GHASH after a piece that fills the block exactly: the block is hashed
 pub filled : (h y v : ℕ) (s rest b block after : List ℕ) → IsHashing h y s v rest
     → length s % 16 + length b ≡ 16
     → block ≡ take (length s % 16) rest ++ b
@@ -59,7 +60,7 @@ filled h y v s rest b block after is whole written =
           (omega (arith, places)));
     }
 
--- whole blocks after whole blocks
+-- GHASH after a string of whole blocks and a piece of whole blocks
 pub whole_blocks : (h y v : ℕ) (s rest b after : List ℕ) → IsHashing h y s v rest
     → length s % 16 ≡ 0
     → length b % 16 ≡ 0
@@ -71,7 +72,7 @@ whole_blocks h y v s rest b after is before whole =
     let blocks : n + m ≡ length (s ++ b) / 16 = omega (arith, long, before, whole) in
     let places : length (s ++ b) % 16 ≡ 0 = omega (arith, long, before, whole) in
     record {
-      value = sym (all_whole h v (hashed h v b m) m b refl refl (omega (arith, whole)))
+      value = sym (hashed_whole h v (hashed h v b m) m b refl refl (omega (arith, whole)))
           ∙ ap (λ z. hashed h z b m) is.value ∙ sym (hashed_on h y s b n m (omega (arith, before)))
           ∙ ap (hashed h y (s ++ b)) blocks;
       rest = ap (λ k. take k after) places
@@ -79,7 +80,7 @@ whole_blocks h y v s rest b after is before whole =
           (omega (arith, places)));
     }
 
--- a piece that fills the block, then whole blocks, then some of a block
+-- GHASH after a piece that fills the block, then has whole blocks, and then some bytes of a block
 pub three_parts : (h y v : ℕ) (s rest b first whole last block after : List ℕ)
     → IsHashing h y s v rest
     → b ≡ first ++ (whole ++ last) → length s % 16 + length first ≡ 16
@@ -107,7 +108,7 @@ three_parts h y v s rest b first whole last block after is parts fills written b
     (omega (arith, two, few))
     (ap (λ k. take k after) none ∙ end ∙ sym (ap (λ k. take k rest ++ last) two)))
 
--- the end of a string: zeros fill its last block
+-- GHASH of a string that came in pieces, padded: zeros fill its last block
 pub closed : (h y v : ℕ) (s rest : List ℕ) → IsHashing h y s v rest
     → hashed h v (padded (take (length s % 16) rest))
     (length (padded (take (length s % 16) rest)) / 16)
@@ -133,7 +134,7 @@ closed h y v s rest is =
     ∙ sym (hashed_on h y a (padded t) n (length (padded t) / 16) a_long)
     ∙ (λ i. hashed h y (whole i) (count i))
 
--- S, of the value after additional data and text and of their lengths
+-- S of additional data and text, by the value after both and by their lengths
 pub summed : (h v m n : ℕ) (a c : List ℕ)
     → v ≡ hashed h (hashed_padded h a) (padded c) (length (padded c) / 16)
     → m ≡ length a → n ≡ length c
@@ -143,18 +144,19 @@ unfolding hashed_padded hash bit_length
 summed h v m n a c is a_long c_long =
     (λ t. product (bit_xor (is t)
     (from_be_bytes w128 (to_be_bytes w64 (8 * a_long t) ++ to_be_bytes w64 (8 * c_long t)))) h)
-    ∙ sym (in_pieces h (padded a) (padded c) (bit_length a ++ bit_length c) ((length a + 15) / 16)
+    ∙ sym (ghash_pieces h (padded a) (padded c) (bit_length a ++ bit_length c)
+    ((length a + 15) / 16)
     ((length c + 15) / 16)
     (length-padded a) (length-padded c) refl)
 
--- after additional data alone there is no text
+-- the value after additional data is that after no text behind it
 pub no_text : (h v : ℕ) (a c : List ℕ) → v ≡ hashed_padded h a → c ≡ []
     → v ≡ hashed h (hashed_padded h a) (padded c) (length (padded c) / 16)
 unfolding padded hashed
 no_text h v a c is none = is
     ∙ ap (λ l. hashed h (hashed_padded h a) (padded l) (length (padded l) / 16)) (sym none)
 
--- after additional data alone the text begins: none of it is hashed yet
+-- after additional data alone the text begins, and none of it is hashed yet
 pub first_text : (h v : ℕ) (a c rest : List ℕ) → v ≡ hashed_padded h a → c ≡ []
     → IsHashing h (hashed_padded h a) c v rest
 unfolding hashed
@@ -162,15 +164,16 @@ first_text h v a c rest is none =
     let P : List ℕ → Type 0 = λ l. IsHashing h (hashed_padded h a) l v rest in
     subst P (sym none) (record { value = is; rest = refl })
 
--- what is known of a message in either phase
+-- what is known of a message both before its text and in it
 pub record IsSoFar (w : List (List ℕ)) (iv a c : List ℕ) (m : Message) : Type 0 where
   pub first : from_be_bytes w128 m.first ≡ pre_counter (hash_subkey w) iv
   pub additional : m.additional ≡ length a
-  pub short : length a < 2 ^ 61
+  pub short : IsHashedLength (length a)
   pub text : m.text ≡ length c
-  pub short_text : length c ≤ 2 ^ 36 - 32
+  pub short_text : IsTextLength (length c)
 
--- a message that is at either phase has what `IsSoFar` says, so that a tag is proved once for both
+-- a message to which text may come has what `IsSoFar` says, so that a tag is proved once for both
+-- phases
 pub so_far : (turn : Phase) (w : List (List ℕ)) (iv a c : List ℕ) (m : Message)
     → IsAt turn w iv a c m
     → IsSoFar w iv a c m
@@ -193,7 +196,7 @@ so_far turn w iv a c m (inr is) =
 
 -- ---- GCTR
 
--- a text and more of it: the keystream goes on
+-- a text and more of it: GCTR's keystream goes on
 pub text_on : (w : List (List ℕ)) (iv p b c : List ℕ) (j position : ℕ)
     → j ≡ pre_counter (hash_subkey w) iv
     → position ≡ 16 + length p → c ≡ plus_stream (gctr_byte w j) position b

@@ -8,7 +8,7 @@ use Rattle.aes_planes.proofs.Bits.ByteCases.{by_four}
 use Rattle.aes_ctr.specs.CounterMode.{plus_stream}
 use Rattle.aes_ctr.specs.Private.{byte_of_blocks}
 use Rattle.gcm.specs.Gcm.{inc32, counter_at, pre_counter, text}
-use Rattle.gcm.proofs.OnLiterals.{gcm_on_literals, text_by}
+use Rattle.gcm.proofs.Literals.OnLiterals.{gcm_on_literals, text_by}
 
 -- the round keys of the cases' key
 abbrev pub w : List (List ℕ)
@@ -18,17 +18,17 @@ w = key_expansion (bytes 16 0xfeffe9928665731c6d6a8f9467308308)
 abbrev pub zeros : List ℕ
 zeros = bytes 16 0xb83b533708bf535d0aa6e52980d53b78
 
--- A of all three
+-- A of the three cases
 abbrev pub additional : List ℕ
 additional = bytes 20 0xfeedfacedeadbeeffeedfacedeadbeefabaddad2
 
--- P of all three
+-- P of the three cases
 abbrev pub plain : List ℕ
 plain =
     bytes 16 0xd9313225f88406e5a55909c5aff5269a ++ bytes 16 0x86a7a9531534f7da2e4c303d8a318a72
     ++ bytes 16 0x1c3c0c95956809532fcf0e2449a6b525 ++ bytes 12 0xb16aedf5aa0de657ba637b39
 
--- the text by the ciphers of its four counter blocks, where J_0 is j
+-- a text of the three cases by the ciphers of its four counter blocks, where J_0 is j
 pub text_of : (iv : List ℕ) (j : ℕ) (a b c d : List ℕ) → cipher_with w (replicate 16 0) ≡ zeros
     → pre_counter (from_be_bytes w128 zeros) iv ≡ j
     → cipher_with w (to_be_bytes w128 (counter_at (inc32 j) 0)) ≡ a

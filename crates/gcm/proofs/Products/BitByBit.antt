@@ -1,10 +1,10 @@
 -- Products bit by bit: what is left of a block whose first bits were taken, and one bit more.
 use Rattle.std.proofs.Common.{◌≡◌, ℕ, suc, ◌+◌, ◌-◌, ◌*◌, ◌/◌, ◌%◌, ◌^◌, ◌<◌, ◌==◌}
-use Rattle.std.proofs.Common.{if◌then◌else◌, Bool, true, false, bit_xor, refl, ap, ◌∙◌, arith}
+use Rattle.std.proofs.Common.{if◌then◌else◌, bit_xor, ap, sym, ◌∙◌, arith}
 use Rattle.std.proofs.lemmas.Nat.{pow-add, pow_pos}
 use Rattle.std.proofs.Math.Nat.{pow-suc, mul-div-mul_right}
-use Rattle.std.specs.Int.Bits.{xor_zero_r}
 use Rattle.gcm.specs.Gcm.{bit_of, v_at, z_at}
+use Rattle.gcm.proofs.Products.Linear.{added_unless}
 
 -- the bits that are left of a block when one bit more was taken
 pub shifted : (x i : ℕ) → x * 2 ^ i % 2 ^ 128 * 2 % 2 ^ 128 ≡ x * 2 ^ (i + 1) % 2 ^ 128
@@ -24,15 +24,12 @@ first_left x i inside =
     cut ∙ ap (λ p. x * 2 ^ i / p % 2) power
     ∙ ap (λ n. n % 2) (mul-div-mul_right x (2 ^ (127 - i)) (pow_pos i))
 
--- one bit more of a product
-pub one_more : (x h l z v w i : ℕ) → l ≡ x * 2 ^ i % 2 ^ 128 → z ≡ z_at x h i → v ≡ v_at h i → i < 128
+-- the partial product of one bit more
+pub one_more : (x h l z v w i : ℕ) → l ≡ x * 2 ^ i % 2 ^ 128 → z ≡ z_at x h i → v ≡ v_at h i
+    → i < 128
     → w ≡ (if l / 2 ^ 127 == 0 then 0 else v) → bit_xor z w ≡ z_at x h (suc i)
 unfolding z_at
 one_more x h l z v w i l_is z_is v_is inside w_is =
     let bit : l / 2 ^ 127 ≡ bit_of x i = ap (λ n. n / 2 ^ 127) l_is ∙ first_left x i inside in
     (λ t. bit_xor (z_is t) ((w_is ∙ (λ u. if bit u == 0 then 0 else v_is u)) t))
-    ∙ by_test (bit_of x i == 0) (z_at x h i) (v_at h i)
-  where
-    by_test : (t : Bool) (z v : ℕ) → bit_xor z (if t then 0 else v) ≡ (if t then z else bit_xor z v)
-    by_test true z v = xor_zero_r z
-    by_test false z v = refl
+    ∙ sym (added_unless (bit_of x i == 0) (z_at x h i) (v_at h i))

@@ -19,7 +19,7 @@ use Rattle.aes_permute.proofs.Lookups.{low_is, high_is, nibbles_looked_up}
 
 -- ---- nibbles
 
--- the mask of a block in both halves gives its low nibbles in both
+-- a block in both halves of a vector, under the mask, has its low nibbles in both
 pub low_twice : (x : List ℕ) → IsBlock x
     → zip2 bit_and (x ++ x) (replicate 32 15) ≡ map low_nibble x ++ map low_nibble x
 low_twice x block =
@@ -28,7 +28,7 @@ low_twice x block =
     zip2_splat bit_and (x ++ x) 32 15 (length-append x x ∙ omega (arith, block.0))
     ∙ map-append (λ b. bit_and b 15) x x ∙ (λ t. once t ++ once t)
 
--- the shift of a block in both halves gives its high nibbles in both
+-- a block in both halves of a vector, shifted, has its high nibbles in both
 pub high_twice : (x : List ℕ) → IsBlock x
     → zip2 (λ a b. a / 2 ^ b) (x ++ x) (replicate 32 4) ≡ map high_nibble x ++ map high_nibble x
 high_twice x block =
@@ -53,7 +53,7 @@ high_indices x places block is =
 
 -- ---- look-ups in the tables of the halves
 
--- indices, cut in two, are indices
+-- indices that are cut in two are indices in both parts
 pub indices_parts : (xs ys : List ℕ) → AreIndices (xs ++ ys) → (AreIndices xs) × (AreIndices ys)
 indices_parts [] ys h = (refl, h)
 indices_parts (x ∷ xs) ys h =
@@ -61,7 +61,7 @@ indices_parts (x ∷ xs) ys h =
     let rest = indices_parts xs ys both.1 in
     ((λ t. both.0 t && rest.0 t), rest.1)
 
--- two lists, each of two parts, are summed part by part
+-- two lists of two parts are summed part by part
 zip2_append : (f : ℕ → ℕ → ℕ) (a b c d : List ℕ) → length a ≡ length c
     → zip2 f (a ++ b) (c ++ d) ≡ zip2 f a c ++ zip2 f b d
 zip2_append f [] b [] d same = refl

@@ -1,23 +1,28 @@
--- Numbers by digits of 16, and products of numbers with holes between their bits: no carry reaches the next bit, so they are
--- products without carries.
+-- Numbers by digits of 16, and products of numbers with holes between their bits: no carry reaches
+-- the next bit, so they are products without carries.
 use Rattle.std.proofs.Common.{◌≡◌, ℕ, zero, suc, ◌+◌, ◌-◌, ◌*◌, ◌/◌, ◌%◌, ◌^◌, ◌<◌, ◌≤◌}
 use Rattle.std.proofs.Common.{bit_and, bit_xor, min, refl, ap, sym, ◌∙◌, subst}
 use Rattle.std.proofs.Common.{arith, inl, inr}
 use Rattle.std.proofs.lemmas.Bool.{cases_lt}
-use Rattle.std.proofs.lemmas.Nat.{xor_comm, and_block, and_comm, and_le_r, and_mask, pow_pos, mul-lt}
+use Rattle.std.proofs.lemmas.Nat.{xor_comm, and_block, and_comm, and_le_r, and_mask, pow_pos}
+use Rattle.std.proofs.lemmas.Nat.{mul-lt}
 use Rattle.std.proofs.lemmas.Nat.{pow-add, shl-shr, shr_high, and_mod, xor_mod}
 use Rattle.std.proofs.lemmas.Nat.Bits.{bit_at-lt, bit_at_and, bit_at_xor, same_from_bits}
-use Rattle.std.specs.Int.Bits.{xor_zero_l, xor_zero_r}
+use Rattle.std.specs.Int.Bits.{and_zero_r, xor_zero_l, xor_zero_r}
 use Rattle.aes_planes.proofs.Bits.ByteCases.{by_two, by_four, by_pairs}
+use Rattle.aes_planes.proofs.Standard.FieldLaws.{add_swap}
 use Rattle.gcm.specs.Carryless.{carryless, holes}
 use Rattle.gcm.specs.Multiples.{sum_of}
-use Rattle.gcm.proofs.Carryless.{shift_keeps, joined, left_keeps, right_keeps, left_zero, right_zero}
-use Rattle.gcm.proofs.Carryless.{right_shifted, split, no_bits, cut}
-use Rattle.gcm.proofs.Linear.{exchanged, sum-agree, sum-first, sum-swap, sum-through}
+use Rattle.gcm.proofs.WithoutCarries.Carryless.{carryless_left_keeps, carryless_right_keeps}
+use Rattle.gcm.proofs.WithoutCarries.Carryless.{carryless_left_zero, carryless_right_zero}
+use Rattle.gcm.proofs.WithoutCarries.Carryless.{carryless_right_shifted, carryless_split}
+use Rattle.gcm.proofs.WithoutCarries.Carryless.{carryless_no_bits, carryless_cut}
+use Rattle.gcm.proofs.Products.Linear.{shift_keeps, joined, sum-agree, sum-first, sum-swap}
+use Rattle.gcm.proofs.Products.Linear.{sum-through}
 
 -- ---- masks
 
--- bits of a sum under a mask
+-- a bit of a sum under a bit of a mask
 bit_case : (p q r : ℕ) → p < 2 → q < 2 → r < 2 → min ((p + q) % 2) r ≡ (min p r + min q r) % 2
 bit_case p q r hp hq hr =
     by_two (λ r. min ((p + q) % 2) r ≡ (min p r + min q r) % 2) (omega arith) (omega arith) r hr
@@ -32,16 +37,15 @@ masked_sum m a b =
     ∙ sym (bit_at_xor (bit_and a m) (bit_and b m) i
     ∙ (λ t. (bit_at_and a m i t + bit_at_and b m i t) % 2)))
 
--- a shifted number under a shifted mask
+-- a shifted number under a shifted mask is the masked number, shifted
 masked_shifted : (k n m r : ℕ) → r < 2 ^ k
     → bit_and (n * 2 ^ k + r) (m * 2 ^ k) ≡ bit_and n m * 2 ^ k
 masked_shifted k n m r small =
     let mask : m * 2 ^ k ≡ m * 2 ^ k + 0 = omega arith in
-    let none : bit_and r 0 ≡ 0 = omega (arith, and_le_r r 0) in
     ap (bit_and (n * 2 ^ k + r)) mask ∙ and_block k n m r 0 small (pow_pos k)
-    ∙ ap (λ z. bit_and n m * 2 ^ k + z) none ∙ omega arith
+    ∙ ap (λ z. bit_and n m * 2 ^ k + z) (and_zero_r r) ∙ omega arith
 
--- the lowest bits of n + 1 digits
+-- the lowest bits of n + 1 digits, by those of the first n and the last one
 holes_next : (x n : ℕ) → bit_and x (holes (suc n)) ≡ bit_and (x / 16) (holes n) * 16 + x % 2
 unfolding holes
 holes_next x n =
@@ -58,19 +62,19 @@ AreDigits : ℕ → ℕ → ℕ → Type 0
 AreDigits m zero x = x ≡ 0
 AreDigits m (suc n) x = (x % 16 ≤ m) × AreDigits m n (x / 16)
 
--- 0 has any number of them
+-- 0 has n digits of 16, for every n
 zeros : (m n : ℕ) → AreDigits m n 0
 unfolding AreDigits
 zeros m zero = refl
 zeros m (suc n) = (omega arith, zeros m n)
 
--- one zero before them
+-- a number of n digits has n + 1: a zero stands before them
 one_before : (m n x : ℕ) → AreDigits m n x → AreDigits m (suc n) x
 unfolding AreDigits
 one_before m zero x is = (omega (arith, is), omega (arith, is))
 one_before m (suc n) x is = (is.0, one_before m n (x / 16) is.1)
 
--- k zeros before them
+-- a number of n digits has k + n: zeros stand before them
 more_before : (k m n x : ℕ) → AreDigits m n x → AreDigits m (k + n) x
 more_before zero m n x is =
     let e : n ≡ 0 + n = omega arith in
@@ -93,20 +97,16 @@ summed m k (suc n) x y small is also =
           (summed m k n (x / 16) (y / 16) small is.1 also.1),
     )
 
--- the lowest bits of n + 1 digits, as a sum
+-- the lowest bits of n + 1 digits, as a sum modulo 2
 bits_apart : (x n : ℕ) → bit_and x (holes (suc n))
     ≡ bit_xor (bit_and (x / 16) (holes n) * 2 ^ 4) (x % 2)
 bits_apart x n = holes_next x n
     ∙ sym (joined 4 (bit_and (x / 16) (holes n)) (x % 2) (omega arith))
 
--- nothing is left of a number under a mask of no bit
-none_left : (x : ℕ) → bit_and x 0 ≡ 0
-none_left x = omega (arith, and_le_r x 0)
-
 -- nothing is left of a number under the mask of no digit
 none_masked : (x : ℕ) → bit_and x (holes 0) ≡ 0
 unfolding holes
-none_masked x = none_left x
+none_masked x = and_zero_r x
 
 -- the lowest bits of the digits of a sum that has no carry
 bits_summed : (m k n x y : ℕ) → m + k < 16 → AreDigits m n x → AreDigits k n y
@@ -125,7 +125,7 @@ bits_summed m k (suc n) x y small is also =
     ∙ (λ t. bit_xor ((ap (λ z. bit_and z (holes n)) upper
     ∙ bits_summed m k n (x / 16) (y / 16) small is.1 also.1) t * 2 ^ 4) (last t))
     ∙ ap (λ z. bit_xor z (bit_xor (x % 2) (y % 2))) (sym (shift_keeps 4 p q))
-    ∙ exchanged (p * 2 ^ 4) (q * 2 ^ 4) (x % 2) (y % 2)
+    ∙ add_swap (p * 2 ^ 4) (q * 2 ^ 4) (x % 2) (y % 2)
     ∙ (λ t. bit_xor (sym (bits_apart x n) t) (sym (bits_apart y n) t))
   where
     bit_cases : (a b : ℕ) → a < 2 → b < 2 → (a + b) % 2 ≡ bit_xor a b
@@ -144,7 +144,7 @@ bits_are (suc n) x is =
     let low : x % 16 ≤ 1 = is.0 in
     holes_next x n ∙ ap (λ y. y * 16 + x % 2) (bits_are n (x / 16) is.1) ∙ omega arith
 
--- every fourth bit of a number has such digits
+-- the lowest bits of n digits are digits that are 0 or 1
 are_ones : (n x : ℕ) → AreDigits 1 n (bit_and x (holes n))
 unfolding AreDigits
 are_ones zero x = none_masked x
@@ -153,18 +153,18 @@ are_ones (suc n) x =
     omega (arith, holes_next x n) in
     (omega (arith, holes_next x n), subst (AreDigits 1 n) upper (are_ones n (x / 16)))
 
--- a digit times a number, without carries
+-- the product without carries of a digit 0 or 1 and a number is their product
 one_digit : (d y : ℕ) → d < 2 → carryless 4 d y ≡ d * y
 unfolding carryless
 one_digit d y small = by_two (λ d. carryless 4 d y ≡ d * y) none one d small
   where
     none : carryless 4 0 y ≡ 0 * y
-    none = left_zero 4 y ∙ omega arith
+    none = carryless_left_zero 4 y ∙ omega arith
 
     one : carryless 4 1 y ≡ 1 * y
     one = xor_zero_l y ∙ omega arith
 
--- a number that has a digit 0 or 1, times such digits, has such digits
+-- a digit 0 or 1, times digits that are 0 or 1, has such digits
 digit_times : (d n y : ℕ) → d < 2 → AreDigits 1 n y → AreDigits 1 n (d * y)
 digit_times d n y small is = by_two (λ d. AreDigits 1 n (d * y)) none one d small
   where
@@ -174,7 +174,7 @@ digit_times d n y small is = by_two (λ d. AreDigits 1 n (d * y)) none one d sma
     one : AreDigits 1 n (1 * y)
     one = let e : y ≡ 1 * y = omega arith in subst (AreDigits 1 n) e is
 
--- a digit 0 behind others
+-- a number of n digits, times 16, has n + 1: a zero stands behind them
 zero_behind : (m n x : ℕ) → AreDigits m n x → AreDigits m (suc n) (x * 16)
 unfolding AreDigits
 zero_behind m n x is =
@@ -192,7 +192,8 @@ none_by : (x y : ℕ) → carryless (4 * 0) x y ≡ 0
 unfolding carryless
 none_by x y = refl
 
--- a product of digits that are 0 or 1
+-- the product of two numbers whose digits are 0 or 1 is their product without carries, between the
+-- holes
 digits_times : (k n x y : ℕ) → k < 15 → AreDigits 1 k x → AreDigits 1 n y → IsProduct k n x y
 unfolding AreDigits
 digits_times zero n x y small is also =
@@ -201,7 +202,7 @@ digits_times zero n x y small is also =
     record {
       digits = subst (AreDigits 0 (0 + n)) none (zeros 0 (0 + n));
       bits = ap (λ z. bit_and z (holes (0 + n))) (sym none) ∙ and_comm 0 (holes (0 + n))
-          ∙ none_left (holes (0 + n)) ∙ sym (none_by x y);
+          ∙ and_zero_r (holes (0 + n)) ∙ sym (none_by x y);
     }
 digits_times (suc k) n x y small is also =
     let low : x % 16 < 2 = omega (arith, is.0) in
@@ -229,8 +230,8 @@ digits_times (suc k) n x y small is also =
           ∙ (λ u. bit_and (sym above u) (holes (k + n)) * 16 + even u)
           ∙ ap (λ c. c * 16 + 0) inner.bits) t) (bits_are (suc (k + n)) q lower t))
           ∙ (λ t. bit_xor (plain (carryless (4 * k) (x / 16) y) t)
-          (sym (cut 4 x y ∙ one_digit (x % 16) y low) t))
-          ∙ sym (split (4 * k) 4 x y) ∙ ap (λ j. carryless j x y) (sym four);
+          (sym (carryless_cut 4 x y ∙ one_digit (x % 16) y low) t))
+          ∙ sym (carryless_split (4 * k) 4 x y) ∙ ap (λ j. carryless j x y) (sym four);
     }
   where
     parts : (x y : ℕ) → x / 16 * y * 16 + x % 16 * y ≡ x * y
@@ -260,26 +261,26 @@ few_bits : (x : ℕ) → bit_and x (holes 8) < 2 ^ 29
 unfolding holes
 few_bits x = omega (arith, and_le_r x (holes 8))
 
--- a shifted number of no more than m bits, in the first factor
-left_shifted : (m r a y : ℕ) → a < 2 ^ m → carryless (m + r) (a * 2 ^ r) y
+-- a product without carries whose first factor, of no more than m bits, is shifted is shifted
+carryless_left_shifted : (m r a y : ℕ) → a < 2 ^ m → carryless (m + r) (a * 2 ^ r) y
     ≡ carryless (m + r) a y * 2 ^ r
-left_shifted m r a y small =
+carryless_left_shifted m r a y small =
     let back : a * 2 ^ r / 2 ^ r ≡ a = shl-shr a r in
     let turned : m + r ≡ r + m = omega arith in
     let below : a ≡ 0 * 2 ^ m + a = omega arith in
     let none : a / 2 ^ m ≡ 0 = ap (λ z. z / 2 ^ m) below ∙ shr_high 0 m a small in
-    split m r (a * 2 ^ r) y
-    ∙ (λ t. bit_xor (carryless m (back t) y * 2 ^ r) (no_bits r a y t))
+    carryless_split m r (a * 2 ^ r) y
+    ∙ (λ t. bit_xor (carryless m (back t) y * 2 ^ r) (carryless_no_bits r a y t))
     ∙ xor_zero_r (carryless m a y * 2 ^ r)
-    ∙ ap (λ c. c * 2 ^ r) (sym (ap (λ j. carryless j a y) turned ∙ split r m a y
+    ∙ ap (λ c. c * 2 ^ r) (sym (ap (λ j. carryless j a y) turned ∙ carryless_split r m a y
     ∙ ap (λ z. bit_xor (carryless r z y * 2 ^ m) (carryless m a y)) none
-    ∙ ap (λ z. bit_xor (z * 2 ^ m) (carryless m a y)) (left_zero r y)
+    ∙ ap (λ z. bit_xor (z * 2 ^ m) (carryless m a y)) (carryless_left_zero r y)
     ∙ drop (2 ^ m) (carryless m a y)))
   where
     drop : (p c : ℕ) → bit_xor (0 * p) c ≡ c
     drop p c = let e : 0 * p ≡ 0 = omega arith in ap (λ z. bit_xor z c) e ∙ xor_zero_l c
 
--- a product of two words' every fourth bits has 58 bits, so the last of 16 digits is 0
+-- the lowest bits of a product of 58 bits that is moved by a digit: of 16 digits the last is 0
 fifteen : (n : ℕ) → n < 2 ^ 58 → bit_and (n * 16) (holes 16) ≡ bit_and n (holes 16) * 16
 unfolding holes
 fifteen n small =
@@ -310,7 +311,7 @@ part x y r s t hr hs is =
     let bits : bit_and (a * b) (holes 16) ≡ carryless 32 a b =
     (digits_times 8 8 a b (omega arith) (are_ones 8 (x / 2 ^ r)) (are_ones 8 (y / 2 ^ s))).bits in
     let left : carryless 32 (a * 2 ^ r) b ≡ carryless 32 a b * 2 ^ r =
-    ap (λ j. carryless j (a * 2 ^ r) b) (sym whole) ∙ left_shifted (32 - r) r a b fits
+    ap (λ j. carryless j (a * 2 ^ r) b) (sym whole) ∙ carryless_left_shifted (32 - r) r a b fits
     ∙ ap (λ j. carryless j a b * 2 ^ r) whole in
     (λ u. bit_and (from_first x r u * from_first y s u) (holes 16 * 2 ^ t))
     ∙ ap (λ n. bit_and n (holes 16 * 2 ^ t)) (apart a (2 ^ r) b (2 ^ s)
@@ -321,7 +322,7 @@ part x y r s t hr hs is =
     ∙ ap (λ p. carryless 32 a b * p) (pow-add 2 r s)
     ∙ grouped (carryless 32 a b) (2 ^ r) (2 ^ s)
     ∙ ap (λ c. c * 2 ^ s) (sym left)
-    ∙ sym (right_shifted 32 (a * 2 ^ r) b s)
+    ∙ sym (carryless_right_shifted 32 (a * 2 ^ r) b s)
     ∙ (λ u. carryless 32 (sym (from_first x r) u) (sym (from_first y s) u))
   where
     apart : (a p b q : ℕ) → a * p * (b * q) ≡ a * b * (p * q)
@@ -353,12 +354,12 @@ part x y r s t hr hs is =
           ∙ ap (λ k. bit_and n (holes 16) * 2 ^ k) (sym four)
     ]
 
--- four terms, from the last one on
+-- a sum of four terms is the same from its last term on
 turn : (g : ℕ → ℕ) → sum_of 4 (λ t. g ((t + 3) % 4)) ≡ sum_of 4 g
 unfolding sum_of
 turn g = sum-first 3 (λ t. g ((t + 3) % 4)) ∙ xor_comm (g 3) (sum_of 3 g)
 
--- four terms in another order
+-- a sum of four terms is the same from any of its terms on
 turned : (g : ℕ → ℕ) (r : ℕ) → r < 4 → sum_of 4 (λ t. g ((t + 4 - r) % 4)) ≡ sum_of 4 g
 unfolding sum_of
 turned g =
@@ -375,7 +376,7 @@ products_at x y t = sum_of 4 (λ r. every_fourth x r * every_fourth y ((t + 4 - 
 fourths_sum : (x : ℕ) → x < 2 ^ 32 → sum_of 4 (every_fourth x) ≡ x
 unfolding every_fourth sum_of holes
 fourths_sum x small =
-    sym (sum-through (bit_and x) (none_left x) (λ a b. and_comm x (bit_xor a b)
+    sym (sum-through (bit_and x) (and_zero_r x) (λ a b. and_comm x (bit_xor a b)
     ∙ masked_sum x a b ∙ (λ t. bit_xor (and_comm a x t) (and_comm b x t))) 4
     (λ r. holes 8 * 2 ^ r))
     ∙ and_mask x 32 ∙ omega (arith, small)
@@ -390,7 +391,8 @@ products_sum x y hx hy =
     (λ t. sum_of 4 (λ r. term r ((t + 4 - r) % 4)))
     (λ t ht.
     sum-through (λ z. bit_and z (holes 16 * 2 ^ t))
-    (and_comm 0 (holes 16 * 2 ^ t) ∙ none_left (holes 16 * 2 ^ t)) (masked_sum (holes 16 * 2 ^ t)) 4
+    (and_comm 0 (holes 16 * 2 ^ t) ∙ and_zero_r (holes 16 * 2 ^ t))
+    (masked_sum (holes 16 * 2 ^ t)) 4
     (λ r. every_fourth x r * every_fourth y ((t + 4 - r) % 4))
     ∙ sum-agree 4
     (λ r. bit_and (every_fourth x r * every_fourth y ((t + 4 - r) % 4)) (holes 16 * 2 ^ t))
@@ -400,10 +402,12 @@ products_sum x y hx hy =
     ∙ sum-agree 4 (λ r. sum_of 4 (λ t. term r ((t + 4 - r) % 4))) (λ r. sum_of 4 (term r))
     (λ r hr. turned (term r) r hr)
     ∙ sum-agree 4 (λ r. sum_of 4 (term r)) (λ r. carryless 32 (every_fourth x r) y)
-    (λ r hr. sym (sum-through (carryless 32 (every_fourth x r)) (right_zero 32 (every_fourth x r))
-    (right_keeps 32 (every_fourth x r)) 4 (every_fourth y))
+    (λ r hr. sym (sum-through (carryless 32 (every_fourth x r))
+    (carryless_right_zero 32 (every_fourth x r))
+    (carryless_right_keeps 32 (every_fourth x r)) 4 (every_fourth y))
     ∙ ap (carryless 32 (every_fourth x r)) (fourths_sum y hy))
-    ∙ sym (sum-through (λ z. carryless 32 z y) (left_zero 32 y) (λ a b. left_keeps 32 a b y) 4
+    ∙ sym (sum-through (λ z. carryless 32 z y) (carryless_left_zero 32 y)
+    (λ a b. carryless_left_keeps 32 a b y) 4
     (every_fourth x))
     ∙ ap (λ z. carryless 32 z y) (fourths_sum x hx)
 
@@ -413,7 +417,7 @@ unfolding sum_of
 lower_at x y t =
     sum_of 4 (λ r. every_fourth x r * every_fourth y ((t + 4 - r) % 4) % 2 ^ 32)
 
--- a mask's lower half
+-- the lower half of a mask of sixteen digits is one of eight
 mask_halved : (t : ℕ) → t < 4 → holes 16 * 2 ^ t % 2 ^ 32 ≡ holes 8 * 2 ^ t
 unfolding holes
 mask_halved = by_four (λ t. holes 16 * 2 ^ t % 2 ^ 32 ≡ holes 8 * 2 ^ t) refl refl refl refl
@@ -433,7 +437,7 @@ lower_sum x y hx hy =
     (λ t ht. and_mod (products_at x y t) (holes 16 * 2 ^ t) 32
     ∙ (λ u. bit_and (sum-through (λ z. z % 2 ^ 32) refl halved 4 (at t) u) (mask_halved t ht u))))
 
--- four terms as a sum
+-- the sum of four terms, from 0 on
 pub four : (a b c d : ℕ) → bit_xor (bit_xor (bit_xor a b) c) d
     ≡ bit_xor (bit_xor (bit_xor (bit_xor 0 a) b) c) d
 four a b c d = ap (λ z. bit_xor (bit_xor (bit_xor z b) c) d) (sym (xor_zero_l a))
@@ -446,4 +450,5 @@ pub class : (x y t a b c d : ℕ) → a ≡ every_fourth x 0 * every_fourth y ((
     → bit_xor (bit_xor (bit_xor a b) c) d ≡ lower_at x y t
 unfolding lower_at sum_of
 class x y t a b c d a_is b_is c_is d_is =
-    four a b c d ∙ (λ u. bit_xor (bit_xor (bit_xor (bit_xor 0 (a_is u)) (b_is u)) (c_is u)) (d_is u))
+    four a b c d ∙ (λ u. bit_xor (bit_xor (bit_xor (bit_xor 0 (a_is u)) (b_is u)) (c_is u))
+    (d_is u))

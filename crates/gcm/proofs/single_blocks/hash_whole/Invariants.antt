@@ -1,7 +1,7 @@
 -- What holds in the loop of `singly::hash_whole`.
 use Rattle.std.proofs.Common.{◌≡◌}
 use Rattle.gcm.specs.Hashed.{hashed_as}
-use Rattle.gcm.proofs.singly.hash_whole.Given as goal
+use Rattle.gcm.proofs.single_blocks.hash_whole.Given as goal
 
 abbrev pub invariant-loop-i : goal.invariant-loop-i
 invariant-loop-i g l =

@@ -1,8 +1,8 @@
 -- What is left to show of `singly::hash_on_singly`.
 use Rattle.std.proofs.Common.{ℕ, ◌/◌, ◌∙◌, List, length}
 use Rattle.gcm.specs.Gcm.{padded}
-use Rattle.gcm.proofs.Hashing.{hashed_is}
-use Rattle.gcm.proofs.singly.hash_on_singly.Goals as goal
+use Rattle.gcm.proofs.Messages.Hashing.{hashed_is}
+use Rattle.gcm.proofs.single_blocks.hash_on_singly.Goals as goal
 
 pub returns : goal.returns
 returns g c =

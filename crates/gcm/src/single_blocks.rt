@@ -6,8 +6,8 @@ ghost use Rattle.std.specs.Int.Bits.{bit_xor};
 ghost use Rattle.gcm.specs.Gcm.{hashed, product, padded};
 ghost use Rattle.gcm.specs.Hashed.{hashed_as};
 
+use crate::byte_order::{ByteOrder, HighestFirst};
 use crate::hash::{block_at, last_block};
-use crate::order::{ByteOrder, HighestFirst};
 use aes_cipher::cipher::Block;
 use std::simd::prelude::*;
 
@@ -30,7 +30,7 @@ pub trait Factor {
 }
 
 // The value after the whole blocks of a string (6.4).
-#[tactic(auto, using(crate::proofs::Hashing::hashed_next))]
+#[tactic(auto, using(crate::proofs::Messages::Hashing::hashed_next))]
 #[inline(always)]
 pub(crate) fn hash_whole<F: Factor, O: ByteOrder>(
     factor: &F,
