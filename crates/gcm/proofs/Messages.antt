@@ -2,4 +2,3 @@
 pub mod Counting
 pub mod Hashing
 pub mod InPieces
-pub mod ShortTags

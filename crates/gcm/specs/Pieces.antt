@@ -2,7 +2,8 @@
 use Rattle.std.specs.Prelude.{◌≡◌, ◌≢◌, ℕ, ◌==◌, if◌then◌else◌, ◌*◌, ◌/◌, ◌%◌, ◌⊎◌}
 use Rattle.std.specs.Prelude.{List, [], length, replicate, take, drop}
 use Rattle.std.specs.Int.{w128, from_be_bytes}
-use Rattle.gcm.specs.Gcm.{hashed, padded, hash_subkey, pre_counter, IsHashedLength, IsTextLength}
+use Rattle.aes_cipher.specs.Blocks.{padded}
+use Rattle.gcm.specs.Gcm.{hashed, hash_subkey, pre_counter, IsHashedLength, IsTextLength}
 use Rattle.gcm.specs.declared.message.Message.{Message}
 use Rattle.gcm.specs.declared.message.Phase.{Phase}
 use Rattle.gcm.specs.declared.message.Phase.TheVariants.{NoMessage, Additional, Encrypting}

@@ -5,7 +5,8 @@ ghost use Rattle.std.specs.Prelude.{◌≡◌, ℕ, List, ◌/◌, ◌%◌, ◌<
 ghost use Rattle.gcm.specs.Pieces.{IsHashing};
 ghost use Rattle.std.specs.Int.{w128, from_be_bytes};
 ghost use Rattle.std.specs.Int.Bits.{bit_xor};
-ghost use Rattle.gcm.specs.Gcm.{hashed, padded, product};
+ghost use Rattle.aes_cipher.specs.Blocks.{padded};
+ghost use Rattle.gcm.specs.Gcm.{hashed, product};
 ghost use Rattle.gcm.specs.Multiples.{subkey_in, HasMultiples, subkey_alone, IsAlone};
 ghost use Rattle.gcm.specs.Multiples.{subkey_of_words, AreWords};
 

@@ -3,7 +3,8 @@
 ghost use Rattle.std.specs.Prelude.{◌≡◌, ℕ, ◌/◌, length};
 ghost use Rattle.std.specs.Int.{w128, from_be_bytes};
 ghost use Rattle.std.specs.Int.Bits.{bit_xor};
-ghost use Rattle.gcm.specs.Gcm.{hashed, product, padded};
+ghost use Rattle.aes_cipher.specs.Blocks.{padded};
+ghost use Rattle.gcm.specs.Gcm.{hashed, product};
 ghost use Rattle.gcm.specs.Hashed.{hashed_as};
 
 use crate::byte_order::{ByteOrder, HighestFirst};

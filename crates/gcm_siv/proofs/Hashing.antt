@@ -2,9 +2,11 @@
 use Rattle.std.proofs.Common.{◌≡◌, ℕ, ◌+◌, ◌/◌, ◌^◌, ◌<◌, List, ◌++◌, length, bit_xor, refl, ap}
 use Rattle.std.proofs.Common.{sym, ◌∙◌}
 use Rattle.std.specs.Int.{w128, from_le_bytes}
-use Rattle.gcm.specs.Gcm.{next_v, padded, product}
+use Rattle.aes_cipher.specs.Blocks.{padded}
+use Rattle.gcm.specs.Gcm.{next_v, product}
 use Rattle.gcm.specs.Hashed.{hashed_as}
-use Rattle.gcm.proofs.Messages.Hashing.{length-padded, hashed_as_pieces}
+use Rattle.aes_cipher.proofs.Strings.{length-padded}
+use Rattle.gcm.proofs.Messages.Hashing.{hashed_as_pieces}
 use Rattle.gcm_siv.specs.GcmSiv.{hash, length_block, polyval}
 use Rattle.gcm_siv.proofs.Field.{summed_is}
 

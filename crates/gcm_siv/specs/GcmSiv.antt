@@ -8,7 +8,7 @@ use Rattle.std.specs.Int.{w32, w64, w128, to_le_bytes, from_le_bytes}
 use Rattle.std.specs.Int.Bits.{bit_xor}
 use Rattle.aes_planes.specs.Fips197 as fips
 use Rattle.aes_ctr.specs.CounterMode.{plus_stream}
-use Rattle.gcm.specs.Gcm.{padded}
+use Rattle.aes_cipher.specs.Blocks.{padded}
 
 -- ---- the field (3): an element is a number below 2 ^ 128, whose bit i is the coefficient of x^i
 

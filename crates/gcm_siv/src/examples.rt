@@ -16,7 +16,7 @@ ghost use Rattle.gcm_siv.specs.GcmSiv.{IsAuthentic, IsSivKeySize, counter_block,
 ghost use Rattle.gcm_siv.specs.GcmSiv.{inverse_power};
 ghost use Rattle.gcm_siv.specs.GcmSiv.{block_at, hash, length_block, polyval, summed, tag};
 ghost use Rattle.gcm_siv.specs.GcmSiv.{tag_input, text, times, times_power};
-ghost use Rattle.gcm.specs.Gcm.{padded};
+ghost use Rattle.aes_cipher.specs.Blocks.{padded};
 ghost use Rattle.aes_ctr.specs.CounterMode.{plus_stream};
 
 use crate::errors::TooLong;

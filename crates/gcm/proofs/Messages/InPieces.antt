@@ -8,13 +8,15 @@ use Rattle.std.proofs.Math.ListN.{drop_of_length-le}
 use Rattle.std.specs.Int.{w64, w128, to_be_bytes, from_be_bytes}
 use Rattle.aes_ctr.specs.CounterMode.{plus_stream}
 use Rattle.aes_ctr.proofs.Sums.{plus-append, length-plus}
-use Rattle.gcm.specs.Gcm.{product, block_at, hashed, padded, inc32, gctr, gctr_byte, bit_length}
+use Rattle.aes_cipher.specs.Blocks.{padded}
+use Rattle.gcm.specs.Gcm.{product, block_at, hashed, inc32, gctr, gctr_byte, bit_length}
 use Rattle.gcm.specs.Gcm.{hash_subkey, pre_counter, text, hash, IsHashedLength, IsTextLength}
 use Rattle.gcm.specs.Pieces.{hashed_padded, IsHashing, IsAt}
 use Rattle.gcm.specs.declared.message.Message.{Message}
 use Rattle.gcm.specs.declared.message.Phase.{Phase}
 use Rattle.gcm.proofs.Messages.Counting.{from_second}
-use Rattle.gcm.proofs.Messages.Hashing.{hashed_first, hashed_on, hashed_whole, length-padded}
+use Rattle.aes_cipher.proofs.Strings.{length-padded}
+use Rattle.gcm.proofs.Messages.Hashing.{hashed_first, hashed_on, hashed_whole}
 use Rattle.gcm.proofs.Messages.Hashing.{ghash_pieces}
 
 -- GHASH after a piece that doesn't fill the block: the value stays, and the block has more bytes

@@ -8,6 +8,7 @@ use Rattle.std.proofs.lemmas.Nat.{pow_pos}
 use Rattle.std.proofs.lemmas.Bool.{eqb-true}
 use Rattle.std.proofs.Math.Nat.{pow-suc}
 use Rattle.std.specs.Int.Bits.{xor_assoc, xor_zero_l, xor_zero_r}
+use Rattle.aes_permute.proofs.Linear.{aside}
 use Rattle.aes_planes.proofs.Bits.ByteCases.{all_below, all_below_tells, by_two}
 use Rattle.aes_planes.proofs.Standard.FieldLaws.{add_swap, add_twice}
 use Rattle.gcm.specs.Gcm.{bit_of, next_v, v_at, product}
@@ -130,14 +131,10 @@ carryless_cut n x y =
     ∙ ap (λ c. bit_xor c (carryless n (x % 2 ^ n) y)) (carryless_no_bits n (x / 2 ^ n) y)
     ∙ xor_zero_l (carryless n (x % 2 ^ n) y)
 
--- (p + q) + r is (p + r) + q
-turned_last : (p q r : ℕ) → bit_xor (bit_xor p q) r ≡ bit_xor (bit_xor p r) q
-turned_last p q r = xor_assoc p q r ∙ ap (bit_xor p) (xor_comm q r) ∙ sym (xor_assoc p r q)
-
 -- of four products of halves, the two in the middle are the product of the sums without the others
 middle : (a b c d : ℕ) → bit_xor (bit_xor (bit_xor (bit_xor a b) (bit_xor c d)) a) d ≡ bit_xor b c
 middle a b c d =
-    ap (λ s. bit_xor s d) (turned_last (bit_xor a b) (bit_xor c d) a
+    ap (λ s. bit_xor s d) (aside (bit_xor a b) (bit_xor c d) a
     ∙ ap (λ s. bit_xor s (bit_xor c d)) (ap (λ s. bit_xor s a) (xor_comm a b) ∙ add_twice b a))
     ∙ xor_assoc b (bit_xor c d) d ∙ ap (bit_xor b) (add_twice c d)
 

@@ -1,6 +1,6 @@
 -- What is left to show of `singly::hash_on_singly`.
 use Rattle.std.proofs.Common.{ℕ, ◌/◌, ◌∙◌, List, length}
-use Rattle.gcm.specs.Gcm.{padded}
+use Rattle.aes_cipher.specs.Blocks.{padded}
 use Rattle.gcm.proofs.Messages.Hashing.{hashed_is}
 use Rattle.gcm.proofs.single_blocks.hash_on_singly.Goals as goal
 
