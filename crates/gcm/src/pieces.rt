@@ -3,6 +3,7 @@
 ghost use Rattle.std.specs.Prelude.{◌≡◌, ◌≢◌, ◌↔◌, ◌⊎◌, ◌+◌, ◌-◌, ◌/◌, ◌%◌, ◌^◌, ◌<◌, ◌≤◌, ℕ, List};
 ghost use Rattle.std.specs.Prelude.{[], ◌++◌, length, replicate, drop, IsOk, IsErr, IsErrOf};
 ghost use Rattle.std.specs.Prelude.{IsTrue, IfOk, OnOk, OnErr};
+ghost use Rattle.aes_cipher.specs.Blocks.{padded};
 ghost use Rattle.gcm.specs.Gcm as nist;
 ghost use Rattle.gcm.specs.Gcm.{nonce_number, IsShortTag};
 ghost use Rattle.gcm.specs.Gcm.{IsHashedLength, IsTextLength, IsTooMuchHashed, IsTooMuchText};
@@ -411,8 +412,8 @@ impl<'a, C: BlockCipherEncrypt, R: HashRoom> BorrowedGcm<'a, C, R> {
         ensures text { (phase : Phase) (iv a c : List ℕ) → phase ≢ Phase.Additional
             → IsInText phase self.now iv a c message.now
             → result ≡ nist.hashed (nist.hash_subkey self.now)
-            (hashed_padded (nist.hash_subkey self.now) a) (nist.padded c)
-            (length (nist.padded c) / 16) }
+            (hashed_padded (nist.hash_subkey self.now) a) (padded c)
+            (length (padded c) / 16) }
     {
         let filled = filled(message);
         let before = number_of_block(&message.value);
