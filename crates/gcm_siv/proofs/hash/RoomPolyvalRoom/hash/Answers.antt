@@ -1,5 +1,5 @@
 -- What is left to show of `hash::RoomPolyvalRoom::hash`.
-use Rattle.std.proofs.Common.{◌≡◌, ℕ, List, ◌/◌, ◌∙◌, ap, bit_xor, length}
+use Rattle.std.proofs.Common.{ℕ, List, ◌/◌, ◌∙◌, ap, bit_xor, length}
 use Rattle.std.specs.Int.{w128, from_le_bytes, to_le_bytes}
 use Rattle.aes_cipher.specs.Blocks.{padded}
 use Rattle.gcm.specs.Gcm.{product}
