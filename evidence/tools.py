@@ -22,7 +22,7 @@ RIGHT, WRONG, BLIND, STOPPED, PARTIAL = range(5)
 HERE = pathlib.Path(__file__).resolve().parent
 TOP = HERE.parent
 MEASUREMENTS = TOP / "docs" / "MEASUREMENTS.md"
-sys.path.append(str(TOP / "tools" / "edit_parts"))
+sys.path.append(str(TOP / "tools"))
 # Outside the repository: the gate refuses sources there that it does not read.
 ROOM = pathlib.Path(os.environ.get("AES_EVIDENCE_ROOM") or pathlib.Path.home() / ".cache" / "aes-evidence")
 ROOM.mkdir(parents=True, exist_ok=True)
@@ -108,15 +108,15 @@ def exports_library(compiler):
     made, total = ROOM / f"lib{EXPORTS}-{compiler}.a", sources()
     stamp = made.with_suffix(".stamp")
     if not (made.exists() and stamp.exists() and stamp.read_text() == total):
-        import libraries
+        import toolchain
         say(f"proving and building {EXPORTS} by {compiler}, over what is proved already")
         start = time.time()
         with tempfile.TemporaryDirectory() as room:
-            crates = libraries.workspace(room, add_exports)
+            crates = toolchain.workspace(room, add_exports)
             crate = next(it for it in crates if it.name == EXPORTS)
-            libraries.given(crates, [crate])
-            flags = ["--backend", compiler, "--toolchain", f"{libraries.KIT}/toolchain", "--incremental", f"{ROOM}/kept"]
-            run(libraries.build_words(crate, *flags, "-o", f"{made}"), f"{EXPORTS} was not proved or not built", cwd=crate.folder)
+            toolchain.given(crates, [crate])
+            flags = ["--backend", compiler, "--toolchain", f"{toolchain.KIT}/toolchain", "--incremental", f"{ROOM}/kept"]
+            run(toolchain.build_words(crate, *flags, "-o", f"{made}"), f"{EXPORTS} was not proved or not built", cwd=crate.folder)
             os.chdir(TOP)
         stamp.write_text(total)
         say(f"built in {time.time() - start:.0f} seconds")
@@ -135,40 +135,25 @@ def git(*words):
 
 def conditions():
     """Where and when a run was made, for whoever copies its numbers."""
-    cpu = platform.machine()
-    for line in open("/proc/cpuinfo"):
-        if line.startswith("model name"):
-            cpu = line.split(":", 1)[1].strip()
-            break
+    cpu = re.search(r"^model name\s*: (.*)", pathlib.Path("/proc/cpuinfo").read_text(), re.M)
     kit = run(["rt", "version"], "rt version").strip().split(", ")[0] if shutil.which("rt") else "no rt here"
     changes = " with changes" if git("status", "--porcelain", "crates", "crates.txt") else ""
     return (
-        f"{time.strftime('%Y-%m-%d %H:%M')}, {cpu}, {os.cpu_count()} processors, load {os.getloadavg()[0]:.1f}, "
-        f"{kit}, commit {git('rev-parse', '--short', 'HEAD')}{changes}"
+        f"{time.strftime('%Y-%m-%d %H:%M')}, {cpu[1] if cpu else platform.machine()}, {os.cpu_count()} processors, "
+        f"load {os.getloadavg()[0]:.1f}, {kit}, commit {git('rev-parse', '--short', 'HEAD')}{changes}"
     )
 
 
-def section(heading):
-    """A section of docs/MEASUREMENTS.md, by its heading with its marks: what stands before, its text, and what comes
-    after, from the next heading of that level or a higher one."""
-    parts = re.split(rf"^{re.escape(heading)}\n", MEASUREMENTS.read_text(), flags=re.M)
-    if len(parts) != 2:
-        stop(f"{MEASUREMENTS} has the heading {heading} {len(parts) - 1} times")
-    level = len(heading.split()[0])
-    after = re.search(rf"^#{{1,{level}}} |\Z", parts[1], re.M).start()
-    return parts[0], parts[1][:after].strip("\n"), parts[1][after:]
-
-
-def section_text(*parts):
-    """Paragraphs, each a text, and tables, each a list of lines."""
-    wide = {"width": 118, "break_long_words": False, "break_on_hyphens": False}
-    return "\n\n".join("\n".join(textwrap.wrap(it, **wide) if isinstance(it, str) else it) for it in parts)
-
-
 def publish(heading, *parts):
-    """Writes a section of docs/MEASUREMENTS.md: its paragraphs and tables."""
-    before, _, after = section(heading)
-    MEASUREMENTS.write_text(f"{before}{heading}\n{section_text(*parts)}\n" + (after and f"\n{after}"))
+    """Writes a section of docs/MEASUREMENTS.md, by its heading with its marks: paragraphs, each a text, and tables, each a list of lines."""
+    before, *after = re.split(rf"^{re.escape(heading)}\n", MEASUREMENTS.read_text(), flags=re.M)
+    if len(after) != 1:
+        stop(f"{MEASUREMENTS} has the heading {heading} {len(after)} times")
+    wide = {"width": 142, "break_long_words": False, "break_on_hyphens": False}
+    made = "\n\n".join("\n".join(textwrap.wrap(it, **wide) if isinstance(it, str) else it) for it in parts)
+    # What comes after it begins with the next heading of its level or a higher one.
+    after = re.search(rf"^#{{1,{len(heading.split()[0])}}} (?:.|\n)*|\Z", after[0], re.M)[0]
+    MEASUREMENTS.write_text(f"{before}{heading}\n{made}\n" + (after and f"\n{after}"))
     say(f"published: {heading}, in {MEASUREMENTS}")
 
 

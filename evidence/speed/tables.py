@@ -16,22 +16,16 @@ PEERS = {
 BASE = "C library, by LLVM"
 # Its build for processors with AVX2, which stands in the run without AES instructions.
 AVX2 = "C library for AVX2, by LLVM"
-# What they are to a reader of GCM's times.
-OURS = {"this library": BASE, "this library, for AVX2": AVX2}
 # The amount is of blocks, or of bytes for counter mode and GCM.
 HEAD = ["peer", "how", "kind", "run", "key_bytes", "call", "amount", "ticks", "nanoseconds", "ratio_to_this_library"]
 DIGITS = {"ticks": 1, "nanoseconds": 1, "ratio_to_this_library": 3}
-# The rows of the first table of docs/MEASUREMENTS.md, and its columns beside this library: the run and the engine of each.
-BOTH_KEYS = "both keys"
-PUBLISHED = {"a key, for both directions": (BOTH_KEYS, 1)}
-PUBLISHED |= {f"{n:,} block{'s' * (n > 1)} {it}ed": (it, n) for n in (1, 2, 8, 64, 4096) for it in ("encrypt", "decrypt")}
-PUBLISHED |= {f"counter mode, {it}": ("counter mode", n) for it, n in (("64 bytes", 64), ("1,500 bytes", 1500), ("1 MiB", 1 << 20))}
 CONSTANT_TIME, WITH_INSTRUCTIONS = "no AES instructions", "all instructions"
-COLUMNS = {"for AVX2": (CONSTANT_TIME, ("this library", AVX2))}
-COLUMNS |= {it: (CONSTANT_TIME, (it, "SSSE3 permutations")) for it in ("OpenSSL", "Botan", "Libgcrypt")}
-WITH_THEM = "OpenSSL with AES instructions"
-COLUMNS[WITH_THEM] = (WITH_INSTRUCTIONS, ("OpenSSL", "AES instructions"))
-# The rows of the section on GCM: what was timed, and over how many blocks its time is told.
+OURS, FOR_AVX2, BOTH_KEYS = "this library", "for AVX2", "both keys"
+# The tables of docs/MEASUREMENTS.md, by a word of their heading: the columns beside this library, and the rows: what was timed, and over how
+# many blocks its time is told.
+BLOCKS = {"a key, for both directions": (BOTH_KEYS, 1, 1)}
+BLOCKS |= {f"{n:,} block{'s' * (n > 1)} {it}ed": (it, n, 1) for n in (1, 2, 8, 64, 4096) for it in ("encrypt", "decrypt")}
+BLOCKS |= {f"counter mode, {it}": ("counter mode", n, 1) for it, n in (("64 bytes", 64), ("1,500 bytes", 1500), ("1 MiB", 1 << 20))}
 GCM = {
     "a key": ("GCM key", 1, 1),
     "a message of 64 bytes": ("GCM, text", 64, 1),
@@ -39,6 +33,7 @@ GCM = {
     "16 KiB, a block": ("GCM, text", 16384, 1024),
     "16 KiB of additional data, a block": ("GCM, additional data", 16384, 1024),
 }
+TABLES = {"it": ((FOR_AVX2, "OpenSSL", "Botan", "Libgcrypt"), BLOCKS), "GCM": ((FOR_AVX2, *PEERS), GCM)}
 # The calls of the picture's panels.
 PICTURED = [("encrypt", 4096), ("encrypt", 1), ("key and block", 1)]
 
@@ -83,20 +78,6 @@ def ratio(number):
     return f"{number:.2f}" if number < 10 else f"{number:.1f}"
 
 
-def of_run(rows, run):
-    """The ticks of each engine in one run: {(peer, how): {(size of the key, call, amount): ticks}}. A key counts for
-    both directions, as C has it: others set them one by one."""
-    of = {}
-    for r in (r for r in rows if r["run"] == run):
-        of.setdefault((r["peer"], r["how"]), {})[r["key_bytes"], r["call"], r["amount"]] = r["ticks"]
-    for (_, how), its in of.items():
-        for key in (16, 24, 32):
-            ends = [its.get((key, f"key for {it}", 1)) for it in ("encryption", "decryption")]
-            if all(ends):
-                its[key, BOTH_KEYS, 1] = ends[0] if how in (BASE, AVX2) else sum(ends)
-    return of
-
-
 def versions():
     """The peers with their versions, as Debian's packages name them."""
     names = {package: peer for peer, (package, *_) in PEERS.items()}
@@ -115,49 +96,34 @@ def span(nanoseconds):
     return f"{number:.1f} {unit}" if number < 10 else f"{number:,.0f} {unit}"
 
 
-def table(rows, key=16):
-    """The table on blocks and counter mode: this library's time, and the others' divided by it."""
-    runs = {run: of_run(rows, run) for run in (CONSTANT_TIME, WITH_INSTRUCTIONS)}
+def table(rows, names, titles):
+    """A table: this library's time, and the others' divided by it."""
+    shown = (r for r in summary(rows) if r["kind"] != "tables")
+    found = {(r["run"], FOR_AVX2 if r["how"] == AVX2 else r["peer"], r["call"], r["amount"]): r["ticks"] for r in shown}
     rate = sum(r["nanoseconds"] for r in rows) / sum(r["ticks"] for r in rows)
+
+    def ticks(run, name, call, amount):
+        # (A key of this library is one for both directions. Others set them one by one.)
+        if call == BOTH_KEYS:
+            ends = [ticks(run, name, f"key for {it}", 1) for it in ("encryption", "decryption")]
+            return ends[0] if name in (OURS, FOR_AVX2) else ends[0] and sum(ends)
+        return found.get((run, name, call, amount))
+
     lines = []
-    for title, call in PUBLISHED.items():
-        times = [(runs[run].get(engine, {}).get((key, *call)), runs[run]["this library", BASE][key, *call]) for run, engine in COLUMNS.values()]
+    for title, (*call, blocks) in titles.items():
+        columns = [*((CONSTANT_TIME, it) for it in names), (WITH_INSTRUCTIONS, "OpenSSL")]
+        times = [(ticks(run, it, *call), ticks(run, OURS, *call)) for run, it in columns]
         cells = [ratio(theirs / ours) if theirs else "–" for theirs, ours in times]
-        lines.append([title, span(rate * runs[CONSTANT_TIME]["this library", BASE][key, *call]), *cells])
-    return tools.table(["", "this library", *COLUMNS], *lines)
-
-
-def gcm(rows):
-    """The nanoseconds of each library's GCM: {(run, library): {(call, amount): nanoseconds}}. This library's are of the run without
-    AES instructions."""
-    names, found = {how: it for it, how in OURS.items()}, {}
-    for r in rows:
-        if r["call"].startswith("GCM") and r["kind"] != "planted":
-            who = names.get(r["how"], r["peer"])
-            found.setdefault((r["run"], who), {})[r["call"], r["amount"]] = r["nanoseconds"]
-    return found
-
-
-def gcm_table(rows):
-    """The table on GCM: this library's time, and the others' divided by it."""
-    times = gcm(rows)
-    ours = {run: times[run, "this library"] for run in (CONSTANT_TIME, WITH_INSTRUCTIONS)}
-    peers = [it for it in PEERS if (CONSTANT_TIME, it) in times]
-    columns = [(CONSTANT_TIME, it) for it in [*list(OURS)[1:], *peers]] + [(WITH_INSTRUCTIONS, "OpenSSL")]
-    lines = []
-    for title, (*call, blocks) in GCM.items():
-        call = tuple(call)
-        cells = [ratio(times[it][call] / ours[it[0]][call]) if it in times else "–" for it in columns]
-        lines.append([title, span(ours[CONSTANT_TIME][call] / blocks), *cells])
-    return tools.table(["", "this library", "for AVX2", *peers, WITH_THEM], *lines)
+        lines.append([title, span(rate * ticks(CONSTANT_TIME, OURS, *call) / blocks), *cells])
+    return tools.table(["", OURS, *names, "OpenSSL with AES instructions"], *lines)
 
 
 def page(rows):
     """docs/MEASUREMENTS.md with these tables in the place of the first ones of their sections."""
     text = tools.MEASUREMENTS.read_text()
-    for what, lines in (("it", table(rows)), ("GCM", gcm_table(rows))):
-        heading = rf"## How fast is {what} compared with what I use now\?\n"
-        text, count = re.subn(rf"^({heading}(?:(?!#|\|).*\n)*)(?:\|.*\n)+", lambda it: "\n".join([it[1] + lines[0], *lines[1:], ""]), text, flags=re.M)
+    for what, of in TABLES.items():
+        heading, lines = rf"## How fast is {what} compared with what I use now\?\n", "\n".join(table(rows, *of)) + "\n"
+        text, count = re.subn(rf"^({heading}(?:(?!#|\|).*\n)*)(?:\|.*\n)+", lambda it: it[1] + lines, text, flags=re.M)
         if count != 1:
             tools.stop(f"{tools.MEASUREMENTS} has no table below {heading}")
     return text

@@ -99,8 +99,8 @@ static void one_round(void) {
                 if (!refused[i] && can(i, &whats[w]) && (blocks_of(&whats[w]) < LONG || round % LONG_EVERY == 0))
                     measure(i, w, size);
 }
-/* An engine is refused whose answers are not this library's, which are the standard's by its proof and by
-   ../known-answers. BearSSL's stand-ins are compared as what they are: counter mode from 0, and CBC. */
+/* An engine is refused whose answers are not this library's, which are the standard's by its proof. BearSSL's stand-ins are
+   compared as what they are: counter mode from 0, and CBC. */
 static int right(const struct engine *e, size_t bytes) {
     enum { N = 21, BYTES = 16 * N };
     uint8_t plain[BYTES], ours[BYTES], theirs[BYTES];

@@ -1,12 +1,11 @@
 """Checks the pages of this repository: every link to a file or to a heading holds, no page has more than 200 lines, and no
-cell of a table more than 300 characters. Lists that scripts make may be long. The picture of the crates says what crates.txt says."""
+cell of a table more than 300 characters. The picture of the crates says what crates.txt says."""
 import html
 import re
 import subprocess
 from pathlib import Path
 
 ROOT = Path(__file__).resolve().parent.parent.parent
-MADE_BY_SCRIPTS = {"evidence/PLANTED_DEFINITIONS.md"}
 MOST_LINES, MOST_CHARACTERS = 200, 300
 
 
@@ -23,7 +22,7 @@ def anchors(page):
 def faults_of(page):
     name = str(page.relative_to(ROOT))
     lines = text_of(page).splitlines()
-    if len(lines) > MOST_LINES and name not in MADE_BY_SCRIPTS:
+    if len(lines) > MOST_LINES:
         yield f"{name}: {len(lines)} lines"
     for number, line in enumerate(lines, 1):
         for cell in re.split(r"(?<!\\)\|", line) if line.startswith("|") else []:

@@ -1,9 +1,8 @@
 """Makes the list of what dist/prove proves, dist/prove/CASES.md, of the cases that it has: so the page can't say others."""
 import sys
+from pathlib import Path
 
-from figures import ROOT
-
-PROVE = ROOT / "dist" / "prove"
+PROVE = Path(__file__).resolve().parent.parent.parent / "dist/prove"
 sys.path.append(str(PROVE))
 import cases  # noqa: E402
 import gcm  # noqa: E402

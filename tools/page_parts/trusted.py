@@ -1,12 +1,13 @@
 """The trusted files, with their SHA-256 sums in docs/trusted.sha256: the definitions that public contracts cite, among them the ghost
-members that types give in src, and the files that the tables of docs/AUDITING.md have an auditor read, which count their lines."""
+members that types give in src, and the files that the tables of docs/AUDITING.md have an auditor read, by their names as bash takes them."""
 import hashlib
 import re
+import subprocess
+from pathlib import Path
 
-from figures import ROOT, matching
-
+ROOT = Path(__file__).resolve().parent.parent.parent
 GHOST = re.compile(r"^ *ghost [A-Za-z_]+ = ", re.M)
-TO_READ = re.compile(r"<!-- figure: lines (.+?) -->")
+TO_READ = re.compile(r"`(crates/[^`]*)`")
 
 
 def is_trusted(name, text):
@@ -17,9 +18,11 @@ def is_trusted(name, text):
 
 
 def looked_at():
-    files = matching(["crates/*/specs/**/*.antt", "crates/*/src/**/*.rt"])
-    named = {str(it.relative_to(ROOT)): it for it in files if is_trusted(str(it.relative_to(ROOT)), it.read_text(encoding="utf-8"))}
-    tables = (ROOT / "docs/AUDITING.md").read_text(encoding="utf-8")
-    named |= {str(it.relative_to(ROOT)): it for it in matching(" ".join(TO_READ.findall(tables)).split())}
-    sums = "".join(f"{hashlib.sha256(it.read_bytes()).hexdigest()}  {name}\n" for name, it in sorted(named.items()))
-    return f"{len(named)} files", {ROOT / "docs/trusted.sha256": sums}, []
+    files = {str(it.relative_to(ROOT)): it for part in ("specs/**/*.antt", "src/**/*.rt") for it in ROOT.glob(f"crates/*/{part}")}
+    names = {name for name, it in files.items() if is_trusted(name, it.read_text(encoding="utf-8"))}
+    cells = re.findall(r"^\|([^|]*)", (ROOT / "docs/AUDITING.md").read_text(encoding="utf-8"), re.M)
+    words = ["bash", "-O", "failglob", "-c", f"ls -- {' '.join(TO_READ.findall(' '.join(cells)))}"]
+    found = subprocess.run(words, cwd=ROOT, capture_output=True, text=True)
+    names.update(found.stdout.split())
+    sums = "".join(f"{hashlib.sha256((ROOT / it).read_bytes()).hexdigest()}  {it}\n" for it in sorted(names))
+    return f"{len(names)} files", {ROOT / "docs/trusted.sha256": sums}, found.stderr.splitlines()

@@ -1,4 +1,19 @@
-//! The tables, of sixteen bytes each. `tools/permutation-tables` derives them, and says how.
+//! The tables, of sixteen bytes each. The proofs try all 256 bytes on them. They are made so:
+//!
+//! A byte is a pair of elements of the subfield of 16. A nibble with the bits n3 n2 n1 n0 stands
+//! for n3 g^3 + n2 g^2 + n1 g + n0, where g is the least byte with g^4 + g + 1 = 0. A byte is
+//! i w + k, where w^2 + a w + a = 0. Here a is the first element, in the order of nibbles, for
+//! which no element of the subfield solves this, and w is the least byte that does. In the tower
+//! basis i is the high nibble, and k the low one.
+//!
+//! With j = i + k and N = k^2 + a i k + a i^2, the inverse of i w + k is ((k + a i) + i w) / N.
+//! Two elements represent it: p = (k + a i) / N, which is 1 / (1 / (1/i + a/k) + j), and
+//! q = (k + a j) / N, which is 1 / (1 / (1/j + a/k) + i). The inverse is P p + Q q, where P is
+//! 1 + w/a + w/a^2 and Q is w/a^2. So a linear function f of the inverse is the sum of two
+//! entries, at the places 1/p and 1/q: the first table has f(P/n) at the place n, and the second
+//! one f(Q/n). Both have 0 at the place 0. Here 1/0 is 0x80, and a look-up gives 0 from there on,
+//! so zero needs no case of its own. A linear function of a byte is the sum of its values at the
+//! two nibbles.
 
 /// A byte in the tower basis, in which states of Cipher are kept: by
 /// its low nibble, and by its high nibble.
