@@ -151,7 +151,7 @@ summed h v m n a c is a_long c_long =
     ((length c + 15) / 16)
     (length-padded a) (length-padded c) refl)
 
--- the value after additional data is that after no text behind it
+-- the value after additional data alone is that after it and no text
 pub no_text : (h v : ℕ) (a c : List ℕ) → v ≡ hashed_padded h a → c ≡ []
     → v ≡ hashed h (hashed_padded h a) (padded c) (length (padded c) / 16)
 unfolding padded hashed
