@@ -106,11 +106,16 @@ extern int planted_fotsgure_aes_cbc_encrypt(const struct fotsgure_aes *, struct 
 enum takes { NOTHING, OF_BLOCKS, OF_BYTES, OF_MESSAGES };
 enum mode { ECB, CBC, CTR, KW, KWP, GCM, SIV, CCM, CMAC };
 enum text { PLAIN, SEALED, ZEROS };
+/* The statuses of both libraries have the same numbers. */
+enum { REFUSED = FOTSGURE_AES_REFUSED, UNEQUAL = FOTSGURE_AES_UNEQUAL_COUNTS };
+_Static_assert((int)REFUSED == (int)FOTSGURE_GCM_REFUSED, "one number");
+#define NONCE nonce, nonce_bytes
 #define MESSAGE additional, extra, data, bytes
-#define TO given, bytes, data, bytes
+#define MESSAGE_TO additional, extra, given, bytes, data, bytes
+#define WRAPPED given, 2 * count + 1, data, 2 * count
 #define ALONE(IT, name, call) IT(name, NOTHING, CTR, PLAIN, PLAIN, 0, call)
 #define CALLS(IT) PLANTED_REGISTERS(IT) \
-    IT(planted_early_exit, NOTHING, CMAC, PLAIN, PLAIN, FOTSGURE_AES_REFUSED, early_exit()) \
+    IT(planted_early_exit, NOTHING, CMAC, PLAIN, PLAIN, REFUSED, early_exit()) \
     ALONE(IT, planted_branch, branch()) ALONE(IT, planted_look_up, look_up()) ALONE(IT, planted_inner, inner()) \
     ALONE(IT, planted_not_wiped, not_wiped()) ALONE(IT, version, fotsgure_aes_version() != FOTSGURE_AES_VERSION) \
     ALONE(IT, key_length, fotsgure_aes_key_length(&aes) != size) ALONE(IT, wipe, (fotsgure_aes_wipe(&aes), 0)) \
@@ -122,19 +127,15 @@ enum text { PLAIN, SEALED, ZEROS };
     IT(decrypt_to, OF_BLOCKS, ECB, SEALED, PLAIN, 0, fotsgure_aes_decrypt_blocks_to(&aes, given, count, data, count)) \
     IT(encrypt_with, OF_BLOCKS, ECB, PLAIN, SEALED, 0, fotsgure_aes_encrypt_blocks_with(key, size, data, count)) \
     IT(decrypt_with, OF_BLOCKS, ECB, SEALED, PLAIN, 0, fotsgure_aes_decrypt_blocks_with(key, size, data, count)) \
-    IT(unequal, OF_BLOCKS, ECB, PLAIN, PLAIN, FOTSGURE_AES_UNEQUAL_COUNTS, \
-        fotsgure_aes_encrypt_blocks_to(&aes, given, count, data, count + 1)) \
+    IT(unequal, OF_BLOCKS, ECB, PLAIN, PLAIN, UNEQUAL, fotsgure_aes_encrypt_blocks_to(&aes, given, count, data, count + 1)) \
     IT(cbc_encrypt, OF_BLOCKS, CBC, PLAIN, SEALED, 0, fotsgure_aes_cbc_encrypt(&aes, &cbc, data, count)) \
     IT(cbc_decrypt, OF_BLOCKS, CBC, SEALED, PLAIN, 0, fotsgure_aes_cbc_decrypt(&aes, &cbc, data, count)) \
     IT(wrap, OF_BLOCKS, KW, PLAIN, SEALED, 0, fotsgure_aes_wrap(&aes, given, 2 * count, data, 2 * count + 1)) \
-    IT(unwrap, OF_BLOCKS, KW, SEALED, PLAIN, 0, fotsgure_aes_unwrap(&aes, given, 2 * count + 1, data, 2 * count)) \
-    IT(unwrap_refused, OF_BLOCKS, KW, PLAIN, ZEROS, FOTSGURE_AES_REFUSED, \
-        fotsgure_aes_unwrap(&aes, given, 2 * count + 1, data, 2 * count)) \
+    IT(unwrap, OF_BLOCKS, KW, SEALED, PLAIN, 0, fotsgure_aes_unwrap(&aes, WRAPPED)) \
+    IT(unwrap_refused, OF_BLOCKS, KW, PLAIN, ZEROS, REFUSED, fotsgure_aes_unwrap(&aes, WRAPPED)) \
     IT(wrap_padded, OF_BLOCKS, KWP, PLAIN, SEALED, 0, fotsgure_aes_wrap_padded(&aes, given, bytes - 3, data, 2 * count + 1)) \
-    IT(unwrap_padded, OF_BLOCKS, KWP, SEALED, PLAIN, 0, \
-        fotsgure_aes_unwrap_padded(&aes, given, 2 * count + 1, data, 2 * count, &key_bytes)) \
-    IT(unwrap_padded_refused, OF_BLOCKS, KWP, PLAIN, ZEROS, FOTSGURE_AES_REFUSED, \
-        fotsgure_aes_unwrap_padded(&aes, given, 2 * count + 1, data, 2 * count, &key_bytes)) \
+    IT(unwrap_padded, OF_BLOCKS, KWP, SEALED, PLAIN, 0, fotsgure_aes_unwrap_padded(&aes, WRAPPED, &key_bytes)) \
+    IT(unwrap_padded_refused, OF_BLOCKS, KWP, PLAIN, ZEROS, REFUSED, fotsgure_aes_unwrap_padded(&aes, WRAPPED, &key_bytes)) \
     IT(add_keystream, OF_BYTES, CTR, PLAIN, SEALED, 0, fotsgure_aes_add_keystream(&aes, &ctr, data, bytes)) \
     IT(add_keystream_to, OF_BYTES, CTR, SEALED, PLAIN, 0, fotsgure_aes_add_keystream_to(&aes, &ctr, given, bytes, data, bytes)) \
     IT(add_keystream_with, OF_BYTES, CTR, PLAIN, SEALED, 0, fotsgure_aes_add_keystream_with(key, size, &ctr, data, bytes)) \
@@ -147,39 +148,33 @@ enum text { PLAIN, SEALED, ZEROS };
     ALONE(IT, inv_mix_columns, (fotsgure_aes_inv_mix_columns(eight_keys), 0)) \
     IT(cmac, OF_MESSAGES, CMAC, PLAIN, PLAIN, 0, fotsgure_aes_cmac(&aes, data, bytes, tag)) \
     IT(cmac_verify, OF_MESSAGES, CMAC, PLAIN, PLAIN, 0, fotsgure_aes_cmac_verify(&aes, data, bytes, tag, 16)) \
-    IT(cmac_refused, OF_MESSAGES, CMAC, PLAIN, PLAIN, FOTSGURE_AES_REFUSED, fotsgure_aes_cmac_verify(&aes, data, bytes, tag, 16)) \
+    IT(cmac_refused, OF_MESSAGES, CMAC, PLAIN, PLAIN, REFUSED, fotsgure_aes_cmac_verify(&aes, data, bytes, tag, 16)) \
     IT(ccm_seal, OF_MESSAGES, CCM, PLAIN, SEALED, 0, fotsgure_aes_ccm_seal(&aes, nonce, 13, MESSAGE, tag, 16)) \
     IT(ccm_open, OF_MESSAGES, CCM, SEALED, PLAIN, 0, fotsgure_aes_ccm_open(&aes, nonce, 13, MESSAGE, tag, 16)) \
-    IT(ccm_open_refused, OF_MESSAGES, CCM, SEALED, SEALED, FOTSGURE_AES_REFUSED, \
-        fotsgure_aes_ccm_open(&aes, nonce, 13, MESSAGE, tag, 16)) \
+    IT(ccm_open_refused, OF_MESSAGES, CCM, SEALED, SEALED, REFUSED, fotsgure_aes_ccm_open(&aes, nonce, 13, MESSAGE, tag, 16)) \
     ALONE(IT, gcm_set_key, fotsgure_gcm_set_key(&gcm, key, size)) ALONE(IT, gcm_set_key_of, fotsgure_gcm_set_key_of(&gcm, &aes)) \
     ALONE(IT, gcm_wipe, (fotsgure_gcm_wipe(&gcm), 0)) \
     ALONE(IT, gcm_wipe_message, (fotsgure_gcm_wipe_message(&message), 0)) \
-    IT(gcm_seal, OF_MESSAGES, GCM, PLAIN, SEALED, 0, fotsgure_gcm_seal(&gcm, nonce, nonce_bytes, MESSAGE, tag)) \
+    IT(gcm_seal, OF_MESSAGES, GCM, PLAIN, SEALED, 0, fotsgure_gcm_seal(&gcm, NONCE, MESSAGE, tag)) \
     IT(gcm_seal_next, OF_MESSAGES, GCM, PLAIN, PLAIN, 0, (fotsgure_gcm_seal_next(&gcm, &counter, nonce, MESSAGE, tag) \
         || fotsgure_gcm_open(&gcm, nonce, 12, MESSAGE, tag, 16))) \
-    IT(gcm_open, OF_MESSAGES, GCM, SEALED, PLAIN, 0, fotsgure_gcm_open(&gcm, nonce, nonce_bytes, MESSAGE, tag, 16)) \
-    IT(gcm_open_refused, OF_MESSAGES, GCM, SEALED, SEALED, FOTSGURE_GCM_REFUSED, \
-        fotsgure_gcm_open(&gcm, nonce, nonce_bytes, MESSAGE, tag, 16)) \
-    IT(gcm_seal_to, OF_MESSAGES, GCM, PLAIN, SEALED, 0, fotsgure_gcm_seal_to(&gcm, nonce, nonce_bytes, additional, extra, TO, tag)) \
-    IT(gcm_open_to, OF_MESSAGES, GCM, SEALED, PLAIN, 0, \
-        fotsgure_gcm_open_to(&gcm, nonce, nonce_bytes, additional, extra, TO, tag, 16)) \
-    IT(gcm_open_to_refused, OF_MESSAGES, GCM, SEALED, ZEROS, FOTSGURE_GCM_REFUSED, \
-        fotsgure_gcm_open_to(&gcm, nonce, nonce_bytes, additional, extra, TO, tag, 16)) \
+    IT(gcm_open, OF_MESSAGES, GCM, SEALED, PLAIN, 0, fotsgure_gcm_open(&gcm, NONCE, MESSAGE, tag, 16)) \
+    IT(gcm_open_refused, OF_MESSAGES, GCM, SEALED, SEALED, REFUSED, fotsgure_gcm_open(&gcm, NONCE, MESSAGE, tag, 16)) \
+    IT(gcm_seal_to, OF_MESSAGES, GCM, PLAIN, SEALED, 0, fotsgure_gcm_seal_to(&gcm, NONCE, MESSAGE_TO, tag)) \
+    IT(gcm_open_to, OF_MESSAGES, GCM, SEALED, PLAIN, 0, fotsgure_gcm_open_to(&gcm, NONCE, MESSAGE_TO, tag, 16)) \
+    IT(gcm_open_to_refused, OF_MESSAGES, GCM, SEALED, ZEROS, REFUSED, fotsgure_gcm_open_to(&gcm, NONCE, MESSAGE_TO, tag, 16)) \
     IT(gcm_seal_pieces, OF_MESSAGES, GCM, PLAIN, SEALED, 0, seal_in_pieces()) \
     IT(gcm_open_pieces, OF_MESSAGES, GCM, SEALED, PLAIN, 0, open_in_pieces()) \
-    IT(gcm_open_pieces_refused, OF_MESSAGES, GCM, SEALED, SEALED, FOTSGURE_GCM_REFUSED, open_in_pieces()) \
+    IT(gcm_open_pieces_refused, OF_MESSAGES, GCM, SEALED, SEALED, REFUSED, open_in_pieces()) \
     IT(gcm_open_unverified, OF_MESSAGES, GCM, SEALED, PLAIN, 0, open_unverified()) \
     IT(siv_set_key, NOTHING, SIV, PLAIN, PLAIN, 0, fotsgure_gcm_siv_set_key(&siv, key, size)) \
     IT(siv_wipe, NOTHING, SIV, PLAIN, PLAIN, 0, (fotsgure_gcm_siv_wipe(&siv), 0)) \
     IT(siv_seal, OF_MESSAGES, SIV, PLAIN, SEALED, 0, fotsgure_gcm_siv_seal(&siv, nonce, MESSAGE, tag)) \
     IT(siv_open, OF_MESSAGES, SIV, SEALED, PLAIN, 0, fotsgure_gcm_siv_open(&siv, nonce, MESSAGE, tag)) \
-    IT(siv_open_refused, OF_MESSAGES, SIV, SEALED, SEALED, FOTSGURE_GCM_REFUSED, \
-        fotsgure_gcm_siv_open(&siv, nonce, MESSAGE, tag)) \
-    IT(siv_seal_to, OF_MESSAGES, SIV, PLAIN, SEALED, 0, fotsgure_gcm_siv_seal_to(&siv, nonce, additional, extra, TO, tag)) \
-    IT(siv_open_to, OF_MESSAGES, SIV, SEALED, PLAIN, 0, fotsgure_gcm_siv_open_to(&siv, nonce, additional, extra, TO, tag)) \
-    IT(siv_open_to_refused, OF_MESSAGES, SIV, SEALED, ZEROS, FOTSGURE_GCM_REFUSED, \
-        fotsgure_gcm_siv_open_to(&siv, nonce, additional, extra, TO, tag))
+    IT(siv_open_refused, OF_MESSAGES, SIV, SEALED, SEALED, REFUSED, fotsgure_gcm_siv_open(&siv, nonce, MESSAGE, tag)) \
+    IT(siv_seal_to, OF_MESSAGES, SIV, PLAIN, SEALED, 0, fotsgure_gcm_siv_seal_to(&siv, nonce, MESSAGE_TO, tag)) \
+    IT(siv_open_to, OF_MESSAGES, SIV, SEALED, PLAIN, 0, fotsgure_gcm_siv_open_to(&siv, nonce, MESSAGE_TO, tag)) \
+    IT(siv_open_to_refused, OF_MESSAGES, SIV, SEALED, ZEROS, REFUSED, fotsgure_gcm_siv_open_to(&siv, nonce, MESSAGE_TO, tag))
 #define DEFINED(name, takes, mode, from, to, wanted, call) static int call_##name(void) { return (int)(call); }
 #define LISTED(name, takes, mode, from, to, wanted, call) {#name, call_##name, takes, mode, from, to, wanted},
 CALLS(DEFINED)
@@ -293,7 +288,7 @@ static void prepare(const struct call *call, int of_key, int of_message) {
     if (status)
         abort();
     memcpy(given, call->from == SEALED ? sealed : plain, bytes + MORE);
-    if (call->wanted == FOTSGURE_AES_REFUSED || call->wanted == FOTSGURE_GCM_REFUSED)
+    if (call->wanted == REFUSED)
         spoil(call, RUNS * of_key + of_message);
     memcpy(data, given, bytes + MORE);
     memcpy(eight, plain, sizeof eight);
@@ -305,17 +300,17 @@ static void prepare(const struct call *call, int of_key, int of_message) {
 enum { WORDS = STACK / sizeof(size_t) };
 static const size_t FILLED = (size_t)0xa5a5a5a5a5a5a5a5u;
 static size_t stack[WORDS] __attribute__((aligned(64)));
-static union { size_t words[WORDS]; uint8_t bytes[STACK]; } images[RUNS];
-static uint8_t known[RUNS][4 * ROOM];
-static uint8_t found[REGISTERS], registers[RUNS][REGISTERS];
+/* What a run left: on the stack, and behind that in the registers. */
+static union { size_t words[WORDS]; uint8_t bytes[STACK + REGISTERS]; } images[RUNS];
+static uint8_t known[RUNS][4 * ROOM], registers[REGISTERS];
 static size_t known_bytes[RUNS];
 /* Makes a call on a stack of its own, and stores the registers after it: enter.S. */
 extern int enter(void *top, int (*call)(void), void *registers);
 static void run(const struct call *call, int of_key) {
     for (size_t i = 0; i < WORDS; i++)
         stack[i] = FILLED;
-    said(enter(stack + WORDS, call->it, found));
-    memcpy(registers[of_key], found, REGISTERS);
+    said(enter(stack + WORDS, call->it, registers));
+    memcpy(images[of_key].bytes + STACK, registers, REGISTERS);
     /* (By words, since an emulator follows each access.) */
     for (size_t i = 0; i < WORDS; i++)
         images[of_key].words[i] = stack[i];
@@ -374,12 +369,8 @@ static void count_left(int run, size_t deep, size_t *is_known, size_t *is_secret
 /* How many bytes of the registers are other ones under some key. */
 static size_t in_registers(void) {
     size_t differ = 0;
-    for (size_t i = 0; i < REGISTERS; i++) {
-        int same = 1;
-        for (int of_key = 1; of_key < RUNS; of_key++)
-            same &= registers[of_key][i] == registers[0][i];
-        differ += !same;
-    }
+    for (size_t i = 0; i < REGISTERS; i++)
+        differ += !is_same(STACK + i, 1);
     return differ;
 }
 /* A call at one length, for each message under each key. */
