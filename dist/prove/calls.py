@@ -58,7 +58,7 @@ class Call:
     `refused`, and Buffers are what `refused_after` says by their names, or what they were. `assumes` are bytes of public data that are not
     all zero. `later` turns bytes of the key's own domain into those of arbitrary round keys, for a call that expands a key (see aes.py).
     `keystream` is what is added to the data, `between` are other blocks that the cipher gives, and `plain` what is secret of the data and
-    the results; `may_stay` says how many bytes of a kind may be left besides, or "flags". A call that is refused writes to no Buffer that
+    the results; `may_stay` says how many bytes of a kind may be left besides. A call that is refused writes to no Buffer that
     stays as it was, unless it has to undo what it did (`undone`). `counter` is a word of unknown value (aes.CounterWord). `room`, for GCM's counter:
     its lowest 32 bits in the first block (gcm.py, any_counter), and the number of the text's last block. Calls that share `paths` have to run
     the same instructions whenever they return the same. `facts` are what is known of arguments that aren't (linear.py): each is 0 or more."""
@@ -212,7 +212,7 @@ def asked_of(m, question):
 def nothing_secret(m, call):
     """Nothing at all may be left in registers, but for the status, and in flags."""
     flags = [name for name, flag in m.flags.items() if m.is_secret(flag)]
-    if len(flags) > call.may_stay.get("flags", 0):
+    if flags:
         raise Unproved("leaves flags that depend on the key or on data: " + ", ".join(flags))
     for (place, k), where in m.left.items():
         if place == "registers":
