@@ -206,7 +206,10 @@ class Arithmetic:
         never = y == 0 and any(1 in self.domain.bits(b) for b in self.to_bytes(x, size) if b not in self.any_of)
         public = self.is_public(self.to_bytes(x, size) + self.to_bytes(y, size))
         carry = self.minus(x, y, size)[1].get("c") if public else SECRET
-        return {"c": carry, "z": 0 if never else self.zero_flag(self.differences(x, y, size)), "s": SECRET, "o": SECRET}
+        flags = {"c": carry, "s": SECRET, "o": SECRET}
+        if public:  # then those that aren't known are no secret
+            flags = {name: None if flag == SECRET else flag for name, flag in flags.items()}
+        return {**flags, "z": 0 if never else self.zero_flag(self.differences(x, y, size))}
 
     def differences(self, x, y, size):
         """Bytes that are all 0 if two values are equal."""

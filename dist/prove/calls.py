@@ -58,7 +58,7 @@ class Call:
     `refused`, and Buffers are what `refused_after` says by their names, or what they were. `assumes` are bytes of public data that are not
     all zero. `later` turns bytes of the key's own domain into those of arbitrary round keys, for a call that expands a key (see aes.py).
     `keystream` is what is added to the data, `between` are other blocks that the cipher gives, and `plain` what is secret of the data and
-    the results; `may_stay` says how many bytes of a kind may be left besides, or "flags". A call that is refused writes to no Buffer that
+    the results; `may_stay` says how many bytes of a kind may be left besides. A call that is refused writes to no Buffer that
     stays as it was, unless it has to undo what it did (`undone`). `counter` is a word of unknown value (aes.CounterWord). `room`, for GCM's counter:
     its lowest 32 bits in the first block (gcm.py, any_counter), and the number of the text's last block. Calls that share `paths` have to run
     the same instructions whenever they return the same. `facts` are what is known of arguments that aren't (linear.py): each is 0 or more."""
@@ -113,6 +113,7 @@ def prove(domain, program, call, seed=None):
                 waiting += [other for other in both if not is_without_room(other)]
                 continue
             except lengths.Leads as leads:
+                no_secret_in_buffers(m, call)
                 waiting += leads.args[0]
                 continue
             except lengths.Wrong as wrong:
@@ -158,7 +159,7 @@ def check(m, call):
     """Compares what the call returned and wrote with its statement."""
     right = True
     if call.reveals is not None:
-        asked = [q for q in m.answers if q[0] == "zero" and not m.is_public(q[1:])]  # (a branch on a nonce alone reveals nothing)
+        asked = m.asked_of_secrets()  # (a branch on a nonce alone reveals nothing)
         reveals = call.reveals(m) if callable(call.reveals) else call.reveals
         if len(asked) != 1 or asked_of(m, asked[0]) != asked_of(m, m.zero_flag(reveals)):
             raise Unproved("reveals something else than whether the key or the tag is right")
@@ -211,13 +212,21 @@ def asked_of(m, question):
 def nothing_secret(m, call):
     """Nothing at all may be left in registers, but for the status, and in flags."""
     flags = [name for name, flag in m.flags.items() if m.is_secret(flag)]
-    if len(flags) > call.may_stay.get("flags", 0):
+    if flags:
         raise Unproved("leaves flags that depend on the key or on data: " + ", ".join(flags))
     for (place, k), where in m.left.items():
         if place == "registers":
             raise Unproved("leaves %d bytes in registers (%s), in %s" % (len(where), k, ", ".join(sorted(set(where)))))
         if place != IN_BUFFERS and k not in MAY_STAY and len(where) > call.may_stay.get(k, 0) or place == IN_BUFFERS and k in MAY_NOT_COME:
             raise Unproved("leaves %d bytes in %s (%s), from %s to %s" % (len(where), place, k, where[0], where[-1]))
+
+
+def no_secret_in_buffers(m, call):
+    """The same of what was written to buffers by a run that doesn't go on: it came to a state of which this isn't a part."""
+    known, plain = named(m, call)
+    for _, name, b in in_buffers(m, call):
+        if tells(m, b, known, plain) in MAY_NOT_COME:
+            raise Unproved("writes something secret to %s in a loop" % name)
 
 
 def compare(domain, have, want, what):
@@ -357,6 +366,10 @@ def named(m, call):
     return call.named[m.domain]
 
 
+def in_buffers(m, call):
+    return [(IN_BUFFERS, a.name, b) for a in call.buffers if not a.secret and a.after is not ANY for b in m.wrote.get(a.name, ())]
+
+
 def left(m, call):
     """What is left of a call, in bytes: {(place, kind): [where]}, in the dead stack, by the offset from the stack pointer at the call, in
     bytes of a message that may be anything, in registers, and among what was written to buffers, also if it was written over since."""
@@ -364,8 +377,7 @@ def left(m, call):
     known = {**known, "result": known["result"] | bits_of(m, m.results)}
     places = [("stack", k - m.top, m.regions["stack"].content[k]) for k in range(m.lowest, m.top)]
     places += [("a message", k, b) for k, b in enumerate(m.unsaid)]
-    places += [(IN_BUFFERS, a.name, b) for a in call.buffers if not a.secret and a.after is not ANY
-               for b in m.wrote.get(a.name, ())]
+    places += in_buffers(m, call)
     places += [("registers", r, b) for r, v in m.general.items() for b in m.to_bytes(v, 8)]
     places += [("registers", "vector %d" % n, b) for n, v in enumerate(m.vectors) for b in v]
     out, kinds = {}, {b: tells(m, b, known, plain) for b in {b for _, _, b in places}}

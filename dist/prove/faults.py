@@ -223,6 +223,9 @@ FAULTS = {
         ("more decrypted than was verified", exported("gcm_decrypt"), r"\tcmovbq\t.*\n", "", "gcm_decrypt refused 14"),
         ("a nonce again after 2^72", exported("gcm_seal_next"), r"incl\t%e([abcd])x", r"incb\t%\1l",
          "seal_next 3 1 4722366482869645213695"),
+        ("a bit of the key in a flag after a message under the counter's next nonce", exported("gcm_seal_next"),
+         r"(# %join\.3\.i\n)([\s\S]*?)\taddq\t\$24, %rsp\n([\s\S]*?)\txorl\t%r11d, %r11d\n\tretq\n", r"\1\tmovq\t%rdi, 16(%rsp)\n\2"
+         r"\tmovq\t16(%rsp), %r11\n\taddq\t$24, %rsp\n\3\ttestb\t$1, 4(%r11)\n\tmovl\t$0, %r11d\n\tretq\n", "seal_next 3 1 None"),
         ("a field of the message moved", BEGIN, r"\t\$1, 24\(", "\t$1, 16(", "begin"),
         ("a refused output without zeros", exported("gcm_open_to"), MEMSET, "", "open 13 33 _to"),
         ("fewer bytes of a key copied", exported("gcm_set_key_of"), r"\$240, ", "$224, ", "set_key_of"),

@@ -247,7 +247,7 @@ class KeyedGcm(KeyedHash):
 
     def any_seal_next(self, additional, text):
         first, assumes = self.counted()
-        return self.any_seal(additional, text, name="gcm_seal_next", arguments=first.arguments, assumes=assumes, may_stay={"flags": 4})
+        return self.any_seal(additional, text, name="gcm_seal_next", arguments=first.arguments, assumes=assumes)
 
     def any_seal(self, additional, text, way="", nonce=None, name="gcm_seal", **more):
         sizes, nonce, text, stream, sealed = self.any_whole(additional, text, nonce)
@@ -278,8 +278,7 @@ class KeyedGcm(KeyedHash):
     def seal_next(self, additional_length, text_length, counter=None):
         """The same under the counter's next nonce, which it writes to `nonce`; the counter then moves on by one. .. DONE"""
         first, assumes = self.counted(counter)
-        # (On ARM the flags are left in which it was asked whether the counter, which anyone may know, carries.)
-        return self.seal(additional_length, text_length, name="gcm_seal_next", first=first, assumes=assumes, may_stay={"flags": 4})
+        return self.seal(additional_length, text_length, name="gcm_seal_next", first=first, assumes=assumes)
 
     def open(self, additional_length, text_length, nonce=(), way=""):
         """Decrypts `text_length` bytes in place if the tag is right (7.2). .. a text that is refused is, when the call returns, as it was.

@@ -269,6 +269,7 @@ def is_instance(m, general, passes):
     wrong += ["a fact"] * (not all(m.implied(f) for f in want.facts)) + ["a flag"] * any(f is not None for f in want.flags.values())
     wrong += ["what may be overwritten"] * (not m.stale <= want.stale) + ["the lowest place"] * (m.lowest < want.lowest)
     wrong += ["origins"] * (not m.origins.items() <= want.origins.items()) + ["answers"] * (not want.answers.items() <= m.answers.items())
+    wrong += ["what was asked of secrets"] * (m.asked_of_secrets() != want.asked_of_secrets())
     if wrong:
         raise Unproved("a pass of a loop doesn't lead to the same state: " + ", ".join(wrong))
 

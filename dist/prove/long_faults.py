@@ -110,6 +110,15 @@ LONG_FAULTS = {
          "any_cbc_encrypt"),
         ("a chain that begins again at block 2^20", CBC, r"(\t(?:inc|dec)q\t%(r\w+)\n)",
          r"\tcmpq\t$1048576, %\2\n\tjne\t77f\n\tpxor\t%xmm0, %xmm0\n77:\n\1", "any_cbc_encrypt"),
+        ("a round key in the initial value for a while, from 2^20 blocks on, if the call goes on", CBC,
+         ENTRY + r"([\s\S]*?)\tincq\t%(?P<done>r\w+)\n\tcmpq\t%(?P<count>r\w+), %(?P=done)\n\tjne\t(?P<loop>\S+)\n",
+         r"\1\tpxor\t%xmm14, %xmm14\n\tpxor\t%xmm15, %xmm15\n\2\tincq\t%\g<done>\n\tcmpq\t%\g<count>, %\g<done>\n\tje\t77f\n"
+         r"\tcmpq\t$1048576, %\g<done>\n\tjb\t\g<loop>\n\tmovdqu\t(%rsi), %xmm14\n\tmovdqu\t4(%rdi), %xmm15\n\tmovdqu\t%xmm15, (%rsi)\n"
+         r"\tmovdqu\t%xmm14, (%rsi)\n\tpxor\t%xmm14, %xmm14\n\tpxor\t%xmm15, %xmm15\n\tjmp\t\g<loop>\n77:\n", "any_cbc_encrypt"),
+        ("a branch on a semiblock that key unwrap goes on with, from 2^20 on", UNWRAP_TURNS,
+         r"(?P<keys>\tmovq\t%r\w+, %rdi\n)(?P<step>\tdecq\t%r\w+\n\taddq\t\$-8, %r\w+\n)\tdecq\t%(?P<left>r\w+)\n\tjne\t(?P<loop>\S+)\n",
+         r"\g<keys>\g<step>\tdecq\t%\g<left>\n\tje\t77f\n\tleaq\t1048576(%\g<left>), %rdi\n\tcmpq\t16(%rsp), %rdi\n\g<keys>\tja\t\g<loop>\n"
+         r"\tcmpq\t$0, (%r14)\n\tje\t\g<loop>\n\tjmp\t\g<loop>\n77:\n", "any_unwrap"),
         ("64 blocks left out after 2^16 in CBC", DECRYPT, r"(\taddq\t(%r\w+), (%r\w+)\n)(?=(?:\t.*\n)?\tcmpq\t%r\w+, \3\n)",
          r"\1\tcmpq\t$65536, \3\n\tjne\t77f\n\taddq\t\2, \3\n77:\n", "any_cbc_decrypt 9"),
         ("a count of 32 bits in CMAC", CHAIN, r"incq\t%(r\w+)\n", in_32_bits("incl\t%%%s\n"), "any_cmac 1"),

@@ -145,9 +145,13 @@ class Machine(Arithmetic, Unknowns, Bytewise, Access):
             raise Question(flag)
         return self.answers[flag]
 
+    def asked_of_secrets(self):
+        """What was asked of bytes that aren't public: whether all of them are 0."""
+        return [q for q in self.answers if q[0] == "zero" and not self.is_public(q[1:])]
+
     def was_refused(self):
         """Whether it was asked if a key or a tag is right, and it isn't."""
-        return any(q[0] == "zero" and not answer and not self.is_public(q[1:]) for q, answer in self.answers.items())
+        return not all(self.answers[q] for q in self.asked_of_secrets())
 
     def copied(self):
         m = copy.copy(self)

@@ -9,7 +9,7 @@
 extern "C" {
 #endif
 
-/* A message to seal with GCM, in place, under a nonce of 12 bytes; the tag has 16. */
+/* A message to seal with GCM or AES-GCM-SIV, in place, under a nonce of 12 bytes; the tag has 16. */
 struct message {
     const uint8_t *nonce, *additional;
     size_t extra, length;
@@ -30,6 +30,8 @@ struct engine {
     /* GCM: takes a key of 16 bytes, and seals a text in place under the key taken last. */
     void (*gcm_key)(const uint8_t *key);
     void (*seal)(const struct message *m);
+    /* AES-GCM-SIV: the same under a key of its own. */
+    void (*seal_siv)(const struct message *m);
 };
 /* The calls of an engine by their names. */
 #define BLOCKS .set_key = set_key, .process = process

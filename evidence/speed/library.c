@@ -35,6 +35,11 @@ static void seal(const struct message *m) {
     failed |= (int)fotsgure_gcm_seal(&gcm, m->nonce, 12, m->additional, m->extra, m->text, m->length, m->tag);
 }
 
+static struct fotsgure_gcm_siv siv;
+static void seal_siv(const struct message *m) {
+    failed |= (int)fotsgure_gcm_siv_seal(&siv, m->nonce, m->additional, m->extra, m->text, m->length, m->tag);
+}
+
 #ifdef PLANTED
 /* Planted: twice the work, on other data first; and none. */
 static uint8_t other[16 * 4096];
@@ -55,14 +60,16 @@ static void no_seal(const struct message *m) { memset(m->tag, 0, 16); }
 #endif
 
 void ADD(enum run run) {
+    static const uint8_t siv_key[16] = {7};
+    failed |= (int)fotsgure_gcm_siv_set_key(&siv, siv_key, sizeof siv_key);
 #ifdef PLANTED
-    add(&(struct engine){"this library", HOW, "hybrid", BLOCKS, .stream = stream, GCM});
+    add(&(struct engine){"this library", HOW, "hybrid", BLOCKS, .stream = stream, GCM, .seal_siv = seal_siv});
     add(&(struct engine){"planted", "works twice", "planted", twice_key, twice_process, .gcm_key = twice_gcm_key,
                          .seal = twice_seal});
     add(&(struct engine){"planted", "leaves the blocks alone", "planted", .set_key = set_key, .process = no_process});
     add(&(struct engine){"planted", "leaves the text alone", "planted", .gcm_key = gcm_key, .seal = no_seal});
     (void)run;
 #else
-    if (run == NO_AES) add(&(struct engine){"this library", HOW, "hybrid", BLOCKS, .stream = stream, GCM});
+    if (run == NO_AES) add(&(struct engine){"this library", HOW, "hybrid", BLOCKS, .stream = stream, GCM, .seal_siv = seal_siv});
 #endif
 }

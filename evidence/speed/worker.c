@@ -18,15 +18,16 @@ static int count, refused[MOST_ENGINES], whats_made;
 static size_t rounds_made;
 void add(const struct engine *engine) { engines[count++] = *engine; }
 
-/* What is timed, on so many blocks, or bytes of counter mode and GCM; the first two calls and the two of keys in the order of
+/* What is timed, on so many blocks, or bytes of counter mode, GCM and AES-GCM-SIV; the first two calls and the two of keys in the order of
    directions. */
-enum call { TO_ENCRYPT, TO_DECRYPT, STREAM, KEY_ENCRYPT, KEY_DECRYPT, KEY_AND_BLOCK, GCM_KEY, SEAL, ADDITIONAL };
+enum call { TO_ENCRYPT, TO_DECRYPT, STREAM, KEY_ENCRYPT, KEY_DECRYPT, KEY_AND_BLOCK, GCM_KEY, SEAL, ADDITIONAL, SEAL_SIV };
 static const char *const names[] = {"encrypt", "decrypt", "counter mode", "key for encryption", "key for decryption",
-                                    "key and block", "GCM key", "GCM, text", "GCM, additional data"};
+                                    "key and block", "GCM key", "GCM, text", "GCM, additional data", "AES-GCM-SIV, text"};
 static struct what { enum call call; size_t amount; } whats[WHATS];
 static void what(enum call call, size_t amount) { whats[whats_made++] = (struct what){call, amount}; }
 static void list(void) {
-    static const size_t streams[] = {16, 64, 256, 1500, 1 << 20}, texts[] = {64, 1500, 16384};
+    static const size_t streams[] = {16, 64, 256, 1500, 1 << 20}, texts[] = {64, 1500, 16384},
+                        siv_texts[] = {64, 300, 1500, 16384};
     for (enum call it = TO_ENCRYPT; it <= TO_DECRYPT; it++) {
         for (size_t n = 1; n <= 40; n++) what(it, n);
         what(it, 64);
@@ -36,6 +37,7 @@ static void list(void) {
     for (enum call it = KEY_ENCRYPT; it <= GCM_KEY; it++) what(it, 1);
     for (size_t i = 0; i < sizeof texts / sizeof *texts; i++) what(SEAL, texts[i]);
     what(ADDITIONAL, 16384);
+    for (size_t i = 0; i < sizeof siv_texts / sizeof *siv_texts; i++) what(SEAL_SIV, siv_texts[i]);
 }
 static size_t blocks_of(const struct what *it) {
     return it->call == STREAM || it->call >= SEAL ? (it->amount + 15) / 16 : it->amount;
@@ -46,16 +48,16 @@ static uint8_t data[16 * MOST] __attribute__((aligned(64))), key[32], iv[16], ad
 
 static int can(int i, const struct what *it) {
     const struct engine *e = &engines[i];
-    return it->call == STREAM ? e->stream != 0 : it->call < GCM_KEY ? e->process != 0 : e->seal != 0;
+    return it->call == STREAM ? e->stream != 0 : it->call < GCM_KEY ? e->process != 0 : it->call == SEAL_SIV ? e->seal_siv != 0 : e->seal != 0;
 }
 static uint32_t turns_of(const struct what *it) {
     size_t blocks = blocks_of(it);
     return it->call >= KEY_ENCRYPT && blocks < 64 ? 16 : blocks >= 64 ? 1 : (uint32_t)(64 / blocks);
 }
 
-static void seal(const struct engine *e, size_t extra, size_t length) {
+static void seal(void (*by)(const struct message *), size_t extra, size_t length) {
     nonce[5]++;
-    e->seal(&(struct message){nonce, additional, extra, length, data, tag});
+    by(&(struct message){nonce, additional, extra, length, data, tag});
 }
 static void call(const struct engine *e, const struct what *it, size_t bytes) {
     key[7] += it->call >= KEY_ENCRYPT && it->call <= GCM_KEY;
@@ -66,8 +68,9 @@ static void call(const struct engine *e, const struct what *it, size_t bytes) {
     case KEY_DECRYPT: e->set_key(DECRYPT, key, bytes); break;
     case KEY_AND_BLOCK: e->set_key(ENCRYPT, key, bytes); e->process(ENCRYPT, data, 1); break;
     case GCM_KEY: e->gcm_key(key); break;
-    case SEAL: seal(e, 0, it->amount); break;
-    case ADDITIONAL: seal(e, it->amount, 0); break;
+    case SEAL: seal(e->seal, 0, it->amount); break;
+    case ADDITIONAL: seal(e->seal, it->amount, 0); break;
+    case SEAL_SIV: seal(e->seal_siv, 0, it->amount); break;
     }
 }
 static void measure(int i, int w, int size) {
@@ -127,17 +130,17 @@ static int right(const struct engine *e, size_t bytes) {
     return !memcmp(plain, theirs, BYTES);
 }
 
-/* The same for GCM, on texts and additional data of several lengths. */
-static int seals_right(const struct engine *e) {
+/* The same for GCM or AES-GCM-SIV, on texts and additional data of several lengths. */
+static int seals_right(const struct engine *e, void (*by_us)(const struct message *), void (*by_them)(const struct message *)) {
     static const size_t sizes[] = {0, 1, 16, 100, 1500};
     static uint8_t ours[1500], theirs[1500];
     uint8_t made[16];
     for (int i = 0; i < 25; i++) {
         for (size_t at = 0; at < sizeof ours; at++) ours[at] = theirs[at] = (uint8_t)(at * 31 + (at >> 4) * 7);
         engines[0].gcm_key(key);
-        engines[0].seal(&(struct message){nonce, additional, sizes[i / 5], sizes[i % 5], ours, tag});
+        by_us(&(struct message){nonce, additional, sizes[i / 5], sizes[i % 5], ours, tag});
         e->gcm_key(key);
-        e->seal(&(struct message){nonce, additional, sizes[i / 5], sizes[i % 5], theirs, made});
+        by_them(&(struct message){nonce, additional, sizes[i / 5], sizes[i % 5], theirs, made});
         if (memcmp(ours, theirs, sizeof ours) || memcmp(tag, made, 16)) return 0;
     }
     return 1;
@@ -167,7 +170,10 @@ int main(int argc, char **argv) {
     ENGINES
     for (int i = 0; i < count; i++) {
         const struct engine *e = &engines[i];
-        for (size_t bytes = 16; bytes <= 32; bytes += 8) refused[i] |= !right(e, bytes) || (e->seal && !seals_right(e));
+        for (size_t bytes = 16; bytes <= 32; bytes += 8) {
+            refused[i] |= !right(e, bytes) || (e->seal && !seals_right(e, engines[0].seal, e->seal));
+            refused[i] |= e->seal_siv && !seals_right(e, engines[0].seal_siv, e->seal_siv);
+        }
     }
     struct timespec t0, t1;
     clock_gettime(CLOCK_MONOTONIC, &t0);

@@ -3,4 +3,5 @@ pub mod BlockNumbers
 pub mod ByteBlocks
 pub mod FirstBlocks
 pub mod SliceRuns
+pub mod Strings
 pub mod Zeros

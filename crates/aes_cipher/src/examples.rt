@@ -3,10 +3,10 @@
 //!
 //! `bytes n 0x..` is the n bytes that these digits write.
 
-ghost use Rattle.std.specs.Prelude.{◌≡◌, ℕ, List, ◌∷◌, [], replicate};
+ghost use Rattle.std.specs.Prelude.{◌≡◌, ◌↔◌, ◌⊎◌, ℕ, List, ◌∷◌, [], replicate};
 ghost use Rattle.aes_planes.specs.BigEndian.{bytes};
 ghost use Rattle.aes_planes.specs.Fips197 as fips;
-ghost use Rattle.aes_cipher.specs.Blocks.{blocks_of};
+ghost use Rattle.aes_cipher.specs.Blocks.{blocks_of, EachOrUnchanged};
 
 use crate::cipher::{Block, Decrypt, Direction, Encrypt};
 use crate::zeroize::{Element, Zeroize};
@@ -20,6 +20,13 @@ pub fn block_examples()
         ≡ bytes 16 0x000102030405060708090a0b0c0d0e0f
         ∷ bytes 16 0x101112131415161718191a1b1c1d1e1f ∷ [] }
     ensures none { blocks_of (bytes 15 0x000102030405060708090a0b0c0d0e) ≡ [] }
+{}
+
+/// A list of one block is followed by one with f of the block, or by itself, and by no other.
+pub fn unchanged_rule()
+    ensures { (f : List ℕ → List ℕ) (before after : List ℕ)
+        → EachOrUnchanged f (before ∷ []) (after ∷ [])
+        ↔ ((after ≡ f before) ⊎ (after ≡ before)) }
 {}
 
 /// Encryption is Cipher, and decryption InvCipher; their rounds are those of Cipher and of

@@ -9,13 +9,13 @@ pub mod borrowed_cipher;
 mod closures;
 pub mod examples;
 pub mod kept_key;
-mod lists;
 mod names;
 mod plane_keys;
+mod stored_keys;
 pub mod widths;
 
-pub use lists::{BothWaysKeys, EncryptionKeys};
 pub use names::{
     Aes128, Aes128Dec, Aes128Enc, Aes192, Aes192Dec, Aes192Enc, Aes256, Aes256Dec, Aes256Enc,
 };
 pub use plane_keys::store_planes;
+pub use stored_keys::{BothWaysKeys, EncryptionKeys};

@@ -1,7 +1,7 @@
 //! The names of the nine types, on words of 128 bits. Of other widths a type is named by its form:
 //! `BothWaysKeys<K, W>`, or `EncryptionKeys<K, W>`.
 
-use crate::lists::{BothWaysKeys, EncryptionKeys};
+use crate::stored_keys::{BothWaysKeys, EncryptionKeys};
 use aes_cipher::aes::{AesCipher, Bits128, Bits192, Bits256, BothWays};
 use aes_cipher::cipher::{Decrypt, Encrypt};
 

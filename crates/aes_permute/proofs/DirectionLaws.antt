@@ -4,7 +4,6 @@ use Rattle.aes_planes.specs.Fips197 as fips
 use Rattle.aes_planes.specs.Rounds.{all_rounds}
 use Rattle.aes_planes.proofs.Standard.AllRounds.{is_cipher, is_eq_inv_cipher}
 use Rattle.aes_planes.proofs.Standard.EquivalentInverse.{eq_inv_is_inv}
-use Rattle.aes_planes.proofs.Standard.InvertedKeys.{inverted_length}
 
 -- ---- Cipher
 
@@ -21,10 +20,6 @@ pub is_encrypted : (w : List (List ℕ)) (b : List ℕ) → 2 ≤ length w
 is_encrypted w b two = is_cipher w b
 
 -- ---- EqInvCipher
-
--- EqInvCipher uses as many round keys as the list has
-pub same_backward : (w : List (List ℕ)) → length (fips.inverted_keys w) ≡ length w
-same_backward w = inverted_length w
 
 -- the rounds of EqInvCipher, under inverted round keys, are the
 -- standard's inverse cipher under the list

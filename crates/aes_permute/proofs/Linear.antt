@@ -90,7 +90,7 @@ inv_untower_three a b c =
 -- ---- sums of five
 
 -- the last two of three summands can change places
-aside : (a b c : ℕ) → bit_xor (bit_xor a b) c ≡ bit_xor (bit_xor a c) b
+pub aside : (a b c : ℕ) → bit_xor (bit_xor a b) c ≡ bit_xor (bit_xor a c) b
 aside a b c = xor_assoc a b c ∙ ap (bit_xor a) (xor_comm b c) ∙ sym (xor_assoc a c b)
 
 -- four products and a key in the order in which a round adds them

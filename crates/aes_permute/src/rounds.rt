@@ -115,7 +115,7 @@ impl LaneRounds for Decrypt {
             .sum(key)
     }
 
-    #[tactic(auto, using(crate::proofs::DirectionLaws::same_backward))]
+    #[tactic(auto, using(aes_planes::proofs::Standard::InvertedKeys::inverted_length))]
     fn uses_all() {}
 
     #[tactic(auto, using(crate::proofs::DirectionLaws::is_decrypted))]

@@ -1,9 +1,10 @@
 -- Chains of blocks, written block by block, and that the way back leads back.
 use Rattle.std.proofs.Common.{◌≡◌, ℕ, suc, ◌+◌, ◌<◌, ◌≤◌, List, [], ◌∷◌, ◌++◌, length, get_or, set}
 use Rattle.std.proofs.Common.{take, drop, refl, ap, sym, ◌∙◌, arith}
-use Rattle.std.proofs.Math.Seq.{drop-cons, drop-length, take-length}
+use Rattle.std.proofs.Math.Seq.{drop-length, take-length}
 use Rattle.std.proofs.lemmas.List.{take_more_set, drop-set-lt, append_assoc, append-nil, drop-drop}
 use Rattle.std.proofs.lemmas.List.{take-append-drop, get_or-drop, length-drop, length-take}
+use Rattle.std.proofs.lemmas.List.{drop_more}
 use Rattle.std.proofs.lemmas.Slice.{take-put_mid, drop-put_mid}
 use Rattle.aes_planes.specs.Fips197.{IsBlock, add_round_key, cipher_with, inv_cipher_with}
 use Rattle.cbc.specs.Cbc.{chained, last_of, unchained}
@@ -13,11 +14,6 @@ use borrow.Rule.Slice.PartMut.{put_mid}
 written : (rest : List (List ℕ)) (xs : List (List ℕ)) (i : ℕ) (v : List ℕ) → i < length xs
     → take (i + 1) (set xs i v) ++ rest ≡ take i xs ++ v ∷ rest
 written rest xs i v lt = rw (take_more_set xs i v lt, append_assoc)
-
--- one block of what is left, and the rest
-left : (xs : List (List ℕ)) (i : ℕ) → i < length xs → drop i xs ≡ get_or xs i [] ∷ drop (i + 1) xs
-left xs i lt = let n : suc i ≡ i + 1 = omega arith in drop-cons xs i [] lt
-    ∙ ap (λ n. get_or xs i [] ∷ drop n xs) n
 
 -- a loop that has come to the end leaves nothing to chain
 pub chain_finished : (rest : List (List ℕ) → List (List ℕ)) → rest [] ≡ []
@@ -70,7 +66,7 @@ last_written before xs i v lt =
 pub last_left : (before : List ℕ) (xs : List (List ℕ)) (i : ℕ) → i < length xs
     → last_of (get_or xs i []) (drop (i + 1) xs) ≡ last_of before (drop i xs)
 unfolding last_of
-last_left before xs i lt = ap (last_of before) (sym (left xs i lt))
+last_left before xs i lt = ap (last_of before) (sym (drop_more xs i [] lt))
 
 module _ (w : List (List ℕ)) (before : List ℕ) (xs : List (List ℕ)) (i : ℕ) (v : List ℕ)
     (lt : i < length xs) where
@@ -85,7 +81,7 @@ module _ (w : List (List ℕ)) (before : List ℕ) (xs : List (List ℕ)) (i : �
       (drop-set-lt (i + 1) xs i v (omega arith))
       ∙ written (chained w v (drop (i + 1) xs)) xs i v lt
       ∙ (λ j. take i xs ++ e j ∷ chained w (e j) (drop (i + 1) xs))
-      ∙ ap (λ ys. take i xs ++ chained w before ys) (sym (left xs i lt))
+      ∙ ap (λ ys. take i xs ++ chained w before ys) (sym (drop_more xs i [] lt))
 
   -- with block i of ys decrypted and summed with the block before,
   -- what is left to undo makes the same list
@@ -97,7 +93,7 @@ module _ (w : List (List ℕ)) (before : List ℕ) (xs : List (List ℕ)) (i : �
   unchained_next ys also e =
       written (unchained w (get_or ys i []) (drop (i + 1) ys)) xs i v lt
       ∙ (λ j. take i xs ++ e j ∷ unchained w (get_or ys i []) (drop (i + 1) ys))
-      ∙ ap (λ zs. take i xs ++ unchained w before zs) (sym (left ys i also))
+      ∙ ap (λ zs. take i xs ++ unchained w before zs) (sym (drop_more ys i [] also))
 
 -- what a loop has yet to replace: the blocks of ys from place i on
 module _ (xs ys : List (List ℕ)) (i : ℕ) (ahead : drop i xs ≡ drop i ys) where

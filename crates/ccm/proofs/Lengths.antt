@@ -7,7 +7,8 @@ use Rattle.std.proofs.Math.Seq.{drop-append_seam, take-append_seam}
 use borrow.Rule.Slice.PartMut.{put_mid}
 use Rattle.std.proofs.lemmas.List.{append-nil, drop-replicate, length-take-le, take-append-drop}
 use Rattle.aes_planes.specs.BigEndian.{bytes}
-use Rattle.cmac.specs.Chain.{chained, chained_through, padded}
+use Rattle.aes_cipher.specs.Blocks.{padded}
+use Rattle.cmac.specs.Chain.{chained, chained_through}
 use Rattle.cmac.proofs.Chains.{through_on, through_padded, through_whole}
 use Rattle.ccm.specs.Ccm.{encoded_length}
 

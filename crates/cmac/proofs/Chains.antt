@@ -1,34 +1,16 @@
 -- Chains over strings: piece by piece, and with zeros behind the last block.
-use Rattle.std.proofs.Common.{◌≡◌, ◌↔◌, ℕ, zero, suc, ◌+◌, ◌-◌, ◌*◌, ◌/◌, ◌%◌, ◌<◌, ◌≤◌, List, ◌++◌}
+use Rattle.std.proofs.Common.{◌≡◌, ℕ, zero, suc, ◌+◌, ◌-◌, ◌*◌, ◌/◌, ◌%◌, ◌<◌, ◌≤◌, List, ◌++◌}
 use Rattle.std.proofs.Common.{length, take, drop, replicate, refl, ap, sym, ◌∙◌, arith}
 use Rattle.std.proofs.Common.{append_assoc, length-append, length-drop, min, inl, inr}
-use Rattle.std.proofs.lemmas.List.{take-append-le, drop-append-le, take_all, take-append-drop}
+use Rattle.std.proofs.lemmas.List.{take_all, take-append-drop}
 use Rattle.std.proofs.lemmas.List.{append-nil, length-take-le}
 use Rattle.std.proofs.lemmas.Bool.{cases_lt}
-use Rattle.std.proofs.lemmas.Simd.{length-replicate}
-use Rattle.std.proofs.Math.Seq.{drop-append-add, take-append_seam}
 use Rattle.std.specs.List.{slice_range}
 use Rattle.aes_planes.specs.Fips197.{cipher_with, add_round_key}
-use Rattle.cmac.specs.Chain.{block_at, chained, padded, chained_through}
-
--- a block of the first of two strings
-first_block : (a b : List ℕ) (i : ℕ) → 16 * i + 16 ≤ length a → block_at (a ++ b) i ≡ block_at a i
-unfolding block_at
-first_block a b i inside =
-    let n : ℕ = 16 * i + 16 - 16 * i in
-    ap (take n) (drop-append-le (16 * i) a b (omega (arith, inside)))
-    ∙ take-append-le n (drop (16 * i) a) b (omega (arith, inside, length-drop (16 * i) a))
-
--- a block of the second of two strings
-second_block : (a b : List ℕ) (k i : ℕ) → length a ≡ 16 * k
-    → block_at (a ++ b) (k + i) ≡ block_at b i
-unfolding block_at
-second_block a b k i long =
-    let from : 16 * (k + i) ≡ length a + 16 * i = omega (arith, long) in
-    let size : 16 * (k + i) + 16 - 16 * (k + i) ≡ 16 * i + 16 - 16 * i = omega arith in
-    ap (λ n. take n (drop (16 * (k + i)) (a ++ b))) size
-    ∙ ap (λ m. take (16 * i + 16 - 16 * i) (drop m (a ++ b))) from
-    ∙ ap (take (16 * i + 16 - 16 * i)) (drop-append-add a b (16 * i))
+use Rattle.aes_cipher.specs.Blocks.{padded}
+use Rattle.aes_cipher.proofs.Strings.{first_block, second_block, length-padded, padded_blocks}
+use Rattle.aes_cipher.proofs.Strings.{last_padded}
+use Rattle.cmac.specs.Chain.{block_at, chained, chained_through}
 
 -- the chain through the blocks of the first of two strings
 pub chained_first : (w : List (List ℕ)) (y a b : List ℕ) (i : ℕ) → 16 * i ≤ length a
@@ -52,44 +34,6 @@ chained_on w y a b k (suc i) long =
     ap (chained w y (a ++ b)) more
     ∙ (λ t. cipher_with w (add_round_key (chained_on w y a b k i long t)
     (second_block a b k i long t)))
-
--- ---- strings with zeros behind them
-
--- a padded string is whole blocks
-pub length-padded : (s : List ℕ) → length (padded s) ≡ 16 * ((length s + 15) / 16)
-unfolding padded
-length-padded s =
-    length-append s (replicate ((16 - length s % 16) % 16) 0)
-    ∙ ap (λ n. length s + n) (length-replicate ((16 - length s % 16) % 16) 0) ∙ omega arith
-
--- how many blocks a padded string has
-pub padded_blocks : (s : List ℕ) → length (padded s) / 16 ≡ (length s + 15) / 16
-padded_blocks s = omega (arith, length-padded s)
-
--- the last block of a padded string: what is left of the string, and zeros behind it
-last_padded : (i : ℕ) (s rest : List ℕ) → length s ≤ 16 * i + 16 → 16 * i < length s
-    → rest ≡ drop (16 * i) s
-    → rest ++ replicate (16 - length rest) 0 ≡ block_at (padded s) i
-unfolding padded block_at
-last_padded i s rest at some is =
-    let zeros : List ℕ = replicate ((16 - length s % 16) % 16) 0 in
-    let n : ℕ = 16 * i + 16 - 16 * i in
-    let left : length rest ≡ length s - 16 * i = ap length is ∙ length-drop (16 * i) s in
-    let count : 16 - length rest ≡ (16 - length s % 16) % 16 = omega (arith, at, some, left) in
-    let whole : length (rest ++ zeros) ≤ n =
-    omega (
-      arith,
-      at,
-      some,
-      left,
-      length-append rest zeros,
-      length-replicate {A = ℕ}
-          ((16 - length s % 16) % 16) 0,
-    ) in
-    ap (λ m. rest ++ replicate m 0) count
-    ∙ sym (ap (take n) (drop-append-le (16 * i) s zeros (omega (arith, at))
-    ∙ ap (λ l. l ++ zeros) (sym is))
-    ∙ take_all n (rest ++ zeros) whole)
 
 -- ---- a chain through all of a string
 
@@ -156,6 +100,7 @@ whole_part s part i is long =
 pub part_padded : (s part : List ℕ) (i e : ℕ) → i < (length s + 15) / 16
     → e ≡ min (length s) (16 * i + 16) → part ≡ slice_range s (16 * i) e
     → part ++ replicate (16 - length part) 0 ≡ block_at (padded s) i
+unfolding block_at
 part_padded s part i e below end is =
     elim (cases_lt (length s) (16 * i + 16)) [
       | inl short ↦
@@ -164,13 +109,3 @@ part_padded s part i e below end is =
           (omega (arith, end, short, length-drop (16 * i) s)))
       | inr long ↦ whole_part s part i (is ∙ ap (slice_range s (16 * i)) (omega (arith, end, long))) long
     ]
-
--- ---- the first bytes of a block
-
--- bytes with what another string has behind them are that string exactly if they are its first
--- bytes
-pub are_first : (x y : List ℕ) → (x ++ drop (length x) y ≡ y) ↔ (x ≡ take (length x) y)
-are_first x y = (
-  λ e. sym (take-append_seam x (drop (length x) y)) ∙ ap (take (length x)) e,
-  λ e. ap (λ l. l ++ drop (length x) y) e ∙ take-append-drop (length x) y,
-)

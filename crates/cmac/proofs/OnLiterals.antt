@@ -5,7 +5,8 @@ use Rattle.std.specs.Prelude.{⊤}
 use Rattle.std.specs.List.{slice_range}
 use Rattle.aes_planes.specs.Fips197.{build, cipher_with, add_round_key}
 use Rattle.aes_planes.proofs.OnLiterals.{aes_on_literals}
-use Rattle.cmac.specs.Chain.{block_at, chained, chained_through, padded}
+use Rattle.aes_cipher.specs.Blocks.{padded}
+use Rattle.cmac.specs.Chain.{block_at, chained, chained_through}
 use Rattle.cmac.specs.Cmac.{doubled_block, subkey_1, subkey_2, before_last, last_block, cmac}
 
 -- the definitions to unfold, so that CMAC on literals is computed

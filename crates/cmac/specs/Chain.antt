@@ -1,9 +1,10 @@
 -- A chain of blocks, whose last value tells whether one of them was changed: what CMAC (SP 800-38B,
 -- 6.2) and CCM (SP 800-38C, 6.1) are made of. A byte is a number below 2 ^ 8, a string a list of
 -- bytes, a block a list of 16; Cipher and the sum of two blocks are those of FIPS 197.
-use Rattle.std.specs.Prelude.{ℕ, zero, suc, ◌+◌, ◌-◌, ◌*◌, ◌/◌, ◌%◌, List, ◌++◌, length, replicate}
+use Rattle.std.specs.Prelude.{ℕ, zero, suc, ◌+◌, ◌*◌, ◌/◌, List, length}
 use Rattle.std.specs.List.{slice_range}
 use Rattle.aes_planes.specs.Fips197 as fips
+use Rattle.aes_cipher.specs.Blocks.{padded}
 
 -- block i of a string, counted from 0
 unfoldable pub block_at : List ℕ → ℕ → List ℕ
@@ -16,10 +17,6 @@ unfolding block_at
 chained w y s zero = y
 chained w y s (suc i) =
     fips.cipher_with w (fips.add_round_key (chained w y s i) (block_at s i))
-
--- a string with zeros behind it, as few as fill its last block
-unfoldable pub padded : List ℕ → List ℕ
-padded s = s ++ replicate ((16 - length s % 16) % 16) 0
 
 -- the value after all of a string, with zeros behind it
 unfoldable pub chained_through : List (List ℕ) → List ℕ → List ℕ → List ℕ

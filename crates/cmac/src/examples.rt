@@ -8,7 +8,8 @@ ghost use Rattle.std.specs.Prelude.{length, replicate};
 ghost use Rattle.std.specs.List.{slice_range};
 ghost use Rattle.aes_planes.specs.BigEndian.{bytes};
 ghost use Rattle.aes_planes.specs.Fips197 as fips;
-ghost use Rattle.cmac.specs.Chain.{chained, chained_through, padded};
+ghost use Rattle.aes_cipher.specs.Blocks.{padded};
+ghost use Rattle.cmac.specs.Chain.{chained, chained_through};
 ghost use Rattle.cmac.specs.Cmac.{doubled_block, subkey_1, subkey_2, before_last, last_block};
 ghost use Rattle.cmac.specs.Cmac.{cmac};
 

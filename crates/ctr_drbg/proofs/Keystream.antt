@@ -13,12 +13,12 @@ use Rattle.aes_planes.proofs.Standard.CipherInverses.{cipher_length}
 use Rattle.aes_cipher.proofs.BlockNumbers.{number_back}
 use Rattle.aes_ctr.specs.CounterMode.{counter, counter_block, keystream_byte, plus_stream}
 use Rattle.aes_ctr.proofs.Sums.{plus_is}
-use Rattle.ctr_drbg.specs.CtrDrbg.{exclusive_or, next_v, v_after, temp_after, turns, output}
+use Rattle.ctr_drbg.specs.CtrDrbg.{exclusive_or, v_plus_one, v_after, temp_after, turns, output}
 use Rattle.ctr_drbg.proofs.Strings.{length-sum, get_or-sum, sum_is}
 
 -- one more than a counter block is the next one
-next_block : (v : List ℕ) (i : ℕ) → next_v (counter_block v i) ≡ counter_block v (suc i)
-unfolding next_v counter counter_block
+next_block : (v : List ℕ) (i : ℕ) → v_plus_one (counter_block v i) ≡ counter_block v (suc i)
+unfolding v_plus_one counter counter_block
 next_block v i =
     let number = (from_be_bytes w128 v + i) % 2 ^ 128 in
     ap (λ n. to_be_bytes w128 ((n + 1) % 2 ^ 128))
@@ -27,9 +27,9 @@ next_block v i =
 
 -- V after one turn or more is a counter block
 pub v_after_more : (v : List ℕ) (i : ℕ) → v_after v (suc i) ≡ counter_block v (suc i)
-unfolding v_after next_v counter counter_block
+unfolding v_after v_plus_one counter counter_block
 v_after_more v zero = refl
-v_after_more v (suc i) = ap next_v (v_after_more v i) ∙ next_block v (suc i)
+v_after_more v (suc i) = ap v_plus_one (v_after_more v i) ∙ next_block v (suc i)
 
 -- V after any number of turns is a counter block, if V is a block
 pub v_after_any : (v block : List ℕ) (n number : ℕ)

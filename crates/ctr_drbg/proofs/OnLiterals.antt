@@ -3,22 +3,22 @@ use Rattle.std.proofs.Common.{◌≡◌, ℕ, List, ◌++◌, take, drop}
 use Rattle.std.specs.Prelude.{⊤}
 use Rattle.aes_planes.specs.Fips197.{build, build_from, cipher}
 use Rattle.aes_planes.specs.BigEndian.{bytes}
-use Rattle.ctr_drbg.specs.CtrDrbg.{State, padded, exclusive_or, v_after, temp_after, turns, output}
-use Rattle.ctr_drbg.specs.CtrDrbg.{update, instantiate, reseed, next_v, returned_bits, generate}
+use Rattle.ctr_drbg.specs.CtrDrbg.{State, seed_padded, exclusive_or, v_after, temp_after, turns, output}
+use Rattle.ctr_drbg.specs.CtrDrbg.{update, instantiate, reseed, v_plus_one, returned_bits, generate}
 
 -- the definitions to unfold, so that strings on literals are computed
 unfoldable pub strings_on_literals : ⊤
-unfolding bytes build build_from padded exclusive_or instantiate reseed update
+unfolding bytes build build_from seed_padded exclusive_or instantiate reseed update
 strings_on_literals = tt
 
 -- the definitions of a turn, so that V on literals is counted on
 unfoldable pub turns_on_literals : ⊤
-unfolding bytes next_v v_after temp_after
+unfolding bytes v_plus_one v_after temp_after
 turns_on_literals = tt
 
 -- the definitions of the calls, by their steps
 unfoldable pub requests : ⊤
-unfolding padded exclusive_or output update instantiate returned_bits generate
+unfolding seed_padded exclusive_or output update instantiate returned_bits generate
 requests = tt
 
 -- the working state whose Key and V are temp

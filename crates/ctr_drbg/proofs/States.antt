@@ -1,6 +1,6 @@
 -- Working states, by the calls that lead to them.
 use Rattle.std.proofs.Common.{◌≡◌, ℕ, ◌+◌, List, ◌∙◌, ap, take, drop, replicate}
-use Rattle.ctr_drbg.specs.CtrDrbg.{State, padded, exclusive_or, v_after, turns, output, update}
+use Rattle.ctr_drbg.specs.CtrDrbg.{State, seed_padded, exclusive_or, v_after, turns, output, update}
 use Rattle.ctr_drbg.specs.CtrDrbg.{instantiate, reseed, prepared, generate}
 
 -- the working state that an update leaves, by the Key, V and reseed_counter before it
@@ -12,7 +12,7 @@ updated provided_data key v counter =
 -- an update by seed_material of a working state whose reseed_counter is 1 is a reseed
 pub reseeded_by : (entropy string material : List ℕ) (s counted t : State)
     → t ≡ update material counted
-    → material ≡ exclusive_or entropy (padded string) → counted.key ≡ s.key → counted.v ≡ s.v
+    → material ≡ exclusive_or entropy (seed_padded string) → counted.key ≡ s.key → counted.v ≡ s.v
     → counted.reseed_counter ≡ 1 → t ≡ reseed entropy string s
 unfolding update reseed
 reseeded_by entropy string material s counted t is seed key v counter =
@@ -23,12 +23,12 @@ pub instantiated_by : (entropy string : List ℕ) (zeros t : State) → t ≡ re
     → zeros.key ≡ replicate 32 0 → zeros.v ≡ replicate 16 0 → t ≡ instantiate entropy string
 unfolding update reseed instantiate
 instantiated_by entropy string zeros t is key v =
-    is ∙ (λ i. updated (exclusive_or entropy (padded string)) (key i) (v i) 1)
+    is ∙ (λ i. updated (exclusive_or entropy (seed_padded string)) (key i) (v i) 1)
 
 -- a request: what is prepared, V moved on, one more request counted, and the update
 pub generated_by : (n : ℕ) (string provided : List ℕ) (s before moved counted t : State)
     → t ≡ update provided counted
-    → provided ≡ padded string → before ≡ prepared string s → moved.key ≡ before.key
+    → provided ≡ seed_padded string → before ≡ prepared string s → moved.key ≡ before.key
     → moved.v ≡ v_after before.v (turns n) → counted.key ≡ moved.key → counted.v ≡ moved.v
     → counted.reseed_counter ≡ s.reseed_counter + 1 → t ≡ generate n string s
 unfolding update generate

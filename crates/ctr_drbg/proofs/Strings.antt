@@ -8,11 +8,11 @@ use Rattle.std.proofs.lemmas.List.{get_or_append_left, get_or-append_right, get_
 use Rattle.std.proofs.lemmas.List.{get_or-take, get_or_past, take_all, length-take, length-set}
 use Rattle.std.specs.Int.Bits.{xor_zero_r}
 use Rattle.aes_planes.proofs.Lists.{build_is, length-build, get_or-build}
-use Rattle.ctr_drbg.specs.CtrDrbg.{padded, exclusive_or}
+use Rattle.ctr_drbg.specs.CtrDrbg.{seed_padded, exclusive_or}
 
 -- a string that is written over zeros is padded
-pub written_over : (x : List ℕ) → x ++ drop (length x) (replicate 48 0) ≡ padded x
-unfolding padded
+pub written_over : (x : List ℕ) → x ++ drop (length x) (replicate 48 0) ≡ seed_padded x
+unfolding seed_padded
 written_over x = ap (λ zeros. x ++ zeros) (drop-replicate (length x) 48 0)
 
 -- a sum has the length of the first string
@@ -93,8 +93,8 @@ summed_one x y s i v is inside fits added = sym (sum_is x (take (i + 1) y) (set 
     ]
 
 -- a padded string has the bytes of the string, and zeros
-get_or-padded : (y : List ℕ) (i : ℕ) → length y ≤ 48 → i < 48 → get_or (padded y) i 0 ≡ get_or y i 0
-unfolding padded
+get_or-padded : (y : List ℕ) (i : ℕ) → length y ≤ 48 → i < 48 → get_or (seed_padded y) i 0 ≡ get_or y i 0
+unfolding seed_padded
 get_or-padded y i fits h = elim (cases_lt i (length y)) [
   | inl below ↦ get_or_append_left y (replicate (48 - length y) 0) 0 i below
   | inr past ↦ get_or-append_right y (replicate (48 - length y) 0) (length y) i 0 refl past
@@ -104,11 +104,11 @@ get_or-padded y i fits h = elim (cases_lt i (length y)) [
 
 -- padding adds nothing to a sum
 pub sum-padded : (x y : List ℕ) (i : ℕ) → length x ≡ 48 → length y ≤ 48 → length y ≤ i
-    → exclusive_or x (take i y) ≡ exclusive_or x (padded y)
+    → exclusive_or x (take i y) ≡ exclusive_or x (seed_padded y)
 sum-padded x y i sized fits all =
     ap (exclusive_or x) (take_all i y all)
-    ∙ sum_is x y (exclusive_or x (padded y)) (length-sum x (padded y))
-    (λ j h. sym (get_or-sum x (padded y) j h
+    ∙ sum_is x y (exclusive_or x (seed_padded y)) (length-sum x (seed_padded y))
+    (λ j h. sym (get_or-sum x (seed_padded y) j h
     ∙ ap (bit_xor (get_or x j 0)) (get_or-padded y j fits (omega (arith, h, sized)))))
 
 -- what the loop uses that adds a string to a seed

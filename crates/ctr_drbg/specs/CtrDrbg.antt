@@ -16,22 +16,22 @@ pub record State : Type 0 where
   pub reseed_counter : ℕ
 
 -- a string of at most seedlen bytes, with zeros behind it up to seedlen
-unfoldable pub padded : List ℕ → List ℕ
-padded x = x ++ replicate (48 - length x) 0
+unfoldable pub seed_padded : List ℕ → List ℕ
+seed_padded x = x ++ replicate (48 - length x) 0
 
 -- x ⊕ y of two strings of one length
 unfoldable pub exclusive_or : List ℕ → List ℕ → List ℕ
 exclusive_or x y = fips.build (length x) (λ i. fips.field_add (slice_index x i) (slice_index y i))
 
 -- (V + 1) mod 2^blocklen, of V read as a number with its highest byte first (10.2.1.2, step 2.1)
-unfoldable pub next_v : List ℕ → List ℕ
-next_v v = to_be_bytes w128 ((from_be_bytes w128 v + 1) % 2 ^ 128)
+unfoldable pub v_plus_one : List ℕ → List ℕ
+v_plus_one v = to_be_bytes w128 ((from_be_bytes w128 v + 1) % 2 ^ 128)
 
 -- V after i turns of the loop that makes output blocks (10.2.1.2, step 2, and 10.2.1.5.1, step 4)
 unfoldable pub v_after : List ℕ → ℕ → List ℕ
-unfolding next_v
+unfolding v_plus_one
 v_after v zero = v
-v_after v (suc i) = next_v (v_after v i)
+v_after v (suc i) = v_plus_one (v_after v i)
 
 -- temp after i turns: in each, Block_Encrypt(Key, V) of the new V comes behind it
 unfoldable pub temp_after : List ℕ → List ℕ → ℕ → List ℕ
@@ -63,9 +63,9 @@ update provided_data s =
 -- the Key and the V of zeros, updated by the entropy input ⊕ the padded personalization string
 -- (steps 1 to 7)
 unfoldable pub instantiate : List ℕ → List ℕ → State
-unfolding padded exclusive_or update
+unfolding seed_padded exclusive_or update
 instantiate entropy_input personalization_string =
-    update (exclusive_or entropy_input (padded personalization_string))
+    update (exclusive_or entropy_input (seed_padded personalization_string))
     (record { key = replicate 32 0; v = replicate 16 0; reseed_counter = 1 })
 
 -- ---- CTR_DRBG_Reseed (10.2.1.4.1)
@@ -73,18 +73,18 @@ instantiate entropy_input personalization_string =
 -- the working state updated by the entropy input ⊕ the padded additional input, and reseed_counter
 -- set to 1 (steps 1 to 5)
 unfoldable pub reseed : List ℕ → List ℕ → State → State
-unfolding padded exclusive_or update
+unfolding seed_padded exclusive_or update
 reseed entropy_input additional_input s =
-    record (update (exclusive_or entropy_input (padded additional_input)) s) { reseed_counter = 1 }
+    record (update (exclusive_or entropy_input (seed_padded additional_input)) s) { reseed_counter = 1 }
 
 -- ---- CTR_DRBG_Generate (10.2.1.5.1), where the number of bytes is allowed and no reseed is required
 
 -- the working state updated by the padded additional input; as it was if that is Null, a string of
 -- no bytes (step 2)
 unfoldable pub prepared : List ℕ → State → State
-unfolding padded update
+unfolding seed_padded update
 prepared additional_input s = if length additional_input == 0 then s
-    else update (padded additional_input) s
+    else update (seed_padded additional_input) s
 
 -- returned_bits: this many bytes of output (steps 3 to 5)
 unfoldable pub returned_bits : ℕ → List ℕ → State → List ℕ
@@ -95,8 +95,8 @@ returned_bits n additional_input s =
 -- the new working state: V moved on, then the update by the padded additional input, which is zeros
 -- if that is Null, and reseed_counter + 1 (steps 4, 6 and 7)
 unfoldable pub generate : ℕ → List ℕ → State → State
-unfolding prepared v_after turns padded update
+unfolding prepared v_after turns seed_padded update
 generate n additional_input s =
     let before = prepared additional_input s in
     let moved : State = record before { v = v_after before.v (turns n) } in
-    record (update (padded additional_input) moved) { reseed_counter = s.reseed_counter + 1 }
+    record (update (seed_padded additional_input) moved) { reseed_counter = s.reseed_counter + 1 }

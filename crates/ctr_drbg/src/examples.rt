@@ -9,15 +9,15 @@ ghost use Rattle.std.specs.Prelude.{◌≡◌, ◌<◌, ◌≤◌, ℕ, ◌+◌,
 ghost use Rattle.std.specs.Prelude.{drop, length, replicate, slice_index, take};
 ghost use Rattle.aes_planes.specs.BigEndian.{bytes};
 ghost use Rattle.aes_planes.specs.Fips197 as fips;
-ghost use Rattle.ctr_drbg.specs.CtrDrbg.{State, padded, exclusive_or, instantiate, reseed, update};
+ghost use Rattle.ctr_drbg.specs.CtrDrbg.{State, seed_padded, exclusive_or, instantiate, reseed, update};
 ghost use Rattle.ctr_drbg.specs.CtrDrbg.{generate, prepared, returned_bits, turns};
-ghost use Rattle.ctr_drbg.specs.CtrDrbg.{next_v, output, v_after, temp_after};
+ghost use Rattle.ctr_drbg.specs.CtrDrbg.{v_plus_one, output, v_after, temp_after};
 
 /// A string is padded behind it; a personalization string is summed with the first bytes of the
 /// entropy input, here 20 with ff; and a reseed of the working state of zeros is an instantiation.
 #[tactic(auto, unfolding(crate::proofs::OnLiterals::strings_on_literals))]
 pub fn string_examples()
-    ensures padded { padded (0xff ∷ 0xfe ∷ []) ≡ 0xff ∷ 0xfe ∷ replicate 46 0 }
+    ensures padded { seed_padded (0xff ∷ 0xfe ∷ []) ≡ 0xff ∷ 0xfe ∷ replicate 46 0 }
     ensures summed { exclusive_or (0xff ∷ 0x73 ∷ []) (0x20 ∷ 0x01 ∷ []) ≡ 0xdf ∷ 0x72 ∷ [] }
     ensures personalized { instantiate (bytes 48
         0xff5d73faa468649edda33b5cca79b0b05600419ccb7a879ddfec9db32ee494e5531b51de16a30f769262474c73bec010) (0x20 ∷ [])
@@ -51,10 +51,10 @@ pub fn enough_turns()
 /// cipher of each V comes behind those before it (10.2.1.2, step 2).
 #[tactic(auto, unfolding(crate::proofs::OnLiterals::turns_on_literals))]
 pub fn turn_rules()
-    ensures carried { next_v (bytes 16 0x00000000000000ffffffffffffffffff)
+    ensures carried { v_plus_one (bytes 16 0x00000000000000ffffffffffffffffff)
         ≡ bytes 16 0x00000000000001000000000000000000 }
-    ensures wrapped { next_v (replicate 16 0xff) ≡ replicate 16 0 }
-    ensures counted { (v : List ℕ) (i : ℕ) → v_after v (i + 1) ≡ next_v (v_after v i) }
+    ensures wrapped { v_plus_one (replicate 16 0xff) ≡ replicate 16 0 }
+    ensures counted { (v : List ℕ) (i : ℕ) → v_after v (i + 1) ≡ v_plus_one (v_after v i) }
     ensures begun { (key v : List ℕ) → temp_after key v 0 ≡ [] }
     ensures added { (key v : List ℕ) (i : ℕ) → temp_after key v (i + 1)
         ≡ temp_after key v i ++ fips.cipher key (v_after v (i + 1)) }
@@ -65,7 +65,7 @@ pub fn turn_rules()
 #[tactic(auto, unfolding(crate::specs::CtrDrbg::prepared))]
 pub fn additional_input_rules()
     ensures some { (x : ℕ) (xs : List ℕ) (s : State)
-        → prepared (x ∷ xs) s ≡ update (padded (x ∷ xs)) s }
+        → prepared (x ∷ xs) s ≡ update (seed_padded (x ∷ xs)) s }
     ensures none { (s : State) → prepared [] s ≡ s }
 {}
 
@@ -74,7 +74,7 @@ pub fn additional_input_rules()
 /// what a request returns and leaves (10.2.1.2 to 10.2.1.5.1).
 #[tactic(auto, unfolding(crate::proofs::OnLiterals::requests))]
 pub fn request_rules()
-    ensures padded { (x : List ℕ) → padded x ≡ x ++ replicate (48 - length x) 0 }
+    ensures padded { (x : List ℕ) → seed_padded x ≡ x ++ replicate (48 - length x) 0 }
     ensures summed { (x y : List ℕ) → exclusive_or x y ≡ fips.build (length x)
         (λ i. fips.field_add (slice_index x i) (slice_index y i)) }
     ensures output { (key v : List ℕ) (n : ℕ) → output key v n
@@ -84,7 +84,7 @@ pub fn request_rules()
     ensures v { (provided : List ℕ) (s : State) → (update provided s).v
         ≡ drop 32 (exclusive_or (output s.key s.v 48) provided) }
     ensures instantiated { (entropy_input string : List ℕ) → instantiate entropy_input string
-        ≡ update (exclusive_or entropy_input (padded string)) (record {
+        ≡ update (exclusive_or entropy_input (seed_padded string)) (record {
           key = replicate 32 0;
           v = replicate 16 0;
           reseed_counter = 1;
@@ -92,13 +92,13 @@ pub fn request_rules()
     ensures returned { (n : ℕ) (x : List ℕ) (s : State) → returned_bits n x s
         ≡ output (prepared x s).key (prepared x s).v n }
     ensures left { (n : ℕ) (x : List ℕ) (s : State) → (generate n x s).key
-        ≡ (update (padded x) (record {
+        ≡ (update (seed_padded x) (record {
           key = (prepared x s).key;
           v = v_after (prepared x s).v (turns n);
           reseed_counter = s.reseed_counter;
         })).key }
     ensures moved { (n : ℕ) (x : List ℕ) (s : State) → (generate n x s).v
-        ≡ (update (padded x) (record {
+        ≡ (update (seed_padded x) (record {
           key = (prepared x s).key;
           v = v_after (prepared x s).v (turns n);
           reseed_counter = s.reseed_counter;

@@ -255,7 +255,7 @@ impl<C: BlockCipherEncrypt + KeyInit + Drop> CtrDrbg<C> {
     // The update before the output, if there is an additional input (10.2.1.5.1, step 2).
     #[tactic(auto, unfolding(crate::specs::CtrDrbg::prepared))]
     fn prepare(&mut self, additional_input: &[u8], provided_data: &[u8; SEED_LENGTH])
-        requires { provided_data.now ≡ nist.padded additional_input.now }
+        requires { provided_data.now ≡ nist.seed_padded additional_input.now }
         ensures { self.new ≡ nist.prepared additional_input.now self.old }
     {
         if additional_input.len() != 0 {

@@ -2,7 +2,7 @@
 
 ghost use Rattle.std.specs.Prelude.{◌≡◌, ◌≢◌, ◌↔◌, ◌⊎◌, ◌<◌, ◌≤◌, length, replicate, IsErr};
 ghost use Rattle.std.specs.Prelude.{IsErrOf};
-ghost use Rattle.ctr_drbg.specs.CtrDrbg.{padded, exclusive_or};
+ghost use Rattle.ctr_drbg.specs.CtrDrbg.{seed_padded, exclusive_or};
 
 use crate::errors::InvalidSeed;
 use aes_cipher::zeroize::Element;
@@ -39,7 +39,7 @@ pub(crate) type SeedRoom = [Seed; 1];
 #[tactic(auto, using(crate::proofs::Strings::written_over))]
 pub(crate) fn put_padded(string: &[u8], seed: &mut [u8; SEED_LENGTH])
     requires { length string.now ≤ 48 }
-    ensures { seed.new ≡ padded string.now }
+    ensures { seed.new ≡ seed_padded string.now }
 {
     *seed = [0; SEED_LENGTH];
     seed[..string.len()].copy_from_slice(string);
@@ -49,7 +49,7 @@ pub(crate) fn put_padded(string: &[u8], seed: &mut [u8; SEED_LENGTH])
 #[tactic(auto, using(crate::proofs::Strings::added))]
 fn add_padded(string: &[u8], seed: &mut [u8; SEED_LENGTH])
     requires { length string.now ≤ 48 }
-    ensures { seed.new ≡ exclusive_or seed.old (padded string.now) }
+    ensures { seed.new ≡ exclusive_or seed.old (seed_padded string.now) }
 {
     for i in 0..string.len() {
         seed[i] ^= string[i];
@@ -75,7 +75,7 @@ pub(crate) fn are_seeds(entropy_input: &[u8], string: &[u8]) -> Result<(), Inval
 pub(crate) fn put_seed_material(entropy_input: &[u8], string: &[u8], seed: &mut [u8; SEED_LENGTH])
     requires entropy { length entropy_input.now ≡ 48 }
     requires fits { length string.now ≤ 48 }
-    ensures { seed.new ≡ exclusive_or entropy_input.now (padded string.now) }
+    ensures { seed.new ≡ exclusive_or entropy_input.now (seed_padded string.now) }
 {
     seed.copy_from_slice(entropy_input);
     add_padded(string, seed);

@@ -1,8 +1,9 @@
 -- Messages that come in pieces: what is kept of them, by what has come so far.
-use Rattle.std.specs.Prelude.{◌≡◌, ◌≢◌, ℕ, ◌==◌, if◌then◌else◌, ◌-◌, ◌*◌, ◌/◌, ◌%◌, ◌^◌, ◌<◌, ◌≤◌, ◌⊎◌}
+use Rattle.std.specs.Prelude.{◌≡◌, ◌≢◌, ℕ, ◌==◌, if◌then◌else◌, ◌*◌, ◌/◌, ◌%◌, ◌⊎◌}
 use Rattle.std.specs.Prelude.{List, [], length, replicate, take, drop}
 use Rattle.std.specs.Int.{w128, from_be_bytes}
-use Rattle.gcm.specs.Gcm.{hashed, padded, hash_subkey, pre_counter}
+use Rattle.aes_cipher.specs.Blocks.{padded}
+use Rattle.gcm.specs.Gcm.{hashed, hash_subkey, pre_counter, IsHashedLength, IsTextLength}
 use Rattle.gcm.specs.declared.message.Message.{Message}
 use Rattle.gcm.specs.declared.message.Phase.{Phase}
 use Rattle.gcm.specs.declared.message.Phase.TheVariants.{NoMessage, Additional, Encrypting}
@@ -39,7 +40,7 @@ pub record IsBegun (w : List (List ℕ)) (iv a : List ℕ) (m : Message) : Type 
   pub phase : phase_of m.phase ≡ Additional
   pub first : from_be_bytes w128 m.first ≡ pre_counter (hash_subkey w) iv
   pub additional : m.additional ≡ length a
-  pub short : length a < 2 ^ 61
+  pub short : IsHashedLength (length a)
   pub text : m.text ≡ 0
   pub decrypted : m.decrypted ≡ 0
   pub hashing : IsHashing (hash_subkey w) 0 a (from_be_bytes w128 m.value) m.rest
@@ -51,9 +52,9 @@ pub record IsInText (turn : Phase) (w : List (List ℕ)) (iv a c : List ℕ)
   pub phase : phase_of m.phase ≡ turn
   pub first : from_be_bytes w128 m.first ≡ pre_counter (hash_subkey w) iv
   pub additional : m.additional ≡ length a
-  pub short : length a < 2 ^ 61
+  pub short : IsHashedLength (length a)
   pub text : m.text ≡ length c
-  pub short_text : length c ≤ 2 ^ 36 - 32
+  pub short_text : IsTextLength (length c)
   pub decrypted : m.decrypted ≡ 0
   pub hashing : IsHashing (hash_subkey w) (hashed_padded (hash_subkey w) a) c
       (from_be_bytes w128 m.value) m.rest

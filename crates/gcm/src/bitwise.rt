@@ -5,10 +5,10 @@
 ghost use Rattle.std.specs.Prelude.{◌≡◌, ◌/◌, length};
 ghost use Rattle.gcm.specs.Gcm.{hashed, ghash, product};
 
+use crate::byte_order::HighestFirst;
 use crate::field::{if_one, next_v};
 use crate::numbers::number_of;
-use crate::order::HighestFirst;
-use crate::singly::{Factor, hash_whole};
+use crate::single_blocks::{Factor, hash_whole};
 use std::simd::prelude::*;
 
 /// Returns the product of two blocks (6.3, algorithm 1): V_0, V_1, .. of H are summed where a bit

@@ -5,17 +5,18 @@ ghost use Rattle.std.specs.Prelude.{◌≡◌, ℕ, List, ◌/◌, ◌%◌, ◌<
 ghost use Rattle.gcm.specs.Pieces.{IsHashing};
 ghost use Rattle.std.specs.Int.{w128, from_be_bytes};
 ghost use Rattle.std.specs.Int.Bits.{bit_xor};
-ghost use Rattle.gcm.specs.Gcm.{hashed, padded, product};
+ghost use Rattle.aes_cipher.specs.Blocks.{padded};
+ghost use Rattle.gcm.specs.Gcm.{hashed, product};
 ghost use Rattle.gcm.specs.Multiples.{subkey_in, HasMultiples, subkey_alone, IsAlone};
 ghost use Rattle.gcm.specs.Multiples.{subkey_of_words, AreWords};
 
 use crate::bitwise::{WithMasks, product_bitwise};
+use crate::byte_order::HighestFirst;
 use crate::hash::{hash_string, hash_string_and};
 use crate::holes::{WithHoles, product_with_holes};
 use crate::multiples::{Multiples, Room, put_multiples};
 use crate::numbers::{number_of, vector_of};
-use crate::order::HighestFirst;
-use crate::singly::{hash_on_singly, hash_to_end_singly};
+use crate::single_blocks::{hash_on_singly, hash_to_end_singly};
 use crate::words::{number_of_words, words_of};
 use aes_cipher::blocks::{block_of_number, number_of_block};
 use aes_cipher::cipher::Block;

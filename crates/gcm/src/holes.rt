@@ -7,7 +7,7 @@ ghost use Rattle.gcm.specs.Gcm.{product};
 ghost use Rattle.gcm.specs.Carryless.{carryless};
 
 use crate::numbers::number_of;
-use crate::singly::Factor;
+use crate::single_blocks::Factor;
 use std::simd::prelude::*;
 
 // Every fourth bit of a word, from bit 0, 1, 2 or 3 on.

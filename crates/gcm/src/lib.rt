@@ -3,6 +3,7 @@
 #![tactic(auto)]
 
 mod bitwise;
+mod byte_order;
 mod counter;
 mod errors;
 pub mod examples;
@@ -17,13 +18,13 @@ mod mode;
 mod moved_rows;
 mod multiples;
 mod numbers;
-mod order;
 mod pieces;
 mod row_pairs;
-mod singly;
+mod single_blocks;
 mod words;
 
 pub use bitwise::{WithMasks, hash_bitwise, product_bitwise};
+pub use byte_order::{ByteOrder, HighestFirst};
 pub use counter::Counter;
 pub use errors::{InvalidMessage, InvalidPiece, NotAccepted, OutOfTurn, Refused, TooLong};
 pub use field::next_v;
@@ -35,6 +36,5 @@ pub use message::{Message, Phase};
 pub use mode::{BorrowedGcm, Gcm, LONGEST_HASHED, LONGEST_TEXT, SHALLOW, is_short_tag, prepare};
 pub use multiples::{Multiples, Room, Table, TableRoom, put_multiples, put_one_table};
 pub use numbers::sum;
-pub use order::{ByteOrder, HighestFirst};
-pub use singly::{Factor, hash_singly};
+pub use single_blocks::{Factor, hash_singly};
 pub use words::{number_of_words, words_of};

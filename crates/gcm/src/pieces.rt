@@ -3,8 +3,10 @@
 ghost use Rattle.std.specs.Prelude.{◌≡◌, ◌≢◌, ◌↔◌, ◌⊎◌, ◌+◌, ◌-◌, ◌/◌, ◌%◌, ◌^◌, ◌<◌, ◌≤◌, ℕ, List};
 ghost use Rattle.std.specs.Prelude.{[], ◌++◌, length, replicate, drop, IsOk, IsErr, IsErrOf};
 ghost use Rattle.std.specs.Prelude.{IsTrue, IfOk, OnOk, OnErr};
+ghost use Rattle.aes_cipher.specs.Blocks.{padded};
 ghost use Rattle.gcm.specs.Gcm as nist;
 ghost use Rattle.gcm.specs.Gcm.{nonce_number, IsShortTag};
+ghost use Rattle.gcm.specs.Gcm.{IsHashedLength, IsTextLength, IsTooMuchHashed, IsTooMuchText};
 ghost use Rattle.gcm.specs.Pieces.{hashed_padded, IsBegun, IsInText, IsAt, IsEncrypting};
 ghost use Rattle.gcm.specs.Pieces.{IsOutOfTurn, IsTurn, IsVerifying, IsDecrypting, IsKept};
 ghost use Rattle.gcm.specs.Pieces.{no_message, phase_of};
@@ -75,7 +77,8 @@ impl<'a, C: BlockCipherEncrypt, R: HashRoom> BorrowedGcm<'a, C, R> {
     /// The message is then unchanged.
     pub fn begin(&self, message: &mut Message, nonce: &[u8]) -> Result<(), InvalidMessage>
         ensures empty { IsErrOf result InvalidMessage.EmptyNonce ↔ (length nonce.now ≡ 0) }
-        ensures refusal { IsErr result ↔ ((length nonce.now ≡ 0) ⊎ (2 ^ 61 ≤ length nonce.now)) }
+        ensures refusal { IsErr result ↔ ((length nonce.now ≡ 0)
+            ⊎ IsTooMuchHashed (length nonce.now)) }
         ensures begun { OnOk result (IsBegun self.now nonce.now [] message.new) }
         ensures clean { OnOk result ((message.new.rest ≡ replicate 16 0)
             × (message.new.decrypted ≡ 0)) }
@@ -94,7 +97,7 @@ impl<'a, C: BlockCipherEncrypt, R: HashRoom> BorrowedGcm<'a, C, R> {
     /// Begins a message as `begin`, where the caller knows that the length of the nonce is allowed.
     pub fn start(&self, message: &mut Message, nonce: &[u8])
         requires some { 0 < length nonce.now }
-        requires nonce { length nonce.now < 2 ^ 61 }
+        requires nonce { IsHashedLength (length nonce.now) }
         ensures begun { IsBegun self.now nonce.now [] message.new }
         ensures clean { (message.new.rest ≡ replicate 16 0) × (message.new.decrypted ≡ 0) }
     {
@@ -133,7 +136,7 @@ impl<'a, C: BlockCipherEncrypt, R: HashRoom> BorrowedGcm<'a, C, R> {
         ensures out_of_turn { IsErrOf result InvalidPiece.OutOfTurn ↔
             (phase_of message.old.phase ≢ Phase.Additional) }
         ensures refusal { IsErr result ↔ ((phase_of message.old.phase ≢ Phase.Additional)
-            ⊎ (2 ^ 61 ≤ message.old.additional + length bytes.now)) }
+            ⊎ IsTooMuchHashed (message.old.additional + length bytes.now)) }
         ensures added { OnOk result ((iv a : List ℕ) → IsBegun self.now iv a message.old
             → IsBegun self.now iv (a ++ bytes.now) message.new) }
         ensures untouched { OnErr result (message.new ≡ message.old) }
@@ -168,7 +171,7 @@ impl<'a, C: BlockCipherEncrypt, R: HashRoom> BorrowedGcm<'a, C, R> {
         ensures out_of_turn { IsErrOf result InvalidPiece.OutOfTurn
             ↔ IsOutOfTurn Phase.Encrypting message.old }
         ensures refusal { IsErr result ↔ (IsOutOfTurn Phase.Encrypting message.old
-            ⊎ (2 ^ 36 - 32 < message.old.text + length text.old)) }
+            ⊎ IsTooMuchText (message.old.text + length text.old)) }
         ensures encrypted { OnOk result ((iv a p c : List ℕ)
             → IsEncrypting self.now iv a c message.old
             → c ≡ nist.text self.now iv p → c ++ text.new ≡ nist.text self.now iv (p ++ text.old)) }
@@ -221,7 +224,7 @@ impl<'a, C: BlockCipherEncrypt, R: HashRoom> BorrowedGcm<'a, C, R> {
         ensures out_of_turn { IsErrOf result InvalidPiece.OutOfTurn
             ↔ IsOutOfTurn Phase.Verifying message.old }
         ensures refusal { IsErr result ↔ (IsOutOfTurn Phase.Verifying message.old
-            ⊎ (2 ^ 36 - 32 < message.old.text + length text.now)) }
+            ⊎ IsTooMuchText (message.old.text + length text.now)) }
         ensures added { OnOk result ((iv a c : List ℕ) → IsVerifying self.now iv a c message.old
             → IsInText Phase.Verifying self.now iv a (c ++ text.now) message.new) }
         ensures untouched { OnErr result (message.new ≡ message.old) }
@@ -315,7 +318,7 @@ impl<'a, C: BlockCipherEncrypt, R: HashRoom> BorrowedGcm<'a, C, R> {
             (phase_of message.old.phase ≢ Phase.Decrypting) }
         ensures refusal { IsErr result ↔ ((phase_of message.old.phase ≢ Phase.Decrypting)
             ⊎ ((message.old.text < message.old.decrypted + length text.old)
-            ⊎ (2 ^ 36 - 32 < message.old.decrypted + length text.old))) }
+            ⊎ IsTooMuchText (message.old.decrypted + length text.old))) }
         ensures decrypted { OnOk result ((n : ℕ) (iv c : List ℕ)
             → IsDecrypting self.now iv n c message.old
             → nist.text self.now iv c ++ text.new ≡ nist.text self.now iv (c ++ text.old)) }
@@ -356,7 +359,7 @@ impl<'a, C: BlockCipherEncrypt, R: HashRoom> BorrowedGcm<'a, C, R> {
         ensures out_of_turn { IsErrOf result InvalidPiece.OutOfTurn
             ↔ IsOutOfTurn Phase.Verifying message.old }
         ensures refusal { IsErr result ↔ (IsOutOfTurn Phase.Verifying message.old
-            ⊎ (2 ^ 36 - 32 < message.old.text + length text.old)) }
+            ⊎ IsTooMuchText (message.old.text + length text.old)) }
         ensures decrypted { OnOk result ((iv a c : List ℕ) → IsVerifying self.now iv a c message.old
             → nist.text self.now iv c ++ text.new ≡ nist.text self.now iv (c ++ text.old)) }
         ensures added { OnOk result ((iv a c : List ℕ) → IsVerifying self.now iv a c message.old
@@ -379,7 +382,7 @@ impl<'a, C: BlockCipherEncrypt, R: HashRoom> BorrowedGcm<'a, C, R> {
             ↔ IsOutOfTurn phase message.old }
         ensures refusal { IsErr result ↔
             (IsOutOfTurn phase message.old
-            ⊎ (2 ^ 36 - 32 < message.old.text + more)) }
+            ⊎ IsTooMuchText (message.old.text + more)) }
         ensures turned { OnOk result ((iv a c : List ℕ) → IsAt phase self.now iv a c message.old
             → IsInText phase self.now iv a c message.new) }
         ensures phase { OnOk result (phase_of message.new.phase ≡ phase) }
@@ -409,8 +412,8 @@ impl<'a, C: BlockCipherEncrypt, R: HashRoom> BorrowedGcm<'a, C, R> {
         ensures text { (phase : Phase) (iv a c : List ℕ) → phase ≢ Phase.Additional
             → IsInText phase self.now iv a c message.now
             → result ≡ nist.hashed (nist.hash_subkey self.now)
-            (hashed_padded (nist.hash_subkey self.now) a) (nist.padded c)
-            (length (nist.padded c) / 16) }
+            (hashed_padded (nist.hash_subkey self.now) a) (padded c)
+            (length (padded c) / 16) }
     {
         let filled = filled(message);
         let before = number_of_block(&message.value);
@@ -420,7 +423,7 @@ impl<'a, C: BlockCipherEncrypt, R: HashRoom> BorrowedGcm<'a, C, R> {
     // Takes more of a cipher text into GHASH.
     fn hash_text(&self, message: &mut Message, text: &[u8])
         requires phase { phase_of message.old.phase ≢ Phase.Additional }
-        requires short { message.old.text + length text.now ≤ 2 ^ 36 - 32 }
+        requires short { IsTextLength (message.old.text + length text.now) }
         ensures { (phase : Phase) (iv a c : List ℕ) → IsInText phase self.now iv a c message.old
             → IsInText phase self.now iv a (c ++ text.now) message.new }
     {

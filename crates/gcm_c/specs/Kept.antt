@@ -1,7 +1,7 @@
 -- The struct that a caller keeps: a key, and the multiples of its H.
-use Rattle.std.specs.Prelude.{◌≡◌, ◌⊎◌, ℕ, ◌-◌, ◌^◌, ◌<◌, ◌≤◌, List}
+use Rattle.std.specs.Prelude.{◌≡◌, ℕ, ◌<◌, List}
 use Rattle.aes_planes.specs.Fips197 as fips
-use Rattle.gcm.specs.Gcm.{hash_subkey}
+use Rattle.gcm.specs.Gcm.{hash_subkey, IsHashedLength}
 use Rattle.gcm_c.specs.Form.{key_in, no_key, no_room, subkey_of, HoldsKey, IsKept, IsRoom}
 use Rattle.gcm_c.specs.declared.kept.Gcm.{Gcm}
 
@@ -22,8 +22,4 @@ no_gcm = record { key = no_key; multiples = no_room }
 
 -- a number of bytes that a nonce can have (SP 800-38D, 5.2.1.1)
 abbrev pub IsNonceLength : ℕ → Type 0
-IsNonceLength n = (0 < n) × (n < 2 ^ 61)
-
--- more bytes of additional data, or of text, than a message can have (SP 800-38D, 5.2.1.1)
-abbrev pub IsTooLong : ℕ → ℕ → Type 0
-IsTooLong additional text = (2 ^ 61 ≤ additional) ⊎ (2 ^ 36 - 32 < text)
+IsNonceLength n = (0 < n) × IsHashedLength n

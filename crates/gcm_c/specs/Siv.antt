@@ -1,11 +1,11 @@
 -- The struct of AES-GCM-SIV that a caller keeps: a key, of 16 or 32 bytes.
 use Rattle.std.specs.Prelude.{◌⊎◌, ℕ, ◌^◌, ◌<◌}
-use Rattle.gcm_siv.specs.GcmSiv.{IsKeySize}
+use Rattle.gcm_siv.specs.GcmSiv.{IsSivKeySize}
 use Rattle.gcm_c.specs.Form.{KeptKey, IsKept}
 
 -- whether a struct holds a key of AES-GCM-SIV
 abbrev pub HoldsSivKey : KeptKey → Type 0
-HoldsSivKey siv = IsKeySize siv.length
+HoldsSivKey siv = IsSivKeySize siv.length
 
 -- a struct in order, as set_key and wipe leave it, and as zeros are
 abbrev pub IsSivMade : KeptKey → Type 0

@@ -1,11 +1,11 @@
 //! Nonces that the library counts and the caller keeps.
 
-ghost use Rattle.std.specs.Prelude.{◌≡◌, ◌≢◌, ◌↔◌, ◌+◌, ◌-◌, ◌^◌, ◌<◌, ◌≤◌, [], length, replicate};
+ghost use Rattle.std.specs.Prelude.{◌≡◌, ◌≢◌, ◌↔◌, ◌+◌, ◌-◌, ◌^◌, [], length, replicate};
 ghost use Rattle.gcm_c.specs.Form.{HoldsKey};
 ghost use Rattle.gcm.specs.Gcm as nist;
-ghost use Rattle.gcm.specs.Gcm.{nonce_number};
+ghost use Rattle.gcm.specs.Gcm.{nonce_number, IsHashedLength, IsTextLength, IsTooLong};
 ghost use Rattle.gcm.specs.Pieces.{IsBegun};
-ghost use Rattle.gcm_c.specs.Kept.{round_keys_in, IsMade, IsTooLong};
+ghost use Rattle.gcm_c.specs.Kept.{round_keys_in, IsMade};
 
 use crate::kept::{Gcm, holds_key, mode_of};
 use crate::status::{DONE, NO_KEY, NONCES_END, TOO_LONG};
@@ -29,8 +29,8 @@ pub extern "C" fn fotsgure_gcm_seal_next(
     ensures too_long { result ≡ TOO_LONG ↔ (nonce_number counter.old.next ≢ 2 ^ 96 - 1)
         × IsTooLong (length additional.now) (length text.old) }
     ensures done { result ≡ DONE ↔ (nonce_number counter.old.next ≢ 2 ^ 96 - 1)
-        × ((length additional.now < 2 ^ 61)
-        × ((length text.old ≤ 2 ^ 36 - 32) × HoldsKey gcm.now.key)) }
+        × (IsHashedLength (length additional.now)
+        × (IsTextLength (length text.old) × HoldsKey gcm.now.key)) }
     ensures refused { result ≢ DONE → result ≢ NONCES_END → result ≢ TOO_LONG → result ≡ NO_KEY }
     ensures nonce { result ≡ DONE → nonce.new ≡ counter.old.next }
     ensures encrypted { result ≡ DONE → text.new

@@ -2,12 +2,13 @@
 //! a constant or a definition is refused. The last call says what a text is encrypted to under the
 //! bytes of a key; the others have no effect.
 
-ghost use Rattle.std.specs.Prelude.{◌≡◌, ◌↔◌, ◌-◌, ◌^◌, ◌<◌, ◌≤◌, length};
+ghost use Rattle.std.specs.Prelude.{◌≡◌, ◌↔◌, ◌^◌, ◌≤◌, length};
 ghost use Rattle.aes_planes.specs.Fips197 as fips;
 ghost use Rattle.aes_cipher.specs.KeySizes.{IsKeySize};
 ghost use Rattle.gcm.specs.Gcm as nist;
+ghost use Rattle.gcm.specs.Gcm.{IsHashedLength, IsTextLength, IsTooLong};
 ghost use Rattle.gcm_siv.specs.GcmSiv as rfc;
-ghost use Rattle.gcm_c.specs.Kept.{IsNonceLength, IsTooLong};
+ghost use Rattle.gcm_c.specs.Kept.{IsNonceLength};
 ghost use Rattle.gcm_c.specs.Siv.{IsSivTooLong};
 
 use crate::VERSION;
@@ -44,15 +45,12 @@ const _: () = prove!(size_of::<Counter>() == 12);
 
 const _: () = prove!(size_of::<Message>() == 80);
 
-/// The lengths of nonces, those on either side of them, and the most that a message may have.
+/// The lengths of nonces, and those on either side of them.
 pub fn length_examples()
     ensures shortest_nonce { IsNonceLength 1 }
     ensures longest_nonce { IsNonceLength 2305843009213693951 }
     ensures nonce_too_long { ¬ IsNonceLength 2305843009213693952 }
     ensures no_nonce { ¬ IsNonceLength 0 }
-    ensures longest { ¬ IsTooLong 2305843009213693951 68719476704 }
-    ensures text_too_long { IsTooLong 0 68719476705 }
-    ensures additional_too_long { IsTooLong 2305843009213693952 0 }
 {}
 
 /// The most that a message of AES-GCM-SIV may have.
@@ -79,7 +77,7 @@ pub fn set_key_and_seal(
         × (IsNonceLength (length nonce.now)
         × IsTooLong (length additional.now) (length text.old)) }
     ensures done { result ≡ DONE ↔ IsKeySize (length key.now) × (IsNonceLength (length nonce.now)
-        × ((length additional.now < 2 ^ 61) × (length text.old ≤ 2 ^ 36 - 32))) }
+        × (IsHashedLength (length additional.now) × IsTextLength (length text.old))) }
     ensures encrypted { result ≡ DONE → text.new
         ≡ nist.text (fips.key_expansion key.now) nonce.now text.old }
     ensures tag { result ≡ DONE
@@ -102,10 +100,10 @@ pub fn siv_set_key_and_seal(
     text: &mut [u8],
     tag: &mut [u8; 16],
 ) -> u32
-    ensures key_length { result ≡ KEY_LENGTH ↔ ¬ rfc.IsKeySize (length key.now) }
-    ensures too_long { result ≡ TOO_LONG ↔ rfc.IsKeySize (length key.now)
+    ensures key_length { result ≡ KEY_LENGTH ↔ ¬ rfc.IsSivKeySize (length key.now) }
+    ensures too_long { result ≡ TOO_LONG ↔ rfc.IsSivKeySize (length key.now)
         × IsSivTooLong (length additional.now) (length text.old) }
-    ensures done { result ≡ DONE ↔ rfc.IsKeySize (length key.now)
+    ensures done { result ≡ DONE ↔ rfc.IsSivKeySize (length key.now)
         × ((length additional.now ≤ 2 ^ 36) × (length text.old ≤ 2 ^ 36)) }
     ensures tag { result ≡ DONE → tag.new ≡ rfc.tag key.now nonce.now additional.now text.old }
     ensures encrypted { result ≡ DONE → text.new ≡ rfc.text key.now nonce.now tag.new text.old }

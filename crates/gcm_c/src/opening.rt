@@ -1,9 +1,9 @@
 //! Messages in pieces, decrypted once their tag is found right.
 
-ghost use Rattle.std.specs.Prelude.{◌≡◌, ◌≢◌, ◌↔◌, ◌+◌, ◌-◌, ◌/◌, ◌^◌, ◌≤◌, ℕ, List, [], ◌++◌};
+ghost use Rattle.std.specs.Prelude.{◌≡◌, ◌≢◌, ◌↔◌, ◌+◌, ◌≤◌, ℕ, List, [], ◌++◌};
 ghost use Rattle.std.specs.Prelude.{length};
 ghost use Rattle.gcm.specs.Gcm as nist;
-ghost use Rattle.gcm.specs.Gcm.{IsShortTag};
+ghost use Rattle.gcm.specs.Gcm.{IsShortTag, IsTextLength};
 ghost use Rattle.gcm.specs.declared.message.Phase.{Phase};
 ghost use Rattle.gcm_c.specs.Form.{HoldsKey};
 ghost use Rattle.gcm_c.specs.Kept.{round_keys_in, IsMade};
@@ -36,7 +36,7 @@ pub extern "C" fn fotsgure_gcm_verify(gcm: &Gcm, message: &mut Message, text: &[
         × IsOutOfTurn Phase.Verifying message.old }
     ensures done { result ≡ DONE ↔ HoldsKey gcm.now.key
         × (IsTurn Phase.Verifying message.old
-        × (message.old.text + length text.now ≤ 2 ^ 36 - 32)) }
+        × IsTextLength (message.old.text + length text.now)) }
     ensures refused { result ≢ DONE → result ≢ NO_KEY → result ≢ OUT_OF_TURN → result ≡ TOO_LONG }
     ensures added { let w = round_keys_in gcm.now in
         result ≡ DONE → (iv a c : List ℕ) → IsVerifying w iv a c message.old
@@ -147,7 +147,7 @@ pub extern "C" fn fotsgure_gcm_decrypt(gcm: &Gcm, message: &mut Message, text: &
     ensures done { result ≡ DONE ↔ HoldsKey gcm.now.key
         × ((phase_of message.old.phase ≡ Phase.Decrypting)
         × ((message.old.decrypted + length text.old ≤ message.old.text)
-        × (message.old.decrypted + length text.old ≤ 2 ^ 36 - 32))) }
+        × IsTextLength (message.old.decrypted + length text.old))) }
     ensures refused { result ≢ DONE → result ≢ NO_KEY → result ≢ OUT_OF_TURN → result ≡ TOO_LONG }
     ensures decrypted { let w = round_keys_in gcm.now in
         result ≡ DONE → (n : ℕ) (iv c : List ℕ) → IsDecrypting w iv n c message.old
@@ -187,7 +187,7 @@ pub extern "C" fn fotsgure_gcm_decrypt_unverified(
         × IsOutOfTurn Phase.Verifying message.old }
     ensures done { result ≡ DONE ↔ HoldsKey gcm.now.key
         × (IsTurn Phase.Verifying message.old
-        × (message.old.text + length text.old ≤ 2 ^ 36 - 32)) }
+        × IsTextLength (message.old.text + length text.old)) }
     ensures refused { result ≢ DONE → result ≢ NO_KEY → result ≢ OUT_OF_TURN → result ≡ TOO_LONG }
     ensures decrypted { let w = round_keys_in gcm.now in
         result ≡ DONE → (iv a c : List ℕ) → IsVerifying w iv a c message.old

@@ -1,8 +1,9 @@
 //! A message that comes in pieces: its beginning and its additional data.
 
-ghost use Rattle.std.specs.Prelude.{◌≡◌, ◌≢◌, ◌↔◌, ◌+◌, ◌-◌, ◌/◌, ◌^◌, ◌<◌, ℕ, List, [], ◌++◌};
+ghost use Rattle.std.specs.Prelude.{◌≡◌, ◌≢◌, ◌↔◌, ◌+◌, ℕ, List, [], ◌++◌};
 ghost use Rattle.std.specs.Prelude.{length, replicate};
 ghost use Rattle.gcm.specs.Gcm as nist;
+ghost use Rattle.gcm.specs.Gcm.{IsHashedLength};
 ghost use Rattle.gcm.specs.declared.message.Phase.{Phase};
 ghost use Rattle.gcm_c.specs.Form.{HoldsKey};
 ghost use Rattle.gcm_c.specs.Kept.{round_keys_in, IsMade, IsNonceLength};
@@ -64,7 +65,7 @@ pub extern "C" fn fotsgure_gcm_additional(
         × (phase_of message.old.phase ≢ Phase.Additional) }
     ensures done { result ≡ DONE ↔ HoldsKey gcm.now.key
         × ((phase_of message.old.phase ≡ Phase.Additional)
-        × (message.old.additional + length additional.now < 2 ^ 61)) }
+        × IsHashedLength (message.old.additional + length additional.now)) }
     ensures refused { result ≢ DONE → result ≢ NO_KEY → result ≢ OUT_OF_TURN → result ≡ TOO_LONG }
     ensures added { let w = round_keys_in gcm.now in
         result ≡ DONE → (iv a : List ℕ) → IsBegun w iv a message.old

@@ -1,8 +1,9 @@
 //! Messages in pieces, encrypted.
 
-ghost use Rattle.std.specs.Prelude.{◌≡◌, ◌≢◌, ◌↔◌, ◌+◌, ◌-◌, ◌/◌, ◌^◌, ◌≤◌, ℕ, List, ◌++◌};
+ghost use Rattle.std.specs.Prelude.{◌≡◌, ◌≢◌, ◌↔◌, ◌+◌, ℕ, List, ◌++◌};
 ghost use Rattle.std.specs.Prelude.{length};
 ghost use Rattle.gcm.specs.Gcm as nist;
+ghost use Rattle.gcm.specs.Gcm.{IsTextLength};
 ghost use Rattle.gcm.specs.declared.message.Phase.{Phase};
 ghost use Rattle.gcm_c.specs.Form.{HoldsKey};
 ghost use Rattle.gcm_c.specs.Kept.{round_keys_in, IsMade};
@@ -23,7 +24,7 @@ pub extern "C" fn fotsgure_gcm_encrypt(gcm: &Gcm, message: &mut Message, text: &
         × IsOutOfTurn Phase.Encrypting message.old }
     ensures done { result ≡ DONE ↔ HoldsKey gcm.now.key
         × (IsTurn Phase.Encrypting message.old
-        × (message.old.text + length text.old ≤ 2 ^ 36 - 32)) }
+        × IsTextLength (message.old.text + length text.old)) }
     ensures refused { result ≢ DONE → result ≢ NO_KEY → result ≢ OUT_OF_TURN → result ≡ TOO_LONG }
     ensures encrypted { let w = round_keys_in gcm.now in
         result ≡ DONE → (iv a p c : List ℕ) → IsEncrypting w iv a c message.old

@@ -5,7 +5,8 @@ ghost use Rattle.std.specs.Prelude.{IsTrue, false};
 ghost use Rattle.std.specs.Int.{w128, from_le_bytes};
 ghost use Rattle.gcm.specs.Gcm.{next_v};
 ghost use Rattle.gcm_siv.specs.GcmSiv as rfc;
-ghost use Rattle.gcm_siv.specs.GcmSiv.{authentication_key, encryption_key, IsAuthentic, IsKeySize};
+ghost use Rattle.gcm_siv.specs.GcmSiv.{authentication_key, encryption_key, IsAuthentic};
+ghost use Rattle.gcm_siv.specs.GcmSiv.{IsSivKeySize};
 ghost use Rattle.gcm_c.specs.Form.{key_in, IsKept};
 ghost use Rattle.gcm_c.specs.Siv.{HoldsSivKey, IsSivMade, IsSivTooLong};
 
@@ -38,7 +39,7 @@ pub(crate) fn siv_refusal(siv: &Siv, additional: usize, text: usize) -> u32
 
 // Expands the encryption key: the block after the first, or the two.
 fn set_derived(keys: &KeyRoom, size: usize, kept: &mut KeptKey)
-    requires { IsKeySize size }
+    requires { IsSivKeySize size }
     ensures kept { IsKept kept.new }
     ensures size { kept.new.length ≡ size }
     ensures short { size ≡ 16 → key_in kept.new ≡ slice_index_or keys.now 1 [] }

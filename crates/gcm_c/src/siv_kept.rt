@@ -1,7 +1,7 @@
 //! The struct of AES-GCM-SIV that a caller keeps: a key as its stored round keys.
 
 ghost use Rattle.std.specs.Prelude.{◌≡◌, ◌≢◌, ◌↔◌, length, true};
-ghost use Rattle.gcm_siv.specs.GcmSiv.{IsKeySize};
+ghost use Rattle.gcm_siv.specs.GcmSiv.{IsSivKeySize};
 ghost use Rattle.gcm_c.specs.Form.{key_in, no_key, IsZeroAfter};
 ghost use Rattle.gcm_c.specs.Siv.{IsSivMade};
 
@@ -15,7 +15,7 @@ pub type Siv = KeptKey;
 
 /// Returns whether a key of AES-GCM-SIV has this many bytes: 16 or 32.
 pub(crate) fn is_siv_key(bytes: usize) -> bool
-    ensures { result ≡ true ↔ IsKeySize bytes }
+    ensures { result ≡ true ↔ IsSivKeySize bytes }
 {
     bytes == 16 || bytes == 32
 }
@@ -25,7 +25,7 @@ pub(crate) fn is_siv_key(bytes: usize) -> bool
 /// of what it held before is left in either case.
 #[unsafe(no_mangle)]
 pub extern "C" fn fotsgure_gcm_siv_set_key(siv: &mut Siv, key: &[u8]) -> u32
-    ensures done { result ≡ DONE ↔ IsKeySize (length key.now) }
+    ensures done { result ≡ DONE ↔ IsSivKeySize (length key.now) }
     ensures refused { result ≢ DONE → result ≡ KEY_LENGTH }
     ensures made { IsSivMade siv.new }
     ensures key { result ≡ DONE → key_in siv.new ≡ key.now }

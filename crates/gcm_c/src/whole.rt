@@ -1,9 +1,10 @@
 //! A message in one call.
 
-ghost use Rattle.std.specs.Prelude.{◌≡◌, ◌≢◌, ◌↔◌, ◌-◌, ◌/◌, ◌^◌, ◌<◌, ◌≤◌, length};
+ghost use Rattle.std.specs.Prelude.{◌≡◌, ◌≢◌, ◌↔◌, length};
 ghost use Rattle.gcm.specs.Gcm as nist;
+ghost use Rattle.gcm.specs.Gcm.{IsHashedLength, IsTextLength, IsTooLong};
 ghost use Rattle.gcm_c.specs.Form.{HoldsKey};
-ghost use Rattle.gcm_c.specs.Kept.{round_keys_in, IsMade, IsNonceLength, IsTooLong};
+ghost use Rattle.gcm_c.specs.Kept.{round_keys_in, IsMade, IsNonceLength};
 
 use crate::kept::{Gcm, holds_key, mode_of};
 use crate::status::{DONE, NO_KEY, NONCE_LENGTH, REFUSED, TAG_LENGTH, TOO_LONG};
@@ -14,7 +15,7 @@ pub(crate) fn refusal(gcm: &Gcm, nonce: usize, additional: usize, text: usize) -
     ensures nonce_length { result ≡ NONCE_LENGTH ↔ ¬ IsNonceLength nonce }
     ensures too_long { result ≡ TOO_LONG ↔ IsNonceLength nonce × IsTooLong additional text }
     ensures done { result ≡ DONE ↔ IsNonceLength nonce
-        × ((additional < 2 ^ 61) × ((text ≤ 2 ^ 36 - 32)
+        × (IsHashedLength additional × (IsTextLength text
         × HoldsKey gcm.now.key)) }
     ensures refused { result ≢ DONE → result ≢ NONCE_LENGTH → result ≢ TOO_LONG → result ≡ NO_KEY }
 {
@@ -46,8 +47,8 @@ pub extern "C" fn fotsgure_gcm_seal(
     ensures too_long { result ≡ TOO_LONG
         ↔ IsNonceLength (length nonce.now) × IsTooLong (length additional.now) (length text.old) }
     ensures done { result ≡ DONE ↔ IsNonceLength (length nonce.now)
-        × ((length additional.now < 2 ^ 61)
-        × ((length text.old ≤ 2 ^ 36 - 32) × HoldsKey gcm.now.key)) }
+        × (IsHashedLength (length additional.now)
+        × (IsTextLength (length text.old) × HoldsKey gcm.now.key)) }
     ensures refused { result ≢ DONE → result ≢ NONCE_LENGTH → result ≢ TOO_LONG → result ≡ NO_KEY }
     ensures encrypted { result ≡ DONE → text.new
         ≡ nist.text (round_keys_in gcm.now) nonce.now text.old }
@@ -83,11 +84,11 @@ pub extern "C" fn fotsgure_gcm_open(
     ensures too_long { result ≡ TOO_LONG ↔ (length tag.now ≡ 16) × (IsNonceLength (length nonce.now)
         × IsTooLong (length additional.now) (length text.old)) }
     ensures no_key { result ≡ NO_KEY ↔ (length tag.now ≡ 16) × (IsNonceLength (length nonce.now)
-        × ((length additional.now < 2 ^ 61)
-        × ((length text.old ≤ 2 ^ 36 - 32) × ¬ HoldsKey gcm.now.key))) }
+        × (IsHashedLength (length additional.now)
+        × (IsTextLength (length text.old) × ¬ HoldsKey gcm.now.key))) }
     ensures done { result ≡ DONE ↔ (length tag.now ≡ 16) × (IsNonceLength (length nonce.now)
-        × ((length additional.now < 2 ^ 61)
-        × ((length text.old ≤ 2 ^ 36 - 32) × (HoldsKey gcm.now.key
+        × (IsHashedLength (length additional.now)
+        × (IsTextLength (length text.old) × (HoldsKey gcm.now.key
         × (tag.now ≡ nist.tag (round_keys_in gcm.now) nonce.now additional.now text.old))))) }
     ensures refused { result ≢ DONE → result ≢ TAG_LENGTH → result ≢ NONCE_LENGTH
         → result ≢ TOO_LONG

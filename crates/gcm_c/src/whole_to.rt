@@ -1,9 +1,10 @@
 //! A message in one call, from one buffer to another.
 
-ghost use Rattle.std.specs.Prelude.{◌≡◌, ◌≢◌, ◌↔◌, ◌-◌, ◌^◌, ◌<◌, ◌≤◌, length, replicate};
+ghost use Rattle.std.specs.Prelude.{◌≡◌, ◌≢◌, ◌↔◌, length, replicate};
 ghost use Rattle.gcm.specs.Gcm as nist;
+ghost use Rattle.gcm.specs.Gcm.{IsHashedLength, IsTextLength, IsTooLong};
 ghost use Rattle.gcm_c.specs.Form.{HoldsKey};
-ghost use Rattle.gcm_c.specs.Kept.{round_keys_in, IsMade, IsNonceLength, IsTooLong};
+ghost use Rattle.gcm_c.specs.Kept.{round_keys_in, IsMade, IsNonceLength};
 
 use crate::kept::{Gcm, mode_of};
 use crate::status::{DONE, NO_KEY, NONCE_LENGTH, REFUSED, TAG_LENGTH, TOO_LONG, UNEQUAL_LENGTHS};
@@ -29,8 +30,8 @@ pub extern "C" fn fotsgure_gcm_seal_to(
         × (IsNonceLength (length nonce.now)
         × IsTooLong (length additional.now) (length input.now)) }
     ensures done { result ≡ DONE ↔ (length input.now ≡ length output.old)
-        × (IsNonceLength (length nonce.now) × ((length additional.now < 2 ^ 61)
-        × ((length input.now ≤ 2 ^ 36 - 32) × HoldsKey gcm.now.key))) }
+        × (IsNonceLength (length nonce.now) × (IsHashedLength (length additional.now)
+        × (IsTextLength (length input.now) × HoldsKey gcm.now.key))) }
     ensures refused { result ≢ DONE → result ≢ UNEQUAL_LENGTHS → result ≢ NONCE_LENGTH
         → result ≢ TOO_LONG → result ≡ NO_KEY }
     ensures encrypted { result ≡ DONE → output.new
@@ -75,12 +76,12 @@ pub extern "C" fn fotsgure_gcm_open_to(
         × IsTooLong (length additional.now) (length input.now))) }
     ensures no_key { result ≡ NO_KEY ↔ (length input.now ≡ length output.old)
         × ((length tag.now ≡ 16) × (IsNonceLength (length nonce.now)
-        × ((length additional.now < 2 ^ 61)
-        × ((length input.now ≤ 2 ^ 36 - 32) × ¬ HoldsKey gcm.now.key)))) }
+        × (IsHashedLength (length additional.now)
+        × (IsTextLength (length input.now) × ¬ HoldsKey gcm.now.key)))) }
     ensures done { result ≡ DONE ↔ (length input.now ≡ length output.old)
         × ((length tag.now ≡ 16) × (IsNonceLength (length nonce.now)
-        × ((length additional.now < 2 ^ 61)
-        × ((length input.now ≤ 2 ^ 36 - 32) × (HoldsKey gcm.now.key
+        × (IsHashedLength (length additional.now)
+        × (IsTextLength (length input.now) × (HoldsKey gcm.now.key
         × (tag.now ≡ nist.tag (round_keys_in gcm.now) nonce.now additional.now input.now)))))) }
     ensures refused { result ≢ DONE → result ≢ UNEQUAL_LENGTHS → result ≢ TAG_LENGTH
         → result ≢ NONCE_LENGTH → result ≢ TOO_LONG

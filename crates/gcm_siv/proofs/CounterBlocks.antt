@@ -8,7 +8,7 @@ use Rattle.aes_ctr.specs.CounterMode.{plus_stream}
 use Rattle.aes_ctr.specs.Streams.{stream_byte}
 use Rattle.gcm_siv.specs.GcmSiv.{counter, counter_block, counter_mode, keystream_byte}
 
--- the counter that counting begins with
+-- the first counter of a run of counter blocks
 pub counter_first : (start : List ℕ) (j n : ℕ) → n ≡ from_le_bytes w32 (take 4 start)
     → (n + j % 2 ^ 32) % 2 ^ 32 ≡ counter start (j + 0)
 unfolding counter
@@ -18,7 +18,7 @@ counter_first start j n is =
     wrapped : (m j : ℕ) → (m + j % 2 ^ 32) % 2 ^ 32 ≡ (m + (j + 0)) % 2 ^ 32
     wrapped m j = omega arith
 
--- counting on by one
+-- the counter after the next block is one more
 pub counter_next : (start : List ℕ) (j i n : ℕ) → n ≡ counter start (j + i)
     → counter start (j + (i + 1)) ≡ (n + 1) % 2 ^ 32
 unfolding counter
@@ -28,7 +28,7 @@ counter_next start j i n is =
     on : (m j i : ℕ) → ((m + (j + i)) % 2 ^ 32 + 1) % 2 ^ 32 ≡ (m + (j + (i + 1))) % 2 ^ 32
     on m j i = omega arith
 
--- one more counter block is written
+-- after one more counter block is written, each one up to it is a counter block
 pub counted_one : (start : List ℕ) (blocks : List (List ℕ)) (j i k n : ℕ) (block : List ℕ)
     → n ≡ counter start (j + i)
     → block ≡ to_le_bytes w32 n ++ drop 4 start → i < length blocks

@@ -3,10 +3,10 @@ use Rattle.std.proofs.Common.{◌≡◌, ℕ, ◌+◌, ◌/◌, ◌<◌, ◌==�
 use Rattle.std.proofs.Common.{map, slice_index_or, inl, inr, ap, sym, ◌∙◌, arith, take, drop}
 use Rattle.std.proofs.lemmas.List.{append-nil, get_or-take, take-take}
 use Rattle.aes_planes.specs.Fips197.{cipher_with, key_expansion}
-use Rattle.gcm_siv.specs.GcmSiv.{derived, authentication_key, encryption_key, IsKeySize}
+use Rattle.gcm_siv.specs.GcmSiv.{derived, authentication_key, encryption_key, IsSivKeySize}
 use Rattle.gcm_siv.specs.Private.{derived_keys, halves_of_six, numbered}
 
--- the halves of the ciphers of the first four numbered blocks
+-- two keys are the halves of the ciphers of the first four numbered blocks
 four : (w : List (List ℕ)) (nonce : List ℕ) (first keys : List (List ℕ))
     → first ≡ map (cipher_with w) (take 4 (numbered nonce))
     → take 3 keys ≡ halves_of_six (first ++ drop 4 (numbered nonce))
@@ -16,7 +16,7 @@ four w nonce first keys is made =
     sym (take-take 2 3 keys (omega arith)) ∙ ap (take 2) made
     ∙ ap (λ l. take 2 (halves_of_six (l ++ drop 4 (numbered nonce)))) is
 
--- the halves of the ciphers of all six numbered blocks
+-- three keys are the halves of the ciphers of all six numbered blocks
 six : (w : List (List ℕ)) (nonce : List ℕ) (first keys : List (List ℕ))
     → first ≡ map (cipher_with w) (take 6 (numbered nonce))
     → take 3 keys ≡ halves_of_six (first ++ drop 6 (numbered nonce))
@@ -25,9 +25,9 @@ unfolding numbered halves_of_six derived_keys derived
 six w nonce first keys is made =
     made ∙ ap (λ l. halves_of_six (l ++ drop 6 (numbered nonce))) is
 
--- four ciphers for a key of 16 bytes, six for one of 32
+-- the derived keys: four ciphers for a key of 16 bytes, six for one of 32
 pub derived_is : (w : List (List ℕ)) (nonce : List ℕ) (first keys : List (List ℕ)) (size : ℕ)
-    → IsKeySize size
+    → IsSivKeySize size
     → first ≡ map (cipher_with w) (take (size / 8 + 2) (numbered nonce))
     → take 3 keys ≡ halves_of_six (first ++ drop (size / 8 + 2) (numbered nonce))
     → take (size / 16 + 1) keys ≡ take (size / 16 + 1) (derived_keys w nonce)
@@ -54,7 +54,7 @@ key_at w nonce keys n i is inside =
     sym (get_or-take n keys i [] inside) ∙ ap (λ l. slice_index_or l i []) is
     ∙ get_or-take n (derived_keys w nonce) i [] inside
 
--- the authentication key
+-- the first derived key is the authentication key
 pub authentication_is : (key nonce : List ℕ) (w keys : List (List ℕ)) (n : ℕ)
     → w ≡ key_expansion key
     → take (n + 1) keys ≡ take (n + 1) (derived_keys w nonce)
@@ -91,9 +91,9 @@ long_is key nonce w keys expanded second third sized =
     ∙ sym (ap (λ n. derived v nonce 2 ++ derived v nonce 3
     ++ (if n == 32 then derived v nonce 4 ++ derived v nonce 5 else [])) sized)
 
--- the encryption key, of either size
-pub encryption_is : (key nonce made : List ℕ) (w keys : List (List ℕ)) (size : ℕ) → IsKeySize size
-    → length key ≡ size
+-- the encryption key under a key of either size
+pub encryption_is : (key nonce made : List ℕ) (w keys : List (List ℕ)) (size : ℕ)
+    → IsSivKeySize size → length key ≡ size
     → w ≡ key_expansion key → take (size / 16 + 1) keys
     ≡ take (size / 16 + 1) (derived_keys w nonce)
     → (size ≡ 16 → made ≡ slice_index_or keys 1 [])

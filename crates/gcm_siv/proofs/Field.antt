@@ -1,18 +1,19 @@
 -- POLYVAL's field is GCM's with the bits in the other order: dot is GCM's product with x^-1 times a
 -- factor (RFC 8452, appendix A).
 use Rattle.std.proofs.Common.{◌≡◌, ℕ, zero, suc, ◌+◌, ◌-◌, ◌*◌, ◌/◌, ◌%◌, ◌^◌, ◌<◌, ◌≤◌, ◌==◌}
-use Rattle.std.proofs.Common.{if◌then◌else◌, Bool, List, true, false, inl, inr, bit_xor, refl, ap}
+use Rattle.std.proofs.Common.{if◌then◌else◌, List, inl, inr, bit_xor, refl, ap}
 use Rattle.std.proofs.Common.{sym, ◌∙◌, arith}
 use Rattle.std.proofs.lemmas.Bool.{cases_lt}
-use Rattle.std.proofs.lemmas.Nat.{xor_comm, xor_shr, xor_mod}
+use Rattle.std.proofs.lemmas.Nat.{xor_comm, xor_shr}
 use Rattle.std.specs.Int.{w128, from_le_bytes}
 use Rattle.std.specs.List.{slice_range}
-use Rattle.std.specs.Int.Bits.{xor_assoc, xor_self, xor_zero_r}
+use Rattle.std.specs.Int.Bits.{xor_zero_r}
 use Rattle.gcm.specs.Gcm.{bit_of, next_v, v_at, product}
 use Rattle.gcm.specs.Hashed.{hashed_as, number_at}
 use Rattle.gcm.specs.Multiples.{sum_of}
-use Rattle.gcm.proofs.Linear.{term, product_terms, sum-agree, sum-first}
-use Rattle.gcm.proofs.Powers.{right_v, by_one, product_below}
+use Rattle.gcm.proofs.Products.Linear.{added_unless, next_even, next_keeps, term, product_terms}
+use Rattle.gcm.proofs.Products.Linear.{sum-agree, sum-first}
+use Rattle.gcm.proofs.Products.Powers.{product_right_v, product_by_one, product_below}
 use Rattle.gcm_siv.specs.GcmSiv.{polynomial, inverse_power, times_x, times_power, times_below}
 use Rattle.gcm_siv.specs.GcmSiv.{times, dot, block_at, summed}
 
@@ -49,27 +50,20 @@ times_small b small = elim (cases_lt b (2 ^ 127)) [
 
 -- x^-1 undoes x where the element had no x^127
 even_back : (b : ℕ) → next_v (2 * b) ≡ b
-unfolding next_v
 even_back b =
-    let none : 2 * b % 2 ≡ 0 = omega arith in
-    let half : 2 * b / 2 ≡ b = omega arith in
-    ap (λ r. if r == 0 then 2 * b / 2 else bit_xor (2 * b / 2) (0xe1 * 2 ^ 120)) none ∙ half
+    let turned : 2 * b ≡ b * 2 = omega arith in
+    ap next_v turned ∙ next_even b
 
--- x^-1 undoes x where the element had x^127: the polynomial was added, whose last bit tells
-odd_back : (b : ℕ) → next_v (bit_xor (2 * b) polynomial) ≡ b
+-- x^-1 times the polynomial, which is 0 in the field
+none_of_polynomial : next_v polynomial ≡ 0
 unfolding next_v
+none_of_polynomial = refl
+
+-- x^-1 undoes x where the element had x^127: the polynomial was added
+odd_back : (b : ℕ) → next_v (bit_xor (2 * b) polynomial) ≡ b
 odd_back b =
-    let n : ℕ = bit_xor (2 * b) polynomial in
-    let none : 2 * b % 2 ≡ 0 = omega arith in
-    let whole : 2 * b / 2 ≡ b = omega arith in
-    let last : n % 2 ≡ 1 = xor_mod (2 * b) polynomial 1 ∙ ap (λ r. bit_xor r 1) none in
-    let half : n / 2 ≡ bit_xor b (0xe1 * 2 ^ 120) =
-    xor_shr (2 * b) polynomial 1 ∙ ap (λ h. bit_xor h (0xe1 * 2 ^ 120)) whole in
-    ap (λ r. if r == 0 then n / 2 else bit_xor (n / 2) (0xe1 * 2 ^ 120)) last
-    ∙ ap (λ h. bit_xor h (0xe1 * 2 ^ 120)) half
-    ∙ xor_assoc b (0xe1 * 2 ^ 120) (0xe1 * 2 ^ 120)
-    ∙ ap (bit_xor b) (xor_self (0xe1 * 2 ^ 120))
-    ∙ xor_zero_r b
+    next_keeps (2 * b) polynomial
+    ∙ (λ t. bit_xor (even_back b t) (none_of_polynomial t)) ∙ xor_zero_r b
 
 -- x^-1 undoes x
 back : (b : ℕ) → b < 2 ^ 128 → next_v (times_x b) ≡ b
@@ -80,18 +74,18 @@ back b small = elim (cases_lt b (2 ^ 127)) [
 
 -- ---- powers of x
 
--- the power 0 changes nothing
+-- an element times x^0 is the element
 power_start : (b : ℕ) → times_power b 0 ≡ b
 unfolding times_power
 power_start b = refl
 
--- powers of x keep elements elements
+-- an element times a power of x is an element
 power_small : (b i : ℕ) → b < 2 ^ 128 → times_power b i < 2 ^ 128
 unfolding times_power
 power_small b zero small = small
 power_small b (suc i) small = times_small (times_power b i) (power_small b i small)
 
--- x^-j times x^(j + n)
+-- x^-j times x^(j + n) is x^n
 back_by : (b j n : ℕ) → b < 2 ^ 128 → v_at (times_power b (j + n)) j ≡ times_power b n
 unfolding times_power v_at
 back_by b zero n small =
@@ -103,12 +97,12 @@ back_by b (suc j) n small =
     ∙ ap next_v (back_by b j (suc n) small)
     ∙ back (times_power b n) (power_small b n small)
 
--- a power of x^-1 more, by the definition
+-- one power of x^-1 more, by the definition
 one_more : (y n : ℕ) → v_at y (suc n) ≡ next_v (v_at y n)
 unfolding v_at
 one_more y n = refl
 
--- x^-128 times x^127
+-- x^-128 times x^127 is x^-1
 back_one : (b : ℕ) → b < 2 ^ 128 → v_at (times_power b 127) 128 ≡ next_v b
 back_one b small =
     one_more (times_power b 127) 127 ∙ ap next_v (back_by b 127 0 small ∙ power_start b)
@@ -129,20 +123,16 @@ turned (suc n) f =
     ∙ ap (λ m. bit_xor (f m) rest) last
     ∙ sym (sum-first n (λ i. f (suc n - 1 - i)))
 
--- a product is the sum of the multiples at the bits, as GCM's is
+-- a product of elements is the sum of the multiples at the bits, as GCM's is
 times_terms : (a b n : ℕ) → times_below a b n
     ≡ sum_of n (λ i. term (a / 2 ^ i % 2) (times_power b i))
 unfolding times_below sum_of term
 times_terms a b zero = refl
 times_terms a b (suc n) =
-    by_test (a / 2 ^ n % 2 == 0) (times_below a b n) (times_power b n)
+    added_unless (a / 2 ^ n % 2 == 0) (times_below a b n) (times_power b n)
     ∙ ap (λ s. bit_xor s (term (a / 2 ^ n % 2) (times_power b n))) (times_terms a b n)
-  where
-    by_test : (t : Bool) (z v : ℕ) → (if t then z else bit_xor z v) ≡ bit_xor z (if t then 0 else v)
-    by_test true z v = sym (xor_zero_r z)
-    by_test false z v = refl
 
--- GCM's product has x^-127
+-- a product of elements is GCM's product, which has x^-127, with x^127
 times_is : (a b : ℕ) → b < 2 ^ 128 → times a b ≡ product a (times_power b 127)
 unfolding times product bit_of
 times_is a b small =
@@ -161,7 +151,7 @@ inverse_is : times_power inverse_power 127 ≡ v_at (2 ^ 127) 128
 unfolding times_power times_x v_at next_v
 inverse_is = refl
 
--- dot by one product of GCM, so that POLYVAL runs on GHASH's tables
+-- dot of two elements is one product of GCM, so that POLYVAL runs on GHASH's tables
 pub dot_is : (a b : ℕ) → b < 2 ^ 128 → dot a b ≡ product a (next_v b)
 unfolding dot
 dot_is a b small =
@@ -170,12 +160,12 @@ dot_is a b small =
     ap (λ n. times n inverse_power) (times_is a b small)
     ∙ times_is c inverse_power (omega arith)
     ∙ ap (product c) inverse_is
-    ∙ right_v c (2 ^ 127) 128
-    ∙ ap (λ n. v_at n 128) (by_one c c_small)
-    ∙ sym (right_v a (times_power b 127) 128)
+    ∙ product_right_v c (2 ^ 127) 128
+    ∙ ap (λ n. v_at n 128) (product_by_one c c_small)
+    ∙ sym (product_right_v a (times_power b 127) 128)
     ∙ ap (product a) (back_one b small)
 
--- POLYVAL by GCM's products
+-- POLYVAL's value after j blocks, by GCM's products
 pub summed_is : (h s : ℕ) (x : List ℕ) (j : ℕ) → h < 2 ^ 128
     → hashed_as (from_le_bytes w128) (next_v h) s x j ≡ summed h s x j
 unfolding hashed_as summed number_at block_at

@@ -8,7 +8,7 @@ use Rattle.aes_planes.specs.Fips197.{build, build_from, state, add_round_key, ci
 use Rattle.aes_ctr.specs.CounterMode.{plus_stream}
 use Rattle.aes_ctr.specs.Private.{byte_of_blocks}
 use Rattle.aes_ctr.proofs.Places.{plus_blocks}
-use Rattle.gcm.specs.Gcm.{padded}
+use Rattle.aes_cipher.specs.Blocks.{padded}
 use Rattle.gcm_siv.specs.GcmSiv.{times_x, times_power, times_below, times, dot, block_at, summed}
 use Rattle.gcm_siv.specs.GcmSiv.{polyval, derived, authentication_key, encryption_key, counter}
 use Rattle.gcm_siv.specs.GcmSiv.{counter_block, keystream_byte, counter_mode, length_block, hash}

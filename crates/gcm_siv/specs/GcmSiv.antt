@@ -8,7 +8,7 @@ use Rattle.std.specs.Int.{w32, w64, w128, to_le_bytes, from_le_bytes}
 use Rattle.std.specs.Int.Bits.{bit_xor}
 use Rattle.aes_planes.specs.Fips197 as fips
 use Rattle.aes_ctr.specs.CounterMode.{plus_stream}
-use Rattle.gcm.specs.Gcm.{padded}
+use Rattle.aes_cipher.specs.Blocks.{padded}
 
 -- ---- the field (3): an element is a number below 2 ^ 128, whose bit i is the coefficient of x^i
 
@@ -85,8 +85,8 @@ encryption_key key nonce = let w = fips.key_expansion key in
     derived w nonce 4 ++ derived w nonce 5 else [])
 
 -- a key-generating key has this many bytes
-abbrev pub IsKeySize : ℕ → Type 0
-IsKeySize n = (n ≡ 16) ⊎ (n ≡ 32)
+abbrev pub IsSivKeySize : ℕ → Type 0
+IsSivKeySize n = (n ≡ 16) ⊎ (n ≡ 32)
 
 -- ---- counter mode (4): the first 32 bits of a block count, their lowest byte first
 

@@ -12,10 +12,11 @@ ghost use Rattle.std.specs.Int.{w32, w128, from_le_bytes, to_le_bytes};
 ghost use Rattle.aes_planes.specs.BigEndian.{bytes};
 ghost use Rattle.aes_planes.specs.Fips197 as fips;
 ghost use Rattle.gcm_siv.specs.GcmSiv.{authentication_key, encryption_key, first_counter};
-ghost use Rattle.gcm_siv.specs.GcmSiv.{IsAuthentic, IsKeySize, counter_block, dot, inverse_power};
+ghost use Rattle.gcm_siv.specs.GcmSiv.{IsAuthentic, IsSivKeySize, counter_block, dot};
+ghost use Rattle.gcm_siv.specs.GcmSiv.{inverse_power};
 ghost use Rattle.gcm_siv.specs.GcmSiv.{block_at, hash, length_block, polyval, summed, tag};
 ghost use Rattle.gcm_siv.specs.GcmSiv.{tag_input, text, times, times_power};
-ghost use Rattle.gcm.specs.Gcm.{padded};
+ghost use Rattle.aes_cipher.specs.Blocks.{padded};
 ghost use Rattle.aes_ctr.specs.CounterMode.{plus_stream};
 
 use crate::errors::TooLong;
@@ -103,9 +104,9 @@ pub fn authentic_examples()
 
 /// A key-generating key has 16 bytes or 32.
 pub fn size_examples()
-    ensures sixteen { IsKeySize 16 }
-    ensures thirty_two { IsKeySize 32 }
-    ensures others { (n : ℕ) → IsKeySize n → (n ≡ 16) ⊎ (n ≡ 32) }
+    ensures sixteen { IsSivKeySize 16 }
+    ensures thirty_two { IsSivKeySize 32 }
+    ensures others { (n : ℕ) → IsSivKeySize n → (n ≡ 16) ⊎ (n ≡ 32) }
 {}
 
 /// The lengths in bits of the longest strings: every byte of them counts.

@@ -3,7 +3,7 @@
 ghost use Rattle.std.specs.Prelude.{◌≡◌, ◌+◌, ◌/◌, ◌^◌, ◌<◌, ◌++◌, take};
 ghost use Rattle.std.specs.Int.{w32, w128, from_le_bytes, to_le_bytes};
 ghost use Rattle.gcm.specs.Gcm.{next_v};
-ghost use Rattle.gcm_siv.specs.GcmSiv.{IsKeySize};
+ghost use Rattle.gcm_siv.specs.GcmSiv.{IsSivKeySize};
 ghost use Rattle.gcm_siv.specs.Private.{derived_keys, halves_of_six, numbered};
 
 use crate::hash::PolyvalRoom;
@@ -64,7 +64,7 @@ fn put_halves(blocks: &mut KeyRoom)
 /// bytes, and six for 32.
 #[tactic(auto, using(crate::proofs::DerivedKeys::derived_is))]
 pub fn derive<C: BlockCipherEncrypt>(cipher: &C, size: usize, nonce: &[u8; 12], keys: &mut KeyRoom)
-    requires { IsKeySize size }
+    requires { IsSivKeySize size }
     ensures { let blocks = size / 16 + 1 in
         take blocks keys.new ≡ take blocks (derived_keys (C.round_keys cipher.now) nonce.now) }
 {

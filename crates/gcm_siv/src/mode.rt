@@ -6,7 +6,8 @@ ghost use Rattle.std.specs.Int.{w128, from_le_bytes};
 ghost use Rattle.aes_planes.specs.Fips197 as fips;
 ghost use Rattle.gcm.specs.Gcm.{next_v};
 ghost use Rattle.gcm_siv.specs.GcmSiv as rfc;
-ghost use Rattle.gcm_siv.specs.GcmSiv.{authentication_key, encryption_key, IsAuthentic, IsKeySize};
+ghost use Rattle.gcm_siv.specs.GcmSiv.{authentication_key, encryption_key, IsAuthentic};
+ghost use Rattle.gcm_siv.specs.GcmSiv.{IsSivKeySize};
 
 use crate::errors::{Refused, TooLong};
 use crate::hash::PolyvalRoom;
@@ -21,7 +22,7 @@ use std::marker::Model;
 
 // The cipher of a message, of its keys: that of the block after the first, or of the two blocks.
 fn message_cipher<C: KeyInit + Drop>(keys: &KeyRoom) -> C
-    requires { IsKeySize C.KEY_SIZE }
+    requires { IsSivKeySize C.KEY_SIZE }
     ensures short { C.KEY_SIZE ≡ 16 → C.own_key result ≡ slice_index_or keys.now 1 [] }
     ensures long { C.KEY_SIZE ≡ 32
         → C.own_key result ≡ slice_index_or keys.now 1 [] ++ slice_index_or keys.now 2 [] }
@@ -49,7 +50,7 @@ impl<C: KeyInit + BlockCipherEncrypt + Drop> Model for GcmSiv<C> {
 
     ghost view = { λ mode. C.own_key mode.cipher };
 
-    ghost invariant = { λ mode. IsKeySize C.KEY_SIZE };
+    ghost invariant = { λ mode. IsSivKeySize C.KEY_SIZE };
 }
 
 impl<C: KeyInit + BlockCipherEncrypt + Drop> NotClone for GcmSiv<C> {}
@@ -57,7 +58,7 @@ impl<C: KeyInit + BlockCipherEncrypt + Drop> NotClone for GcmSiv<C> {}
 impl<C: KeyInit + BlockCipherEncrypt + Drop> GcmSiv<C> {
     /// AES-GCM-SIV over the cipher of a key of 16 or 32 bytes.
     pub fn new(cipher: C) -> Self
-        requires { IsKeySize C.KEY_SIZE }
+        requires { IsSivKeySize C.KEY_SIZE }
         ensures { result ≡ C.own_key cipher }
     {
         GcmSiv { cipher }

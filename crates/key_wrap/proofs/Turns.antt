@@ -2,8 +2,8 @@
 -- from the next one on, and then those before it.
 use Rattle.std.proofs.Common.{◌≡◌, ℕ, suc, ◌+◌, ◌-◌, ◌<◌, List, [], ◌∷◌, ◌++◌, length, get_or, set}
 use Rattle.std.proofs.Common.{take, drop, ap, sym, ◌∙◌, arith}
-use Rattle.std.proofs.Math.Seq.{drop-cons, get_or-append_seam}
-use Rattle.std.proofs.lemmas.List.{append_assoc, drop-set, drop-set-lt, length-append}
+use Rattle.std.proofs.Math.Seq.{get_or-append_seam}
+use Rattle.std.proofs.lemmas.List.{append_assoc, drop_more, drop-set, drop-set-lt, length-append}
 use Rattle.std.proofs.lemmas.List.{take-append-le, take-set-le, take_all, take_more, take_more_set}
 use Rattle.aes_planes.specs.Fips197.{cipher_with, inv_cipher_with}
 use Rattle.key_wrap.specs.KeyWrap.{number_added, unwrap_step, unwrapped_from, wrap_step}
@@ -12,11 +12,6 @@ use Rattle.key_wrap.specs.KeyWrap.{wrapped_after}
 -- the semiblocks in the order of the standard before the step with semiblock i
 abbrev pub turned : ℕ → List (List ℕ) → List (List ℕ)
 turned i rs = drop i rs ++ take i rs
-
--- the semiblock whose turn it is stands before those that are left
-left : (xs : List (List ℕ)) (i : ℕ) → i < length xs → drop i xs ≡ get_or xs i [] ∷ drop (i + 1) xs
-left xs i lt = let n : suc i ≡ i + 1 = omega arith in drop-cons xs i [] lt
-    ∙ ap (λ n. get_or xs i [] ∷ drop n xs) n
 
 -- the inverse takes the last semiblock
 pub unwrap_last : (w : List (List ℕ)) (a : List ℕ) (rs : List (List ℕ)) (r : List ℕ) (t : ℕ)
@@ -47,7 +42,7 @@ module _ (w : List (List ℕ)) (a : List ℕ) (rs : List (List ℕ)) (i t : ℕ)
       (λ j. drop-set-lt (i + 1) rs i r_new (omega arith) j ++ take_more_set rs i r_new lt j)
       ∙ sym (append_assoc (drop (i + 1) rs) (take i rs) (r_new ∷ [])) in
       ap (wrapped_after w s) n
-      ∙ ap (wrap_step w (suc t)) (before ∙ ap (λ l. a ∷ (l ++ take i rs)) (left rs i lt))
+      ∙ ap (wrap_step w (suc t)) (before ∙ ap (λ l. a ∷ (l ++ take i rs)) (drop_more rs i [] lt))
       ∙ ap (λ m. number_added (take 8 b) m
       ∷ ((drop (i + 1) rs ++ take i rs) ++ drop 8 b ∷ [])) (sym n)
       ∙ (λ j. sym is_a j ∷ ((drop (i + 1) rs ++ take i rs) ++ sym is_r j ∷ []))

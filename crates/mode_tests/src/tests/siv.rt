@@ -2,7 +2,7 @@
 //! they refuse.
 
 ghost use Rattle.std.specs.Prelude.{◌≡◌, IfOk};
-ghost use Rattle.gcm_siv.specs.GcmSiv.{tag, IsKeySize};
+ghost use Rattle.gcm_siv.specs.GcmSiv.{tag, IsSivKeySize};
 
 use super::cases::{Case, Mode, decoded, is_right};
 use aes_cipher::cipher::{Block, BlockCipherEncrypt, KeyInit};
@@ -33,7 +33,7 @@ impl<C: KeyInit + BlockCipherEncrypt + Drop> Mode for GcmSiv<C> {
 
 // Whether ciphers of a type do as they should under the key of each case.
 fn are_right<C: KeyInit + BlockCipherEncrypt + Drop>(cases: &[Case]) -> bool
-    requires { IsKeySize C.KEY_SIZE }
+    requires { IsSivKeySize C.KEY_SIZE }
 {
     for case in cases {
         let key: [u8; 32] = decoded(case.key);

@@ -1,8 +1,10 @@
 -- What is left to show of `chaining::chain`.
 use Rattle.std.proofs.Common.{◌≡◌, ◌∙◌, ◌+◌, suc, ap, refl, arith}
 use Rattle.aes_planes.specs.Fips197.{cipher_with, add_round_key}
-use Rattle.cmac.specs.Chain.{chained, padded, chained_through}
-use Rattle.cmac.proofs.Chains.{padded_blocks, part_padded}
+use Rattle.aes_cipher.specs.Blocks.{padded}
+use Rattle.cmac.specs.Chain.{chained, chained_through}
+use Rattle.aes_cipher.proofs.Strings.{padded_blocks}
+use Rattle.cmac.proofs.Chains.{part_padded}
 use Rattle.cmac.proofs.chaining.chain.Goals as goal
 
 pub loop-i-init : goal.loop-i-init

@@ -1,6 +1,7 @@
 -- What holds in the loop of `chaining::chain`.
 use Rattle.std.proofs.Common.{◌≡◌}
-use Rattle.cmac.specs.Chain.{chained, padded}
+use Rattle.aes_cipher.specs.Blocks.{padded}
+use Rattle.cmac.specs.Chain.{chained}
 use Rattle.cmac.proofs.chaining.chain.Given as goal
 
 abbrev pub invariant-loop-i : goal.invariant-loop-i

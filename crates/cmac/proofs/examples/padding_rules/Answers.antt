@@ -1,9 +1,9 @@
 -- What is left to show of `examples::padding_rules`.
-use Rattle.std.proofs.Common.{◌≡◌, ◌≢◌, ℕ, ◌-◌, ◌%◌, ◌==◌, if◌then◌else◌, List, ◌∷◌, ◌++◌, length}
+use Rattle.std.proofs.Common.{◌≡◌, ◌≢◌, ◌-◌, ◌%◌, if◌then◌else◌, ◌∷◌, ◌++◌, length}
 use Rattle.std.proofs.Common.{replicate, ap, ◌∙◌, arith}
 use Rattle.std.proofs.lemmas.Bool.{ne_eqb}
 use Rattle.aes_planes.specs.Fips197 as fips
-use Rattle.cmac.specs.Chain.{padded}
+use Rattle.aes_cipher.specs.Blocks.{padded}
 use Rattle.cmac.specs.Cmac.{subkey_1, subkey_2, last_block}
 use Rattle.cmac.proofs.examples.padding_rules.Goals as goal
 

@@ -2,7 +2,7 @@
 use Rattle.std.proofs.Common.{◌≡◌, ℕ, List, ◌∙◌, ap, take}
 use Rattle.aes_planes.specs.BigEndian.{bytes}
 use Rattle.aes_planes.specs.Fips197.{build, build_from}
-use Rattle.ctr_drbg.specs.CtrDrbg.{State, padded, exclusive_or, next_v, v_after, temp_after, turns}
+use Rattle.ctr_drbg.specs.CtrDrbg.{State, seed_padded, exclusive_or, v_plus_one, v_after, temp_after, turns}
 use Rattle.ctr_drbg.specs.CtrDrbg.{output, update, prepared, returned_bits, generate}
 use Rattle.ctr_drbg.proofs.OnLiterals.{updated_by}
 use Rattle.ctr_drbg.proofs.examples.additional_inputs_example.Goals as goal
@@ -50,7 +50,7 @@ next_and_other = record {
 }
 
 pub returns-clause-first : goal.returns-clause-first
-unfolding bytes build build_from padded exclusive_or next_v v_after turns prepared generate
+unfolding bytes build build_from seed_padded exclusive_or v_plus_one v_after turns prepared generate
 returns-clause-first c =
     let known = c.encrypted_with_inputs.ensures in
     let count : State → State = λ s. record s { reseed_counter = 2 } in
@@ -65,7 +65,7 @@ returns-clause-first c =
     1 known.updated_one known.updated_two known.updated_three)
 
 pub returns-clause-second : goal.returns-clause-second
-unfolding bytes build build_from padded exclusive_or next_v v_after temp_after turns output prepared returned_bits
+unfolding bytes build build_from seed_padded exclusive_or v_plus_one v_after temp_after turns output prepared returned_bits
 returns-clause-second c =
     let known = c.encrypted_with_inputs.ensures in
     let before : prepared other next ≡ next_and_other =

@@ -2,7 +2,7 @@
 use Rattle.std.proofs.Common.{ℕ, List, ap}
 use Rattle.aes_planes.specs.BigEndian.{bytes}
 use Rattle.aes_planes.specs.Fips197.{build, build_from}
-use Rattle.ctr_drbg.specs.CtrDrbg.{State, padded, exclusive_or, next_v, v_after, reseed}
+use Rattle.ctr_drbg.specs.CtrDrbg.{State, seed_padded, exclusive_or, v_plus_one, v_after, reseed}
 use Rattle.ctr_drbg.proofs.OnLiterals.{updated_by}
 use Rattle.ctr_drbg.proofs.examples.reseed_example.Goals as goal
 
@@ -13,7 +13,7 @@ seed_material = exclusive_or
     (bytes 48 0xee4c88d1eb05f4853663eada501d2fc4b4984b283a88db579af2113031e03d9bc570de943dd168918f3ba8065581fea7)
 
 pub returns : goal.returns
-unfolding bytes build build_from padded exclusive_or next_v v_after reseed
+unfolding bytes build build_from seed_padded exclusive_or v_plus_one v_after reseed
 returns c =
     let known = c.encrypted_for_reseed.ensures in
     let count : State → State = λ s. record s { reseed_counter = 1 } in

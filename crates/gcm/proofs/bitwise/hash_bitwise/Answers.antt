@@ -1,7 +1,7 @@
 -- What is left to show of `bitwise::hash_bitwise`.
 use Rattle.std.proofs.Common.{ℕ, ◌/◌, ◌∙◌, ap, length, List}
 use Rattle.gcm.specs.Gcm.{hashed, ghash}
-use Rattle.gcm.proofs.Hashing.{hashed_is}
+use Rattle.gcm.proofs.Messages.Hashing.{hashed_is}
 use Rattle.gcm.proofs.bitwise.hash_bitwise.Goals as goal
 
 pub returns-clause-on : goal.returns-clause-on

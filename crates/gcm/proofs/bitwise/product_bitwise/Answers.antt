@@ -1,7 +1,7 @@
 -- What is left to show of `bitwise::product_bitwise`.
 use Rattle.std.proofs.Common.{◌≡◌, ℕ, suc, ◌+◌, ◌*◌, ◌%◌, ◌∙◌, ap, arith, refl}
 use Rattle.gcm.specs.Gcm.{next_v, v_at, z_at, product}
-use Rattle.gcm.proofs.BitByBit.{shifted, one_more}
+use Rattle.gcm.proofs.Products.BitByBit.{shifted, one_more}
 use Rattle.gcm.proofs.bitwise.product_bitwise.Goals as goal
 
 pub loop-i-init : goal.loop-i-init

@@ -1,8 +1,8 @@
 -- What is left to show of `examples::gcm_128_example_6`.
 use Rattle.std.proofs.Common.{List, ℕ, ◌++◌}
 use Rattle.aes_planes.specs.BigEndian.{bytes}
-use Rattle.gcm.proofs.OnLiterals.{gcm_on_literals, tag_by}
-use Rattle.gcm.proofs.TestCases.{w, zeros, additional, text_of}
+use Rattle.gcm.proofs.Literals.OnLiterals.{gcm_on_literals, tag_by}
+use Rattle.gcm.proofs.Literals.TestCases.{w, zeros, additional, text_of}
 use Rattle.gcm.proofs.examples.gcm_128_example_6.Goals as goal
 
 abbrev iv : List ℕ

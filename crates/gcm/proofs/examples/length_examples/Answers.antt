@@ -1,7 +1,7 @@
 -- What is left to show of `examples::length_examples`.
 use Rattle.std.proofs.Common.{◌*◌, ap}
 use Rattle.std.specs.Int.{w64, to_be_bytes}
-use Rattle.gcm.proofs.OnLiterals.{gcm_on_literals}
+use Rattle.gcm.proofs.Literals.OnLiterals.{gcm_on_literals}
 use Rattle.gcm.proofs.examples.length_examples.Goals as goal
 
 pub returns : goal.returns

@@ -3,8 +3,8 @@ use Rattle.std.proofs.Common.{ℕ, ◌+◌, ◌∙◌, List, length, ap, sym, ar
 use Rattle.std.specs.Int.{w128, from_be_bytes}
 use Rattle.aes_ctr.specs.CounterMode.{plus_stream}
 use Rattle.gcm.specs.Gcm.{gctr_byte}
-use Rattle.gcm.proofs.Counting.{before_wrap, beyond_wrap, joined_runs, none_added}
-use Rattle.gcm.proofs.Hashing.{one_block_of}
+use Rattle.gcm.proofs.Messages.Counting.{before_wrap, beyond_wrap, joined_runs, none_added}
+use Rattle.gcm.proofs.Messages.Hashing.{one_block_of}
 use Rattle.gcm.proofs.gctr.add_gctr.Goals as goal
 
 pub returns-then-bytes-eq0 : goal.returns-then-bytes-eq0

@@ -4,14 +4,15 @@ use Rattle.std.specs.Int.{w128, from_be_bytes}
 use Rattle.std.specs.List.{slice_range}
 use Rattle.gcm.specs.Gcm.{product}
 use Rattle.gcm.specs.Hashed.{hashed_as}
-use Rattle.gcm.proofs.Hashing.{whole_as, with_rest}
+use Rattle.gcm.proofs.Messages.Hashing.{hashed_as_whole, hashed_as_with_rest}
 use Rattle.gcm.proofs.hash.hash_rest_and.Goals as goal
 
 pub returns-then-left-eq0 : goal.returns-then-left-eq0
 returns-then-left-eq0 g c y is =
     let number = g.O.ByteOrder.number in
     let h : ℕ = c.args.multiples.now in
-    let whole = whole_as number h y (from_be_bytes w128 c.args.before) c.args.i c.args.bytes.now is
+    let whole = hashed_as_whole number h y
+    (from_be_bytes w128 c.args.before) c.args.i c.args.bytes.now is
     (omega (arith, c.if-left-eq0.true)) (omega (arith, c.if-left-eq0.true)) in
     c.block_product.ensures
     ∙ ap (λ v. product v h)
@@ -22,7 +23,7 @@ returns-then-left-le16 g c y is =
     let number = g.O.ByteOrder.number in
     let h : ℕ = c.args.multiples.now in
     let e : ℕ = from_be_bytes w128 c.args.end in
-    let rest = with_rest number h y (from_be_bytes w128 c.args.before) c.args.i
+    let rest = hashed_as_with_rest number h y (from_be_bytes w128 c.args.before) c.args.i
     (from_be_bytes w128 c.last_block.result)
     c.args.bytes.now _ is
     (omega (arith, c.if-left-le16.true)) (omega (arith, c.if-left-eq0.false))
@@ -39,7 +40,7 @@ returns-then-left-le32 g c y is =
     let i : ℕ = c.args.i in
     let e : ℕ = from_be_bytes w128 c.args.end in
     let more : 16 * i + 16 ≡ 16 * suc i = omega arith in
-    let rest = with_rest number h y (hashed_as number h y x (suc i)) (suc i)
+    let rest = hashed_as_with_rest number h y (hashed_as number h y x (suc i)) (suc i)
     (from_be_bytes w128 c.last_block-last.result) x _ refl
     (omega (arith, c.if-left-le32.true)) (omega (arith, c.if-left-le16.false))
     (ap (λ a. slice_range x a (length x)) more) c.last_block-last.ensures in

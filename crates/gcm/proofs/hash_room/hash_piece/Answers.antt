@@ -5,9 +5,10 @@ use Rattle.std.proofs.lemmas.List.{take-append-drop, take_all}
 use Rattle.std.proofs.lemmas.Slice.{take-put_mid}
 use Rattle.std.proofs.Math.Seq.{take-append_seam}
 use Rattle.std.specs.Int.{w128, from_be_bytes}
-use Rattle.gcm.specs.Gcm.{product, hashed, padded}
+use Rattle.aes_cipher.specs.Blocks.{padded}
+use Rattle.gcm.specs.Gcm.{product, hashed}
 use Rattle.gcm.specs.Pieces.{IsHashing}
-use Rattle.gcm.proofs.InPieces.{unfilled, three_parts}
+use Rattle.gcm.proofs.Messages.InPieces.{unfilled, three_parts}
 use Rattle.gcm.proofs.hash_room.hash_piece.Goals as goal
 use borrow.Rule.Slice.PartMut.{post_of, put_mid, same_len_mid}
 

@@ -1,6 +1,6 @@
 -- What is left to show of `holes::product_of_numbers`.
 use Rattle.std.proofs.Common.{ℕ, ◌∙◌, arith, bit_xor, refl}
-use Rattle.gcm.proofs.Carryless.{by_three, columns}
+use Rattle.gcm.proofs.WithoutCarries.Carryless.{karatsuba, columns}
 use Rattle.gcm.proofs.holes.product_of_numbers.Goals as goal
 
 pub returns : goal.returns
@@ -9,6 +9,6 @@ returns c =
     let h : ℕ = c.product_of_pairs-high.result in
     let m : ℕ = bit_xor (bit_xor c.product_of_pairs.result l) h in
     columns h m l (omega arith)
-    ∙ by_three 64 c.args.x c.args.y _ _ _ _ refl refl refl refl l h m
+    ∙ karatsuba 64 c.args.x c.args.y _ _ _ _ refl refl refl refl l h m
     c.product_of_pairs-low.ensures c.product_of_pairs-high.ensures
     (λ t. bit_xor (bit_xor (c.product_of_pairs.ensures t) l) h)

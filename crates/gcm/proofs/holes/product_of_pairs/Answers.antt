@@ -1,7 +1,7 @@
 -- What is left to show of `holes::product_of_pairs`.
 use Rattle.std.proofs.Common.{◌≡◌, ℕ, ◌*◌, ◌%◌, ◌^◌, ◌<◌, ◌∙◌, arith, bit_xor, refl}
 use Rattle.std.proofs.lemmas.Nat.{xor_lt}
-use Rattle.gcm.proofs.Carryless.{by_three}
+use Rattle.gcm.proofs.WithoutCarries.Carryless.{karatsuba}
 use Rattle.gcm.proofs.holes.product_of_pairs.Goals as goal
 
 pub returns : goal.returns
@@ -15,6 +15,6 @@ returns c =
     let high : h * 2 ^ 64 % 2 ^ 128 ≡ h * 2 ^ 32 * 2 ^ 32 = omega arith in
     let middle : m * 2 ^ 32 % 2 ^ 128 ≡ m * 2 ^ 32 = omega (arith, m_small) in
     (λ t. bit_xor (bit_xor (high t) (middle t)) l)
-    ∙ by_three 32 c.args.x c.args.y _ _ _ _ refl refl refl refl l h m
+    ∙ karatsuba 32 c.args.x c.args.y _ _ _ _ refl refl refl refl l h m
     c.product_of_words-low.ensures c.product_of_words-high.ensures
     (λ t. bit_xor (bit_xor (c.product_of_words.ensures t) l) h)

@@ -1,7 +1,7 @@
 -- What is left to show of `holes::product_of_words`.
 use Rattle.std.proofs.Common.{◌≡◌, ℕ, ◌*◌, ◌/◌, ◌%◌, ◌^◌, ◌∙◌, ap, arith, bit_xor}
 use Rattle.gcm.specs.Carryless.{carryless}
-use Rattle.gcm.proofs.Mirrored.{both_halves}
+use Rattle.gcm.proofs.WithoutCarries.Mirrored.{both_halves}
 use Rattle.gcm.proofs.holes.product_of_words.Goals as goal
 
 pub returns : goal.returns

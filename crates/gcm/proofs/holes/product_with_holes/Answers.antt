@@ -1,7 +1,7 @@
 -- What is left to show of `holes::product_with_holes`.
 use Rattle.std.proofs.Common.{arith}
 use Rattle.gcm.specs.Multiples.{folded}
-use Rattle.gcm.proofs.Carryless.{reduced_product, spread}
+use Rattle.gcm.proofs.WithoutCarries.Carryless.{reduced_product, spread}
 use Rattle.gcm.proofs.holes.product_with_holes.Goals as goal
 
 pub returns : goal.returns

@@ -1,7 +1,7 @@
 -- What is left to show of `mode::add_masked`.
 use Rattle.std.proofs.Common.{◌∙◌, ap, arith}
 use Rattle.gcm.specs.Gcm.{gctr}
-use Rattle.gcm.proofs.Counting.{one_block}
+use Rattle.gcm.proofs.Messages.Counting.{one_block}
 use Rattle.gcm.proofs.mode.add_masked.Goals as goal
 
 pub returns : goal.returns

@@ -3,7 +3,7 @@ use Rattle.std.proofs.Common.{◌∙◌, ap, [], slice_index_or}
 use Rattle.std.specs.Int.{w128, from_be_bytes}
 use Rattle.aes_planes.specs.Fips197.{cipher_with}
 use Rattle.gcm.specs.Gcm.{hash_subkey}
-use Rattle.gcm.proofs.Hashing.{one_block_of}
+use Rattle.gcm.proofs.Messages.Hashing.{one_block_of}
 use Rattle.gcm.proofs.mode.put_subkey.Goals as goal
 
 pub returns-clause-subkey : goal.returns-clause-subkey

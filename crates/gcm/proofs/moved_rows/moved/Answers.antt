@@ -1,6 +1,6 @@
 -- What is left to show of `moved_rows::moved`.
 use Rattle.std.proofs.Common.{rules}
-use Rattle.gcm.proofs.MovedRows.{lane_of_half}
+use Rattle.gcm.proofs.Tables.MovedRows.{lane_of_half}
 use Rattle.gcm.proofs.moved_rows.moved.Goals as goal
 
 pub returns : goal.returns

@@ -1,6 +1,6 @@
 -- What is left to show of `multiples::bytes_of_bit`.
 use Rattle.std.proofs.Common.{◌∙◌}
-use Rattle.gcm.proofs.Nibbles.{indices, looked_bit}
+use Rattle.gcm.proofs.Tables.Nibbles.{indices, looked_bit}
 use Rattle.gcm.proofs.multiples.bytes_of_bit.Goals as goal
 
 pub lookup-requires : goal.lookup-requires

@@ -1,6 +1,6 @@
 -- What is left to show of `multiples::put_multiples`.
 use Rattle.std.proofs.Common.{arith}
-use Rattle.gcm.proofs.Rows.{is_table, written, has_multiples, room_block}
+use Rattle.gcm.proofs.Tables.Rows.{is_table, written, has_multiples, room_block}
 use Rattle.gcm.proofs.multiples.put_multiples.Goals as goal
 
 pub next_power-h2-requires-clause-table : goal.next_power-h2-requires-clause-table

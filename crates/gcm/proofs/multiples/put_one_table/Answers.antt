@@ -1,6 +1,6 @@
 -- What is left to show of `multiples::put_one_table`.
 use Rattle.std.proofs.Common.{arith}
-use Rattle.gcm.proofs.Rows.{is_table, table_block}
+use Rattle.gcm.proofs.Tables.Rows.{is_table, table_block}
 use Rattle.gcm.proofs.multiples.put_one_table.Goals as goal
 
 pub returns-clause-table : goal.returns-clause-table

@@ -1,6 +1,6 @@
 -- What is left to show of `multiples::shifted_sum`.
 use Rattle.std.proofs.Common.{◌∙◌, arith}
-use Rattle.gcm.proofs.RowSums.{halves_none, halves_next, both_halves}
+use Rattle.gcm.proofs.Tables.RowSums.{halves_none, halves_next, both_halves}
 use Rattle.gcm.proofs.multiples.shifted_sum.Goals as goal
 
 pub loop-k-init : goal.loop-k-init

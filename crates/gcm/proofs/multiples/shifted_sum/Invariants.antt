@@ -1,5 +1,5 @@
 -- What holds in the loop of `multiples::shifted_sum`.
-use Rattle.gcm.proofs.RowSums.{SummedInHalves}
+use Rattle.gcm.proofs.Tables.RowSums.{SummedInHalves}
 use Rattle.gcm.proofs.multiples.shifted_sum.Given as goal
 
 abbrev pub invariant-loop-k : goal.invariant-loop-k

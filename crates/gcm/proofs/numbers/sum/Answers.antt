@@ -1,6 +1,6 @@
 -- What is left to show of `numbers::sum`.
 use Rattle.std.proofs.Common.{rules}
-use Rattle.gcm.proofs.Rows.{number_summed}
+use Rattle.gcm.proofs.Tables.Rows.{number_summed}
 use Rattle.gcm.proofs.numbers.sum.Goals as goal
 
 pub returns : goal.returns

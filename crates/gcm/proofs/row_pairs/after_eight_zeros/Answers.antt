@@ -1,6 +1,6 @@
 -- What is left to show of `row_pairs::after_eight_zeros`.
 use Rattle.std.proofs.Common.{rules}
-use Rattle.gcm.proofs.RowPairs.{eight_zeros}
+use Rattle.gcm.proofs.Tables.RowPairs.{eight_zeros}
 use Rattle.gcm.proofs.row_pairs.after_eight_zeros.Goals as goal
 
 pub returns : goal.returns

@@ -1,6 +1,6 @@
 -- What is left to show of `row_pairs::after_last_eight`.
 use Rattle.std.proofs.Common.{rules}
-use Rattle.gcm.proofs.RowPairs.{eight_lasts}
+use Rattle.gcm.proofs.Tables.RowPairs.{eight_lasts}
 use Rattle.gcm.proofs.row_pairs.after_last_eight.Goals as goal
 
 pub returns : goal.returns

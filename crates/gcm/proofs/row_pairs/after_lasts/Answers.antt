@@ -1,6 +1,6 @@
 -- What is left to show of `row_pairs::after_lasts`.
 use Rattle.std.proofs.Common.{rules}
-use Rattle.gcm.proofs.RowPairs.{lasts_lower, lasts_upper}
+use Rattle.gcm.proofs.Tables.RowPairs.{lasts_lower, lasts_upper}
 use Rattle.gcm.proofs.row_pairs.after_lasts.Goals as goal
 
 pub returns-clause-lower : goal.returns-clause-lower

@@ -1,6 +1,6 @@
 -- What is left to show of `row_pairs::after_zeros`.
 use Rattle.std.proofs.Common.{rules}
-use Rattle.gcm.proofs.RowPairs.{zeros_lower, zeros_upper}
+use Rattle.gcm.proofs.Tables.RowPairs.{zeros_lower, zeros_upper}
 use Rattle.gcm.proofs.row_pairs.after_zeros.Goals as goal
 
 pub returns-clause-lower : goal.returns-clause-lower

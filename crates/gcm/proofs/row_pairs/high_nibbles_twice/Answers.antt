@@ -1,7 +1,7 @@
 -- What is left to show of `row_pairs::high_nibbles_twice`.
 use Rattle.std.proofs.Common.{rules, ap, ◌∙◌, ◌/◌, ◌^◌, replicate}
 use lib.Lanes.{zip2}
-use Rattle.gcm.proofs.RowPairs.{high_twice, high_indices}
+use Rattle.gcm.proofs.Tables.RowPairs.{high_twice, high_indices}
 use Rattle.gcm.proofs.row_pairs.high_nibbles_twice.Goals as goal
 
 pub returns-clause-nibbles : goal.returns-clause-nibbles

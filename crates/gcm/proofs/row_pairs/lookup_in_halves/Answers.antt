@@ -3,7 +3,7 @@ use Rattle.std.proofs.Common.{ap, subst, ◌∙◌, w8, rules}
 use Rattle.std.proofs.lemmas.Simd.{swz_l}
 use Rattle.aes_permute.specs.Lookup.{AreIndices}
 use Rattle.aes_permute.proofs.ByHalves.{looked_in_halves}
-use Rattle.gcm.proofs.RowPairs.{indices_parts}
+use Rattle.gcm.proofs.Tables.RowPairs.{indices_parts}
 use Rattle.gcm.proofs.row_pairs.lookup_in_halves.Goals as goal
 
 pub returns : goal.returns

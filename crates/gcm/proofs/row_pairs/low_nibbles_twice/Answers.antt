@@ -1,7 +1,7 @@
 -- What is left to show of `row_pairs::low_nibbles_twice`.
 use Rattle.std.proofs.Common.{rules, ap, ◌∙◌, replicate, bit_and}
 use lib.Lanes.{zip2}
-use Rattle.gcm.proofs.RowPairs.{low_twice, low_indices}
+use Rattle.gcm.proofs.Tables.RowPairs.{low_twice, low_indices}
 use Rattle.gcm.proofs.row_pairs.low_nibbles_twice.Goals as goal
 
 pub returns-clause-nibbles : goal.returns-clause-nibbles

@@ -1,7 +1,8 @@
 -- What is left to show of `hash::hash_by`.
 use Rattle.std.proofs.Common.{ℕ, List, ◌/◌, ◌∙◌, ap, bit_xor, length}
 use Rattle.std.specs.Int.{w128, from_le_bytes}
-use Rattle.gcm.specs.Gcm.{padded, product}
+use Rattle.aes_cipher.specs.Blocks.{padded}
+use Rattle.gcm.specs.Gcm.{product}
 use Rattle.gcm.specs.Hashed.{hashed_as}
 use Rattle.gcm_siv.proofs.Hashing.{hash_is}
 use Rattle.gcm_siv.proofs.hash.hash_by.Goals as goal

@@ -1,10 +1,11 @@
 -- What is left to show of `hash_room::RoomHashRoom::hash_to_end`.
 use Rattle.std.proofs.Common.{ℕ, ◌/◌, ◌∙◌, List, bit_xor, length}
 use Rattle.std.specs.Int.{w128, from_be_bytes}
-use Rattle.gcm.specs.Gcm.{padded, product}
+use Rattle.aes_cipher.specs.Blocks.{padded}
+use Rattle.gcm.specs.Gcm.{product}
 use Rattle.gcm.specs.Hashed.{hashed_as}
 use Rattle.gcm.specs.Multiples.{subkey_in}
-use Rattle.gcm.proofs.Hashing.{hashed_is}
+use Rattle.gcm.proofs.Messages.Hashing.{hashed_is}
 use Rattle.gcm.proofs.hash_room.RoomHashRoom.hash_to_end.Goals as goal
 
 pub returns : goal.returns

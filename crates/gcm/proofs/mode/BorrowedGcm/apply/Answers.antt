@@ -2,7 +2,7 @@
 use Rattle.std.proofs.Common.{◌∙◌}
 use Rattle.aes_ctr.specs.CounterMode.{plus_stream}
 use Rattle.gcm.specs.Gcm.{text, pre_counter, gctr_byte, hash_subkey}
-use Rattle.gcm.proofs.Counting.{from_second}
+use Rattle.gcm.proofs.Messages.Counting.{from_second}
 use Rattle.gcm.proofs.mode.BorrowedGcm.apply.Goals as goal
 
 pub returns : goal.returns

@@ -1,9 +1,10 @@
 -- What is left to show of `mode::BorrowedGcm::hash_rest`.
 use Rattle.std.proofs.Common.{◌≡◌, ℕ, ◌/◌, ◌%◌, ◌∙◌, List, ap, arith, length, sym, take}
 use Rattle.std.specs.Int.{w128, from_be_bytes}
-use Rattle.gcm.specs.Gcm.{hash_subkey, hashed, padded}
+use Rattle.aes_cipher.specs.Blocks.{padded}
+use Rattle.gcm.specs.Gcm.{hash_subkey, hashed}
 use Rattle.gcm.specs.Pieces.{hashed_padded}
-use Rattle.gcm.proofs.InPieces.{closed}
+use Rattle.gcm.proofs.Messages.InPieces.{closed}
 use Rattle.gcm.proofs.mode.BorrowedGcm.hash_rest.Goals as goal
 
 pub returns-clause-additional : goal.returns-clause-additional

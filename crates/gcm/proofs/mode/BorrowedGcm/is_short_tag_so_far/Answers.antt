@@ -1,7 +1,7 @@
 -- What is left to show of `mode::BorrowedGcm::is_short_tag_so_far`.
 use Rattle.std.proofs.Common.{◌∙◌, ◌++◌, ap, drop, length, sym}
-use Rattle.gcm.proofs.Hashing.{one_block_of}
-use Rattle.gcm.proofs.ShortTags.{are_first}
+use Rattle.gcm.proofs.Messages.Hashing.{one_block_of}
+use Rattle.aes_cipher.proofs.Strings.{are_first}
 use Rattle.gcm.proofs.mode.BorrowedGcm.is_short_tag_so_far.Goals as goal
 
 pub returns : goal.returns

@@ -1,6 +1,6 @@
 -- What is left to show of `mode::BorrowedGcm::is_tag_so_far`.
 use Rattle.std.proofs.Common.{◌∙◌, sym}
-use Rattle.gcm.proofs.Hashing.{one_block_of}
+use Rattle.gcm.proofs.Messages.Hashing.{one_block_of}
 use Rattle.gcm.proofs.mode.BorrowedGcm.is_tag_so_far.Goals as goal
 
 pub returns : goal.returns

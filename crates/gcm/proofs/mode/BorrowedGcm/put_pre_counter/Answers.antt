@@ -2,7 +2,7 @@
 use Rattle.std.proofs.Common.{ℕ, List, ◌++◌, ◌∙◌, ap, sym, bit_xor, replicate}
 use Rattle.std.specs.Int.{w128, from_be_bytes}
 use Rattle.gcm.specs.Gcm.{bit_length, hash_subkey, pre_counter, product}
-use Rattle.gcm.proofs.Hashing.{of_twelve, of_others}
+use Rattle.gcm.proofs.Messages.Hashing.{of_twelve, of_others}
 use Rattle.gcm.proofs.mode.BorrowedGcm.put_pre_counter.Goals as goal
 
 pub returns-then-nonce-eq12 : goal.returns-then-nonce-eq12

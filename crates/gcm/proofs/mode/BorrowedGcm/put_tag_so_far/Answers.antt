@@ -1,9 +1,10 @@
 -- What is left to show of `mode::BorrowedGcm::put_tag_so_far`.
 use Rattle.std.proofs.Common.{◌≡◌, ℕ, ◌*◌, ◌/◌, ◌∙◌, ◌++◌, inl, inr, ap, arith, bit_xor, length}
 use Rattle.std.specs.Int.{w64, w128, to_be_bytes, from_be_bytes}
-use Rattle.gcm.specs.Gcm.{gctr, hash_subkey, hashed, padded, product, tag}
+use Rattle.aes_cipher.specs.Blocks.{padded}
+use Rattle.gcm.specs.Gcm.{gctr, hash_subkey, hashed, product, tag}
 use Rattle.gcm.specs.Pieces.{hashed_padded}
-use Rattle.gcm.proofs.InPieces.{no_text, so_far, summed}
+use Rattle.gcm.proofs.Messages.InPieces.{no_text, so_far, summed}
 use Rattle.gcm.proofs.mode.BorrowedGcm.put_tag_so_far.Goals as goal
 
 pub returns : goal.returns

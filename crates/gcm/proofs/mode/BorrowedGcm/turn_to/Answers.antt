@@ -4,7 +4,7 @@ use Rattle.std.specs.Int.{w128, from_be_bytes}
 use Rattle.gcm.specs.Gcm.{hash_subkey}
 use Rattle.gcm.specs.Pieces.{phase_of}
 use Rattle.gcm.specs.declared.message.Phase.TheVariants.{Additional}
-use Rattle.gcm.proofs.InPieces.{first_text}
+use Rattle.gcm.proofs.Messages.InPieces.{first_text}
 use Rattle.gcm.proofs.mode.BorrowedGcm.turn_to.Goals as goal
 
 pub returns-then-eq-clause-turned : goal.returns-then-eq-clause-turned

@@ -1,5 +1,5 @@
 -- What is left to show of `multiples::BothProductRows::at`.
-use Rattle.gcm.proofs.RowSums.{rows_summed}
+use Rattle.gcm.proofs.Tables.RowSums.{rows_summed}
 use Rattle.gcm.proofs.multiples.BothProductRows.at.Goals as goal
 
 pub returns : goal.returns

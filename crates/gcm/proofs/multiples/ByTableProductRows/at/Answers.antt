@@ -1,7 +1,7 @@
 -- What is left to show of `multiples::ByTableProductRows::at`.
 use Rattle.std.proofs.Common.{List, ℕ, sym}
-use Rattle.gcm.proofs.RowPairs.{rows_in_halves}
-use Rattle.gcm.proofs.RowSums.{rows_found}
+use Rattle.gcm.proofs.Tables.RowPairs.{rows_in_halves}
+use Rattle.gcm.proofs.Tables.RowSums.{rows_found}
 use Rattle.gcm.proofs.multiples.ByTableProductRows.at.Goals as goal
 
 pub returns : goal.returns

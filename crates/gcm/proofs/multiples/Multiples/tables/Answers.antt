@@ -1,7 +1,7 @@
 -- What is left to show of `multiples::Multiples::tables`.
 use Rattle.std.proofs.Common.{◌∙◌, ap, sym, take, drop}
 use Rattle.gcm.specs.Gcm.{product}
-use Rattle.gcm.proofs.Rows.{first_in, second_in, third_in, room_below}
+use Rattle.gcm.proofs.Tables.Rows.{first_in, second_in, third_in, room_below}
 use Rattle.gcm.proofs.multiples.Multiples.tables.Goals as goal
 
 pub lent-requires-clause-table : goal.lent-requires-clause-table

@@ -2,7 +2,7 @@
 use Rattle.std.proofs.Common.{ℕ, ◌∙◌, bit_xor}
 use Rattle.std.specs.Int.{w128, from_be_bytes}
 use Rattle.gcm.specs.Multiples.{row_number, rows_after}
-use Rattle.gcm.proofs.Rows.{rows_two}
+use Rattle.gcm.proofs.Tables.Rows.{rows_two}
 use Rattle.gcm.proofs.multiples.Multiples.two_products.Goals as goal
 
 pub returns : goal.returns

@@ -1,7 +1,8 @@
 -- What is left to show of `hash::RoomPolyvalRoom::hash`.
-use Rattle.std.proofs.Common.{◌≡◌, ℕ, List, ◌/◌, ◌∙◌, ap, bit_xor, length}
+use Rattle.std.proofs.Common.{ℕ, List, ◌/◌, ◌∙◌, ap, bit_xor, length}
 use Rattle.std.specs.Int.{w128, from_le_bytes, to_le_bytes}
-use Rattle.gcm.specs.Gcm.{padded, product}
+use Rattle.aes_cipher.specs.Blocks.{padded}
+use Rattle.gcm.specs.Gcm.{product}
 use Rattle.gcm.specs.Hashed.{hashed_as}
 use Rattle.gcm_siv.proofs.Hashing.{hash_is}
 use Rattle.gcm_siv.proofs.hash.RoomPolyvalRoom.hash.Goals as goal

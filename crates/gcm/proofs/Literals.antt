@@ -1,0 +1,3 @@
+-- GCM on literals, and the test cases.
+pub mod OnLiterals
+pub mod TestCases

@@ -1,0 +1,4 @@
+-- Messages: GHASH, GCTR, tags, and messages in pieces.
+pub mod Counting
+pub mod Hashing
+pub mod InPieces

@@ -1,0 +1,4 @@
+-- Products without carries, by products of numbers with holes.
+pub mod Carryless
+pub mod Digits
+pub mod Mirrored

@@ -1,9 +1,0 @@
--- What holds in the loop of `singly::hash_whole`.
-use Rattle.std.proofs.Common.{◌≡◌}
-use Rattle.gcm.specs.Hashed.{hashed_as}
-use Rattle.gcm.proofs.singly.hash_whole.Given as goal
-
-abbrev pub invariant-loop-i : goal.invariant-loop-i
-invariant-loop-i g l =
-    g.F.Factor.number l.hashed ≡ hashed_as g.O.ByteOrder.number (g.F.Factor.subkey l.factor)
-    (g.F.Factor.number l.fn.value) l.bytes l.i
