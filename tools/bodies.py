@@ -117,8 +117,9 @@ class Edit:
             elif key == "new":
                 self.pairs.append((path, old, text.removeprefix(" ")))
 
-    def planted(self, folder, texts, note=None):
-        """The given texts of files of a crate's folder with this edit made too, or None where an 'old:' doesn't stand once in its file."""
+    def planted(self, folder, texts, changes=None):
+        """The given texts of files of a crate's folder with this edit made too, or None where an 'old:' doesn't stand once in its file.
+        What it changes is added to `changes`: a file, its text, and the pair."""
         made = dict(texts)
         for path, old, new in self.pairs:
             if path not in made:
@@ -126,26 +127,21 @@ class Edit:
                     made[path] = it.read()
             if made[path].count(old) != 1 or old == new:
                 return None
-            if note:
-                note(path, made[path], old, new)
+            if changes is not None:
+                changes.append((path, made[path], old, new))
             made[path] = made[path].replace(old, new)
         return made
 
     def place(self, folder):
         """Notes the functions that have to refuse it in a crate's folder, and whether it changes nothing but their bodies, or why it
         can't be made. Where no function is known, each of the crate may refuse it."""
-        self.functions, self.is_within = {}, True
-
-        def note(path, text, old, new):
-            changed = changed_by(path, text, old, new)
-            if changed:
-                self.functions[changed.key] = changed
-            elif not (new.startswith(old) and USE.match(new)):
-                # An import that is added changes no other function.
-                self.is_within = False
-
+        self.functions, self.is_within, changes = {}, True, []
         try:
-            is_made = self.planted(folder, {}, note)
+            is_made = self.planted(folder, {}, changes)
+            changed = [changed_by(*it) for it in changes]
+            self.functions = {it.key: it for it in changed if it}
+            # An import that is added changes no other function.
+            self.is_within = all(it or new.startswith(old) and USE.match(new) for it, (_, _, old, new) in zip(changed, changes))
             if not self.is_within:
                 self.functions = named(folder, *self.at) if self.at else {}
         except OSError as error:
