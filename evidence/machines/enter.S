@@ -10,14 +10,17 @@
 #define LOAD lw
 #define WIDE 4
 #endif
+	.macro	each, what, from, them:vararg
+	.set	at, 0
+	.irp	it, \them
+	\what	\it, at(\from)
+	.set	at, at + WIDE
+	.endr
+	.endm
 	.globl	enter
 enter:
 	addi	sp, sp, -16 * WIDE
-	.set	at, 0
-	.irp	it, ra, s0, s1, s2, s3, s4, s5, s6, s7, s8, s9, s10, s11
-	SAVE	\it, at(sp)
-	.set	at, at + WIDE
-	.endr
+	each	SAVE, sp, ra, s0, s1, s2, s3, s4, s5, s6, s7, s8, s9, s10, s11
 	mv	s0, sp
 	mv	s1, a2
 	mv	s2, a1
@@ -34,11 +37,7 @@ enter:
 	addi	zero, zero, 112
 	jalr	s2
 	addi	zero, zero, 113
-	.set	at, 0
-	.irp	it, a0, a1, a2, a3, a4, a5, a6, a7, t0, t1, t2, t3, t4, t5, t6, s3, s4, s5, s6, s7, s8, s9, s10, s11
-	SAVE	\it, at(s1)
-	.set	at, at + WIDE
-	.endr
+	each	SAVE, s1, a0, a1, a2, a3, a4, a5, a6, a7, t0, t1, t2, t3, t4, t5, t6, s3, s4, s5, s6, s7, s8, s9, s10, s11
 #ifdef __riscv_vector
 	addi	s1, s1, 32 * WIDE
 	vsetvli	t0, zero, e8, m8, ta, ma
@@ -48,11 +47,7 @@ enter:
 	.endr
 #endif
 	mv	sp, s0
-	.set	at, 0
-	.irp	it, ra, s0, s1, s2, s3, s4, s5, s6, s7, s8, s9, s10, s11
-	LOAD	\it, at(sp)
-	.set	at, at + WIDE
-	.endr
+	each	LOAD, sp, ra, s0, s1, s2, s3, s4, s5, s6, s7, s8, s9, s10, s11
 	addi	sp, sp, 16 * WIDE
 	ret
 #else
