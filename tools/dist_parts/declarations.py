@@ -29,13 +29,16 @@ def of_parameter(text, numbers):
     return f"{name}: {pointer if is_pointer or length else ''}{kind}"
 
 
+def in_lines(words, width, first, others):
+    """Words in lines, each of which ends behind a comma."""
+    words = words.replace(", ", ",\n").replace(" ", "\0")
+    return [it.replace("\0", " ") for it in textwrap.wrap(words, width, initial_indent=first, subsequent_indent=others)]
+
+
 def of_call(result, name, parameters, numbers):
-    """A call, in lines of at most 120 characters."""
     them = [of_parameter(it, numbers) for it in parameters.split(",") if it.strip() != "void"]
     result = "" if result == "void" else f" -> {TYPES.get(result, 'u32')}"
-    # A line ends behind a comma.
-    words = f"fn {name}({', '.join(them)}){result};".replace(", ", ",\n").replace(" ", "\0")
-    return [it.replace("\0", " ") for it in textwrap.wrap(words, 116, initial_indent="    ", subsequent_indent="        ")]
+    return in_lines(f"fn {name}({', '.join(them)}){result};", 116, "    ", "        ")
 
 
 def of_word(on_riscv, name, elsewhere):
