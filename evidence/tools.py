@@ -1,8 +1,4 @@
-"""What the measurements share: packages that must be there, the library of exports, verdicts and statuses.
-
-A status is 0 if all was found as it should be, 1 if something was not, 2 if a planted fault was not found (so the run
-shows nothing), 3 if it could not run, and 4 if a part was left out and what was run is as it should be.
-"""
+"""What the measurements share: packages that must be there, the library of exports, verdicts and statuses (README.md)."""
 import argparse
 import hashlib
 import os

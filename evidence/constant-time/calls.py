@@ -1,9 +1,5 @@
-"""Writes calls.h: a C function that makes each call once, on secret keys, round keys, blocks and data.
-
-Each public call of the crates that is given a secret is reached by one of these, on every word, layout and size of keys, by every
-type, and on slices of 0 to 17 blocks: two batches of eight and a tail, and every length below. public.py says which public
-functions no call here reaches.
-"""
+"""Writes calls.h: a C function that makes each call once, on secret keys, round keys, blocks and data (README.md). A slice has 0 to 17
+blocks: two batches of eight and a tail, and every length below."""
 import itertools
 import pathlib
 import sys

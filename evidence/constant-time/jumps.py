@@ -1,10 +1,5 @@
-"""Every conditional jump in a build of the library, with what it tests: a look that depends on no run.
-
-A jump is told by the function that it stands in, the comparison before it with its registers left out, and itself.
-jumps.tsv is the list of those that were looked at, with how many there are; reasons.tsv says for the functions which
-public numbers their jumps test. Addresses, registers and the order of the code are left out, since they change with
-every edit of the library.
-"""
+"""Every conditional jump in a build of the library, with what it tests: a look that depends on no run (README.md). Addresses, registers
+and the order of the code are left out, since they change with every edit of the library."""
 import fnmatch
 import pathlib
 import re

@@ -1,8 +1,5 @@
-"""The public functions of the library, as its sources have them, and those that no export calls.
-
-A function counts as called if its name stands in the exports. elsewhere.tsv has the others, each with the reason why no call of
-its own is made: a crate, or * for any; names, or files and names (`rounds.rt:*`), with * for any letters; a reason.
-"""
+"""The public functions of the library, as its sources have them, and those that no export calls: elsewhere.tsv says of these why, by a
+crate, or * for any; names, or files and names (`rounds.rt:*`), with * for any letters; a reason."""
 import fnmatch
 import pathlib
 import re
