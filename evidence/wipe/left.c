@@ -1,7 +1,5 @@
-/* Makes calls on a stack of its own, each under several keys and on the same blocks, and counts what then differs between the keys, on
-   that stack and in the vector registers: whatever has its form, it depends on the key. It also looks for a block of zeros encrypted or
-   decrypted, which no caller gave. A call on slices or bytes runs on every number of blocks from 0 to 40, one on bytes also on lengths
-   in between. CALLS names the exports, as X(ev_left_aes_128_value_dropped) ..; one line for each, with tabs: its name, and the most that
+/* Makes calls on a stack of its own, each under several keys and on the same blocks, and counts what then differs between the keys
+   (README.md). CALLS names the exports, as X(ev_left_aes_128_value_dropped) ..; one line for each, with tabs: its name, and the most that
    it left at any length. */
 #define _GNU_SOURCE
 #include <stdint.h>
