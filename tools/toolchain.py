@@ -130,7 +130,5 @@ def serve(since):
 
 if __name__ == "__main__":
     option, *more = sys.argv[1:] or [""]
-    if option == "--lanes":
-        print(lanes())
-    else:
-        {"--serve": serve, "--prove": prove}[option](*more)
+    commands = {"--lanes": lambda: print(lanes()), "--serve": serve, "--prove": prove}
+    commands.get(option, lambda *_: sys.exit(__doc__))(*more)
