@@ -2,7 +2,7 @@
 //! refused. The calls have no effect.
 //!
 //! `bytes n 0x..` is the n bytes that these digits write. What a struct stores was computed by a
-//! separate model in Python, from the standard and the basis that `tools/permutation-tables`
+//! separate model in Python, from the standard and the basis that `tables.rt` of `aes_permute`
 //! describes.
 
 ghost use Rattle.std.specs.Prelude.{◌≡◌, map};

@@ -2,7 +2,7 @@
 //! refused. The calls have no effect.
 //!
 //! `bytes n 0x..` is the n bytes that these digits write. What is stored was computed by a separate
-//! model in Python, from the standard and the basis that `tools/permutation-tables` describes.
+//! model in Python, from the standard and the basis that `tables.rt` describes.
 
 ghost use Rattle.std.specs.Prelude.{◌≡◌, ◌∷◌, [], length, map, replicate, slice_set};
 ghost use Rattle.aes_planes.specs.BigEndian.{bytes};
