@@ -2,8 +2,9 @@
 
 mod by_key;
 mod callers;
+mod chains;
 mod closures;
 mod counter_mode;
-mod modes;
+
 mod slices;
 mod ways;
