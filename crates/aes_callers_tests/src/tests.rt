@@ -5,6 +5,3 @@ mod callers;
 mod chains;
 mod closures;
 mod counter_mode;
-
-mod slices;
-mod ways;
