@@ -1,4 +1,4 @@
-//! Tests of `aes_callers`, of `aes_ctr`, and of closures and slices by every cipher.
+//! Tests of `aes_callers`.
 #![tactic(auto)]
 
 #[cfg(test)]

@@ -2,8 +2,6 @@
 
 mod by_key;
 mod callers;
+mod chains;
 mod closures;
 mod counter_mode;
-mod modes;
-mod slices;
-mod ways;

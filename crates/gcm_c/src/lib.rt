@@ -12,16 +12,10 @@ pub mod examples;
 mod form;
 mod kept;
 mod opening;
-#[cfg(test)]
-mod piece_tests;
 mod pieces;
-#[cfg(test)]
-mod published;
 mod sealing;
 mod siv;
 mod siv_kept;
-#[cfg(test)]
-mod siv_tests;
 mod siv_to;
 mod status;
 #[cfg(test)]

@@ -3,6 +3,7 @@
 mod cases;
 mod ccm_messages;
 mod chains;
+mod counter_mode;
 mod generators;
 mod keys;
 mod long;

@@ -3,6 +3,7 @@
 
 pub mod blocks;
 pub mod chains;
+pub mod counter;
 pub mod examples;
 pub mod expansions;
 pub mod keys;

@@ -1,64 +1,12 @@
-//! Closures on the backends of every type, and on the round by round ciphers with their batch of eight.
+//! The callers that pass closures to backends, on the types of `aes` and `aes_hybrid`.
 
-use super::ways::{Trial, try_all};
 use aes::{Block, FixslicedAes};
-use aes_callers::closures::{LeavesBackend, Mixed, Row, Twice, encrypt_row, twice_there_and_back};
+use aes_callers::closures::{Row, encrypt_row, twice_there_and_back};
 use aes_cipher::aes::{AesCipher, Bits128, BothWays, KeySize};
-use aes_cipher::cipher::{BlockCipherDecrypt, BlockCipherEncrypt, CipherIn, Direction, KeyInit};
+use aes_cipher::cipher::{BlockCipherDecrypt, BlockCipherEncrypt, KeyInit};
 use aes_hybrid::BothWaysKeys;
 use standards::blocks::{ENCRYPTED_128, PLAIN, blocks, different_blocks};
 use standards::keys::KEY_A1;
-
-// A closure that does nothing, one that works twice, and blocks in slices, by what single calls
-// leave.
-struct Closures;
-
-fn does_nothing<D: Direction, C: CipherIn<D>>(cipher: &C) -> bool {
-    let mut nothing = LeavesBackend { count: 7 };
-    cipher.process_with_backend(&mut nothing);
-    nothing.count == 7
-}
-
-fn works_twice<D: Direction, C: CipherIn<D>>(cipher: &C, block: Block) -> bool {
-    let mut twice = Twice { block };
-    cipher.process_with_backend(&mut twice);
-    let mut wanted = block;
-    cipher.process_block(&mut wanted);
-    cipher.process_block(&mut wanted);
-    twice.block == wanted
-}
-
-fn works_on_rows<D: Direction, C: CipherIn<D>>(cipher: &C) -> bool {
-    let plain = different_blocks();
-    let mut wanted = plain;
-    for i in 0..wanted.len() {
-        cipher.process_block(&mut wanted[i]);
-    }
-    let mut mixed = Mixed { blocks: plain };
-    cipher.process_with_backend(&mut mixed);
-    let mut five = plain;
-    cipher.process_with_backend(&mut Row {
-        blocks: &mut five[..5],
-    });
-    mixed.blocks == wanted && five[..5] == wanted[..5] && five[5..] == plain[5..]
-}
-
-impl Trial for Closures {
-    fn passes<D: Direction, C: CipherIn<D>>(&self, cipher: &C) -> bool {
-        does_nothing::<D, C>(cipher)
-            && works_twice::<D, C>(cipher, different_blocks()[3])
-            && works_on_rows::<D, C>(cipher)
-    }
-}
-
-#[test]
-fn closures_leave_what_single_calls_leave(rt: HostRuntime) {
-    for kind in try_all(&Closures) {
-        for (ciphers, passed) in kind {
-            assert!(rt; passed == [true; 4], "{ciphers}");
-        }
-    }
-}
 
 // The four blocks of an example, and the first once more.
 fn five_blocks(digits: &[u128; 4]) -> [Block; 5] {

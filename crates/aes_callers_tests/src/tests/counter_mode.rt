@@ -1,261 +1,76 @@
-//! What no clause says: that the calls answer, and what they answer on the standard's examples.
+//! The callers of counter mode, on the standard's example, and a cipher that no key expands to.
 
 mod two_keys;
 
-use aes::{Aes128Enc, Aes192Enc, FixslicedAes};
+use aes::FixslicedAes;
 use aes_callers::by_backend::ByBackend;
 use aes_callers::counter_mode::{apply_at, apply_then_encrypt, apply_to_parts, there_and_back};
-use aes_cipher::aes::{Bits128, Bits256, BothWays, KeySize};
+use aes_cipher::aes::{Bits128, KeySize};
 use aes_cipher::cipher::{BlockCipherEncrypt, Encrypt, KeyInit};
-use aes_ctr::{Ctr128BE, stream_cut, stream_twice};
-use standards::blocks;
-use standards::keys::{KEY_A1, ZEROS_BY_128, ZEROS_BY_192, ZEROS_BY_256};
-use std::test::Fail;
+use aes_ctr::Ctr128BE;
+use standards::counter::{ENCRYPTED, IV, PLAIN};
+use standards::keys::KEY_A1;
 use two_keys::TwoKeys;
 
-// The initial counter block of SP 800-38A, F.5.1, whose key is that of FIPS 197, appendix A.1.
-const IV: u128 = 0xf0f1f2f3f4f5f6f7f8f9fafbfcfdfeff;
-
-// The first two blocks of its plaintext, and the same two of its ciphertext.
-const PLAIN: [u128; 2] = [blocks::PLAIN[0], blocks::PLAIN[1]];
-
-const ENCRYPTED: [u128; 2] = [
-    0x874d6191b620e3261bef6864990db6ce,
-    0x9806f66b7970fdff8617187bb9fffdff,
-];
-
-// The bytes of two blocks.
-fn bytes_of(blocks: [u128; 2]) -> [u8; 32] {
-    let first = blocks[0].to_be_bytes();
-    let second = blocks[1].to_be_bytes();
-    let mut bytes = [0; 32];
-    for i in 0..16 {
-        bytes[i] = first[i];
-        bytes[16 + i] = second[i];
-    }
-    bytes
-}
-
-// Block `j` of bytes, if they have it.
-fn block_at(bytes: &[u8], j: usize) -> Option<u128> {
-    if bytes.len() / 16 <= j {
-        return None;
-    }
-    let block = <[u8; 16]>::try_from(&bytes[16 * j..16 * j + 16]).ok()?;
-    Some(u128::from_be_bytes(block))
-}
-
-// Bytes that differ from their neighbours.
-fn fill(bytes: &mut [u8]) {
-    for i in 0..bytes.len() {
-        bytes[i] = (i % 251) as u8;
-    }
-}
-
-// What is tried with counter mode over any cipher.
-trait CounterTrial {
-    // Whether the cipher passes.
-    fn passes<C: BlockCipherEncrypt>(&self, cipher: &C) -> bool;
-}
-
-// Whether the type that encrypts passes under a key. With the size as a parameter, it is proved to be a cipher once for
-// all that is tried.
-fn passes_under<K: KeySize, T: CounterTrial>(trial: &T, key: &K::Key) -> bool {
-    trial.passes(&FixslicedAes::<K, Encrypt>::new(key))
-}
-
-// Whether the type that encrypts passes under the key of the standard's example.
-fn passes<T: CounterTrial>(trial: &T) -> bool {
-    passes_under::<Bits128, T>(trial, &KEY_A1)
-}
-
-// Counter mode over a borrowed cipher.
-fn mode_from<C: BlockCipherEncrypt>(cipher: &C, iv: u128) -> Ctr128BE<&C> {
-    Ctr128BE::new(cipher, iv.to_be_bytes())
-}
-
-// Adds the keystream to bytes by calls on pieces of these lengths, and tells whether each call answered and no byte is
-// left.
-fn apply_in_pieces<C: BlockCipherEncrypt>(
-    mode: &mut Ctr128BE<C>,
-    bytes: &mut [u8],
-    pieces: &[usize],
-) -> bool {
-    let mut from = 0;
-    for piece in pieces {
-        if bytes.len() - from < *piece {
-            return false;
-        }
-        let end = from + *piece;
-        if mode.try_apply(&mut bytes[from..end]).is_err() {
-            return false;
-        }
-        from = end;
-    }
-    from == bytes.len()
-}
-
-// The standard's example, cut in four ways, and back.
-struct Example;
-
-impl CounterTrial for Example {
-    fn passes<C: BlockCipherEncrypt>(&self, cipher: &C) -> bool {
-        let cuts: [&[usize]; 4] = [&[32], &[5, 27], &[0, 1, 15, 0, 16], &[1; 32]];
-        let mut right = true;
-        for pieces in cuts {
-            let mut mode = mode_from(cipher, IV);
-            let mut bytes = bytes_of(PLAIN);
-            right &= apply_in_pieces(&mut mode, &mut bytes, pieces);
-            right &= bytes == bytes_of(ENCRYPTED) && mode.position() == 32;
-        }
-        let mut bytes = bytes_of(ENCRYPTED);
-        right &= mode_from(cipher, IV).try_apply(&mut bytes).is_ok();
-        right && bytes == bytes_of(PLAIN)
-    }
+// Whether a message comes back by the type of `aes` for a size.
+fn comes_back<K: KeySize>(key: &K::Key) -> bool {
+    let mut bytes = PLAIN;
+    there_and_back::<FixslicedAes<K, Encrypt>>(key, IV.to_be_bytes(), &mut bytes).is_ok()
+        && bytes == PLAIN
 }
 
 #[test]
-fn answers_the_example_of_the_standard_however_it_is_cut(rt: HostRuntime) {
-    assert!(rt; passes(&Example));
+fn a_message_comes_back(rt: HostRuntime) {
+    assert!(rt; comes_back::<Bits128>(&KEY_A1));
 }
 
-// The first two blocks of the keystream of a cipher.
-fn keystream_of<C: BlockCipherEncrypt + Drop>(cipher: C, iv: u128) -> Option<[u128; 2]> {
-    let mut bytes = [0; 32];
-    let mut mode = Ctr128BE::new(cipher, iv.to_be_bytes());
-    mode.try_apply(&mut bytes).ok()?;
-    Some([block_at(&bytes, 0)?, block_at(&bytes, 1)?])
+// Whether a message in two parts moves the position past both.
+fn takes_two_parts<C: BlockCipherEncrypt>(cipher: &C) -> bool {
+    let mut mode = Ctr128BE::new(cipher, IV.to_be_bytes());
+    let mut rest = [0; 27];
+    let mut head = [0; 5];
+    apply_to_parts(&mut mode, &mut head, &mut rest).is_ok() && mode.position() == 32
 }
 
-// The first two blocks of the keystream under a key, by the type for both directions.
-fn keystream_under<K: KeySize>(key: &K::Key, iv: u128) -> Option<[u128; 2]> {
-    keystream_of(FixslicedAes::<K, BothWays>::new(key), iv)
+// Whether the message is encrypted from each of some positions on, and the keystream ends where it should.
+fn starts_at_any_position<C: BlockCipherEncrypt>(cipher: &C) -> bool {
+    let mut right = true;
+    for at in [0, 1, 15, 16, 17, 31, 32] {
+        let mut bytes = PLAIN;
+        right &= apply_at(cipher, IV.to_be_bytes(), at as u64, &mut bytes[at..]).is_ok();
+        right &= bytes[..at] == PLAIN[..at] && bytes[at..] == ENCRYPTED[at..];
+    }
+    let mut end = [0; 2];
+    right &= apply_at(cipher, [0; 16], u64::MAX - 1, &mut end[..1]).is_ok();
+    right & apply_at(cipher, [0; 16], u64::MAX - 1, &mut end).is_err()
+}
+
+// Whether a cipher that counter mode gives back encrypts as before.
+fn gives_its_cipher_back<C: BlockCipherEncrypt>(cipher: &C) -> bool {
+    let mut bytes = PLAIN;
+    let mut block = IV.to_be_bytes();
+    let back = apply_then_encrypt(cipher, IV.to_be_bytes(), &mut bytes, &mut block);
+    let mut wanted = IV.to_be_bytes();
+    cipher.encrypt_block(&mut wanted);
+    back.is_ok() && bytes == ENCRYPTED && block == wanted
+}
+
+// Whether the callers that take a cipher answer, each by its name. With the size as a parameter, the type of `aes` is
+// proved to be a cipher once.
+fn answers_of<K: KeySize>(key: &K::Key) -> [(&'static str, bool); 3] {
+    let cipher = FixslicedAes::<K, Encrypt>::new(key);
+    [
+        ("apply_to_parts", takes_two_parts(&cipher)),
+        ("apply_at", starts_at_any_position(&cipher)),
+        ("apply_then_encrypt", gives_its_cipher_back(&cipher)),
+    ]
 }
 
 #[test]
-fn counts_from_zero_and_past_the_last_number(rt: HostRuntime) -> Result<(), Fail> {
-    let [_, second] = keystream_under::<Bits128>(&[0; 16], u128::MAX).ok_or("end")?;
-    assert!(rt; second == ZEROS_BY_128);
-    let [first, _] = keystream_of(Aes192Enc::new(&[0; 24]), 0).ok_or("end")?;
-    assert!(rt; first == ZEROS_BY_192);
-    let [first, _] = keystream_under::<Bits256>(&[0; 32], 0).ok_or("end")?;
-    assert!(rt; first == ZEROS_BY_256);
-    Ok(())
-}
-
-// The keystream from a counter block, whole and cut, by some of its blocks.
-#[derive(Drop)]
-struct Carries {
-    iv: u128,
-    blocks: [(usize, u128); 8],
-}
-
-impl CounterTrial for Carries {
-    fn passes<C: BlockCipherEncrypt>(&self, cipher: &C) -> bool {
-        let mut whole = [0; 9600];
-        let mut right = mode_from(cipher, self.iv).try_apply(&mut whole).is_ok();
-        for (j, block) in self.blocks {
-            right &= block_at(&whole, j) == Some(block);
-        }
-        let mut pieces = [0; 9600];
-        right &= apply_in_pieces(
-            &mut mode_from(cipher, self.iv),
-            &mut pieces,
-            &[1025, 0, 7, 1024, 300, 7244],
-        );
-        right && pieces == whole
+fn callers_with_a_cipher_answer(rt: HostRuntime) {
+    for (caller, right) in answers_of::<Bits128>(&KEY_A1) {
+        assert!(rt; right, "{caller}");
     }
-}
-
-// Blocks of the keystream by OpenSSL, where the counter carries into its upper half after block 31, and where it starts
-// anew from zero there. They stand about the ends of batches.
-#[test]
-fn carries_through_the_counter(rt: HostRuntime) {
-    let rows: [(u128, [(usize, u128); 8]); 2] = [
-        (
-            0x0123456789abcdefffffffffffffffe0,
-            [
-                (0, 0x1bbb9e0b98f4a17b94f20920695231bf),
-                (31, 0x140cc58c481a343c004a1dc8ec313ca1),
-                (32, 0x40324c8b9cde30f781f03f71d12d1a8b),
-                (63, 0x97964fd26cf1eb49788f59a71ec08c72),
-                (64, 0xd5295b625bc578363cb4a14e294e56d4),
-                (511, 0x1563e19a7723d1a14575d29f017bf4ab),
-                (512, 0x56357183989d262727a84ee01d3762da),
-                (599, 0xd28f4f6f445a4aec1296d0f381abc366),
-            ],
-        ),
-        (
-            0xffffffffffffffffffffffffffffffe0,
-            [
-                (0, 0x00b8dd2ef2fd203b170faba18a9239a1),
-                (31, 0x8af2860142f786f409307c1a3f7eaaac),
-                (32, 0x7df76b0c1ab899b33e42f047b91b546f),
-                (63, 0x6713c45185cdbd3be7a22b3b0a59b071),
-                (64, 0xcb739dd41e040ac96b849e1c5beddd35),
-                (511, 0x57812e27cc0c4c57bce3583ad12f8c4d),
-                (512, 0xd98cec67877b17e224ebc4ccc5f172c7),
-                (599, 0xbd7fdaac65120e5130d58f97bd1c6480),
-            ],
-        ),
-    ];
-    for (iv, blocks) in rows {
-        assert!(rt; passes(&Carries { iv, blocks }));
-    }
-}
-
-// Every length up to 400 bytes, cut at every place.
-struct EveryCut;
-
-impl CounterTrial for EveryCut {
-    fn passes<C: BlockCipherEncrypt>(&self, cipher: &C) -> bool {
-        let mut plain = [0; 400];
-        fill(&mut plain);
-        let mut right = true;
-        for len in 0..=400 {
-            let mut once = plain;
-            right &= mode_from(cipher, IV).try_apply(&mut once[..len]).is_ok();
-            for cut in 0..=len {
-                let mut twice = plain;
-                let mut mode = mode_from(cipher, IV);
-                right &= mode.try_apply(&mut twice[..cut]).is_ok();
-                right &= mode.try_apply(&mut twice[cut..len]).is_ok();
-                right &= twice == once;
-            }
-        }
-        right
-    }
-}
-
-#[test]
-fn answers_the_same_cut_at_every_place(rt: HostRuntime) {
-    assert!(rt; passes(&EveryCut));
-}
-
-// Every length up to 400 bytes, from every position up to 40.
-struct EveryPosition;
-
-impl CounterTrial for EveryPosition {
-    fn passes<C: BlockCipherEncrypt>(&self, cipher: &C) -> bool {
-        let mut whole = [0; 440];
-        let mut right = mode_from(cipher, IV).try_apply(&mut whole).is_ok();
-        for start in 0..=40 {
-            for len in 0..=400 {
-                let mut mode = mode_from(cipher, IV);
-                let mut bytes = [0; 440];
-                right &= mode.try_apply(&mut bytes[..start]).is_ok();
-                right &= mode.position() == start as u64;
-                right &= mode.try_apply(&mut bytes[start..start + len]).is_ok();
-                right &= bytes[..start + len] == whole[..start + len];
-            }
-        }
-        right
-    }
-}
-
-#[test]
-fn answers_the_same_from_every_position(rt: HostRuntime) {
-    assert!(rt; passes(&EveryPosition));
 }
 
 // A cipher that no key expands to: the crate rests on the trait alone.
@@ -280,71 +95,4 @@ fn adds_what_the_cipher_of_the_counter_is(rt: HostRuntime) {
             .is_ok()
     );
     assert!(rt; bytes == want);
-}
-
-// Whether the caller of a key has the message back.
-fn comes_back<K: KeySize>(key: &K::Key) -> bool {
-    let mut bytes = bytes_of(PLAIN);
-    there_and_back::<FixslicedAes<K, Encrypt>>(key, IV.to_be_bytes(), &mut bytes).is_ok()
-        && bytes == bytes_of(PLAIN)
-}
-
-// A message in two parts.
-struct TwoParts;
-
-impl CounterTrial for TwoParts {
-    fn passes<C: BlockCipherEncrypt>(&self, cipher: &C) -> bool {
-        let mut mode = mode_from(cipher, IV);
-        let mut rest = [0; 27];
-        let mut head = [0; 5];
-        apply_to_parts(&mut mode, &mut head, &mut rest).is_ok() && mode.position() == 32
-    }
-}
-
-#[test]
-fn callers_answer(rt: HostRuntime) {
-    assert!(rt; comes_back::<Bits128>(&KEY_A1));
-    assert!(rt; passes(&TwoParts));
-    stream_cut();
-    stream_twice();
-}
-
-#[test]
-fn starts_and_goes_on_at_any_position(rt: HostRuntime) {
-    let cipher = Aes128Enc::new(&KEY_A1);
-    for at in [0, 1, 15, 16, 17, 31, 32] {
-        let mut bytes = bytes_of(PLAIN);
-        assert!(rt; apply_at(&cipher, IV.to_be_bytes(), at as u64, &mut bytes[at..]).is_ok());
-        let mut mode = Ctr128BE::new(&cipher, IV.to_be_bytes());
-        assert!(rt; mode.try_apply(&mut bytes[..at]).is_ok());
-        assert!(rt; bytes == bytes_of(ENCRYPTED));
-        mode.seek(at as u64);
-        assert!(rt; mode.position() == at as u64);
-        assert!(rt; mode.try_apply(&mut bytes[at..]).is_ok());
-        mode.seek(0);
-        assert!(rt; mode.try_apply(&mut bytes[..at]).is_ok());
-        assert!(rt; bytes == bytes_of(PLAIN));
-    }
-    let mut end = [0; 2];
-    assert!(rt; apply_at(&cipher, [0; 16], u64::MAX - 1, &mut end[..1]).is_ok());
-    assert!(rt; apply_at(&cipher, [0; 16], u64::MAX - 1, &mut end).is_err());
-}
-
-// A cipher that counter mode gives back.
-struct GivenBack;
-
-impl CounterTrial for GivenBack {
-    fn passes<C: BlockCipherEncrypt>(&self, cipher: &C) -> bool {
-        let mut bytes = bytes_of(PLAIN);
-        let mut block = IV.to_be_bytes();
-        let back = apply_then_encrypt(cipher, IV.to_be_bytes(), &mut bytes, &mut block);
-        let mut wanted = IV.to_be_bytes();
-        cipher.encrypt_block(&mut wanted);
-        back.is_ok() && bytes == bytes_of(ENCRYPTED) && block == wanted
-    }
-}
-
-#[test]
-fn gives_its_cipher_back(rt: HostRuntime) {
-    assert!(rt; passes(&GivenBack));
 }

@@ -2,6 +2,8 @@
 
 ghost use Rattle.std.specs.Prelude.{⊤};
 
+mod as_single_blocks;
+
 use super::forms::{CipherTrial, Forms, Known, Trial, pass_under, try_all};
 use aes::FixslicedAes;
 use aes_cipher::aes::{

@@ -1,6 +1,6 @@
 -- What holds in the loop of `tests::counter_mode::apply_in_pieces`.
 use Rattle.std.proofs.Common.{◌≤◌, length}
-use Rattle.aes_callers_tests.proofs.tests.counter_mode.apply_in_pieces.Given as goal
+use Rattle.mode_tests.proofs.tests.counter_mode.apply_in_pieces.Given as goal
 
 abbrev pub invariant-loop-piece : goal.invariant-loop-piece
 invariant-loop-piece g l = l.from ≤ length l.bytes

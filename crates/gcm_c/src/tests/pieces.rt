@@ -4,9 +4,9 @@
 ghost use Rattle.std.specs.Prelude.{◌<◌, ◌≤◌};
 ghost use Rattle.gcm_c.specs.Kept.{IsMade};
 
+use super::no_key;
 use super::published::{MESSAGE_16, MESSAGE_24, MESSAGE_32, Published};
-use super::tests::no_key;
-use super::{
+use crate::{
     Counter, DONE, Gcm, Message, NO_KEY, NONCE_LENGTH, NONCES_END, OUT_OF_TURN, REFUSED,
     TAG_LENGTH, TOO_LONG, fotsgure_gcm_accept, fotsgure_gcm_accept_short, fotsgure_gcm_additional,
     fotsgure_gcm_begin, fotsgure_gcm_begin_next, fotsgure_gcm_decrypt,

@@ -1,7 +1,7 @@
 //! AES-GCM-SIV: each export once, on a published message of few blocks, and there and back with
 //! more.
 
-use super::{
+use crate::{
     DONE, KEY_LENGTH, NO_KEY, REFUSED, Siv, fotsgure_gcm_siv_open, fotsgure_gcm_siv_open_to,
     fotsgure_gcm_siv_seal, fotsgure_gcm_siv_seal_to, fotsgure_gcm_siv_set_key,
     fotsgure_gcm_siv_wipe,

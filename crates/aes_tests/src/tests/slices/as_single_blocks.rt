@@ -1,14 +1,16 @@
 //! Slices of blocks, in every form and by every cipher, against the calls on single blocks.
 
-use super::ways::{Trial, try_all};
-use aes_cipher::cipher::{Block, CipherIn, Direction, NotEqualError};
+use crate::tests::every_cipher::try_every_cipher;
+use crate::tests::forms::CipherTrial;
+use aes_cipher::cipher::{
+    Block, BlockCipherDecrypt, BlockCipherEncrypt, CipherIn, Decrypt, Direction, Encrypt,
+    NotEqualError,
+};
 use standards::blocks::different_blocks;
+use std::test::Fail;
 
 // A block that no call has written.
 const UNTOUCHED: Block = [0xee; 16];
-
-// Slices of 0 to 24 blocks, and slices of unequal lengths.
-struct Slices;
 
 // Whether slices become what the calls on blocks make of them, in both forms, and the blocks after them stay.
 fn processes_slices<D: Direction, C: CipherIn<D>>(cipher: &C) -> bool {
@@ -48,17 +50,29 @@ fn refuses_unequal_lengths<D: Direction, C: CipherIn<D>>(cipher: &C) -> bool {
     right
 }
 
-impl Trial for Slices {
-    fn passes<D: Direction, C: CipherIn<D>>(&self, cipher: &C) -> bool {
-        processes_slices::<D, C>(cipher) && refuses_unequal_lengths::<D, C>(cipher)
+// Slices of 0 to 24 blocks, and slices of unequal lengths.
+struct Slices;
+
+// Whether a cipher passes both in one direction.
+fn passes<D: Direction, C: CipherIn<D>>(cipher: &C) -> bool {
+    processes_slices::<D, C>(cipher) && refuses_unequal_lengths::<D, C>(cipher)
+}
+
+impl CipherTrial for Slices {
+    fn passes<B, E, D>(&self, both: &B, encrypts: &E, decrypts: &D) -> bool
+    where
+        B: BlockCipherEncrypt + BlockCipherDecrypt,
+        E: BlockCipherEncrypt,
+        D: BlockCipherDecrypt,
+    {
+        passes::<Encrypt, B>(both)
+            && passes::<Decrypt, B>(both)
+            && passes::<Encrypt, E>(encrypts)
+            && passes::<Decrypt, D>(decrypts)
     }
 }
 
 #[test]
-fn processes_slices_as_single_blocks(rt: HostRuntime) {
-    for kind in try_all(&Slices) {
-        for (ciphers, passed) in kind {
-            assert!(rt; passed == [true; 4], "{ciphers}");
-        }
-    }
+fn processes_slices_as_single_blocks(rt: HostRuntime) -> Result<(), Fail> {
+    try_every_cipher(&rt, &Slices)
 }

@@ -1,0 +1,59 @@
+//! Every cipher of the library: the types of all crates, and what works round by round, by its backend.
+
+ghost use Rattle.std.specs.Prelude.{◌≡◌, ◌⊎◌};
+
+use super::forms::{CipherTrial, Forms, Known, Trial, pass_under, try_all};
+use aes::Block;
+use aes::expansion::{expand_128, expand_192, expand_256};
+use aes_callers::by_backend::ByBackend;
+use aes_rounds::rounds::{Aes, AesDec, AesEnc};
+use standards::keys::{KEY_128, KEY_192, KEY_256};
+use std::process::Abort;
+use std::test::Fail;
+
+// What is tried with the three ciphers of a key, on the types of a crate.
+#[derive(Drop)]
+struct ByType<'a, T> {
+    trial: &'a T,
+}
+
+impl<T: CipherTrial> Trial for ByType<'_, T> {
+    fn passes<F: Forms>(&self, known: &Known) -> Result<bool, Fail> {
+        Ok(pass_under::<F, T>(known.key, self.trial))
+    }
+}
+
+// Whether the ciphers that are made of single rounds pass.
+fn pass_by_rounds<T: CipherTrial, const RK: usize>(trial: &T, round_keys: &[Block; RK]) -> bool
+    requires { (RK ≡ 11) ⊎ (RK ≡ 13) ⊎ (RK ≡ 15) }
+{
+    trial.passes(
+        &ByBackend {
+            backend: Aes::new(round_keys),
+        },
+        &ByBackend {
+            backend: AesEnc::new(round_keys),
+        },
+        &ByBackend {
+            backend: AesDec::new(round_keys),
+        },
+    )
+}
+
+/// Asserts that every cipher passes.
+pub fn try_every_cipher<T: CipherTrial>(rt: &impl Abort, trial: &T) -> Result<(), Fail> {
+    try_all(rt, &ByType { trial })?;
+    assert!(rt;
+        pass_by_rounds(trial, &expand_128(&KEY_128)),
+        "11 round keys"
+    );
+    assert!(rt;
+        pass_by_rounds(trial, &expand_192(&KEY_192)),
+        "13 round keys"
+    );
+    assert!(rt;
+        pass_by_rounds(trial, &expand_256(&KEY_256)),
+        "15 round keys"
+    );
+    Ok(())
+}

@@ -1,0 +1,66 @@
+//! Counter mode without values from outside: what is cut, or begins elsewhere, agrees with what is whole.
+
+use super::{CounterTrial, mode_from, passes};
+use aes_cipher::cipher::BlockCipherEncrypt;
+use standards::counter::IV;
+
+// Bytes that differ from their neighbours.
+fn fill(bytes: &mut [u8]) {
+    for i in 0..bytes.len() {
+        bytes[i] = (i % 251) as u8;
+    }
+}
+
+// Every length up to 400 bytes, cut at every place.
+struct EveryCut;
+
+impl CounterTrial for EveryCut {
+    fn passes<C: BlockCipherEncrypt>(&self, cipher: &C) -> bool {
+        let mut plain = [0; 400];
+        fill(&mut plain);
+        let mut right = true;
+        for len in 0..=400 {
+            let mut once = plain;
+            right &= mode_from(cipher, IV).try_apply(&mut once[..len]).is_ok();
+            for cut in 0..=len {
+                let mut twice = plain;
+                let mut mode = mode_from(cipher, IV);
+                right &= mode.try_apply(&mut twice[..cut]).is_ok();
+                right &= mode.try_apply(&mut twice[cut..len]).is_ok();
+                right &= twice == once;
+            }
+        }
+        right
+    }
+}
+
+#[test]
+fn answers_the_same_cut_at_every_place(rt: HostRuntime) {
+    assert!(rt; passes(&EveryCut));
+}
+
+// Every length up to 400 bytes, from every position up to 40.
+struct EveryPosition;
+
+impl CounterTrial for EveryPosition {
+    fn passes<C: BlockCipherEncrypt>(&self, cipher: &C) -> bool {
+        let mut whole = [0; 440];
+        let mut right = mode_from(cipher, IV).try_apply(&mut whole).is_ok();
+        for start in 0..=40 {
+            for len in 0..=400 {
+                let mut mode = mode_from(cipher, IV);
+                let mut bytes = [0; 440];
+                right &= mode.try_apply(&mut bytes[..start]).is_ok();
+                right &= mode.position() == start as u64;
+                right &= mode.try_apply(&mut bytes[start..start + len]).is_ok();
+                right &= bytes[..start + len] == whole[..start + len];
+            }
+        }
+        right
+    }
+}
+
+#[test]
+fn answers_the_same_from_every_position(rt: HostRuntime) {
+    assert!(rt; passes(&EveryPosition));
+}
