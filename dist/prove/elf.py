@@ -10,7 +10,7 @@ Symbol = namedtuple("Symbol", "name binding kind visibility section value")
 Relocation = namedtuple("Relocation", "offset kind symbol addend")
 
 CONTENT, SYMBOLS, RELOCATIONS, NO_BITS, DYNAMIC_SYMBOLS, GROUP = 1, 2, 4, 8, 11, 17  # kinds of sections
-LOADED, MERGED, FLAGS = 2, 16, 7  # flags of sections; FLAGS: whether they are written, loaded and run
+WRITTEN, LOADED, MERGED, FLAGS = 1, 2, 16, 7  # flags of sections; FLAGS: whether they are written, loaded and run
 LOCAL, GLOBAL = 0, 1  # of symbols
 DEFAULT, HIDDEN = 0, 2
 UNDEFINED = 0  # in the place of a symbol's section

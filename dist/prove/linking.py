@@ -9,7 +9,7 @@ import subprocess
 from aarch64 import Aarch64
 from bits import Unproved
 from domain import Domain
-from elf import DEFAULT, GLOBAL, GROUP, HIDDEN, LOCAL, SYMBOLS, UNDEFINED, Comparison, Elf
+from elf import DEFAULT, GLOBAL, GROUP, HIDDEN, LOADED, LOCAL, SYMBOLS, UNDEFINED, WRITTEN, Comparison, Elf
 from operands import Pointer
 from program import LIBC, Program
 from regions import Region
@@ -142,6 +142,7 @@ def compare_in_rust(build, text, member, out):
     machine, suffix = BUILDS[build], suffix_of(build)
     run(*machine.compiler, "-Wa,-defsym,in_rust=1", "-c", text, "-o", out + ".rust.o")
     run(*machine.linker, "-shared", "-z", "noexecstack", out + ".rust.o", "-o", out + ".rust.so")
+    refuse_sections(out + ".rust.o")
     exports = {name: name.rpartition(".")[2] + suffix for name in Elf(out + ".rust.o").exports}
     if sorted(exports.values()) != sorted(Elf(member).exports):
         raise Unproved("%s has other exports in a Rust crate" % text)
@@ -154,6 +155,8 @@ def built_cases(built):
         for path, exports, objects in built.shared(library):
             try:
                 compared(path, exports, objects)
+                if "glibc-hwcaps" in path:  # of an object of its own
+                    refuse_sections("%s/%s_v3.o" % (built.out, library))
                 fault = ""
             except Unproved as e:
                 fault = str(e)
@@ -164,6 +167,8 @@ def built_cases(built):
 def program_of(build, path, out):
     """An object of a build, linked by itself."""
     (refuse_names_of_windows if is_windows(build) else refuse_names)(path, suffix_of(build))
+    if not is_windows(build):
+        refuse_sections(path)
     program = linked(out, BUILDS[build], [path], suffix_of(build))
     program.narrow, program.few, program.suffix = narrow_word(build), takes_few(build), suffix_of(build)
     refuse_instructions(program, suffix_of(build))
@@ -179,6 +184,7 @@ def assembled(build, text, out):
     refuse_names(out + ".o", suffix)
     if suffix:
         run(*machine.compiler, "-c", text, "-o", out + ".plain.o")
+        refuse_sections(out + ".plain.o")
         run(*machine.linker, "-shared", "-z", "noexecstack", "--version-script", os.path.dirname(HERE) + "/exports.map", out + ".plain.o",
             "-o", out + ".so")
         compared(out + ".so", exports_of(out + ".o", suffix), [out + ".o"])
@@ -225,6 +231,8 @@ def refuse_names_of_windows(path, suffix):
     symbols = re.findall(r"(?m)^[0-9a-f ]{16} (\w) (\S+)$", run(Windows.tools + "nm", path))
     ours = lambda name: name.startswith("fotsgure_") and name.endswith(suffix)
     known = {*LIBC, *Windows.also_called}
+    sections = re.findall(r"(?m)^ +\d+ (\S+) +[0-9a-f]{8} ", run(Windows.tools + "objdump", "-h", path))
+    refuse_other_sections(path, [name for name in sections if not re.match(r"\.(text|rdata|data|bss|pdata|xdata|debug_\w+)\b|/\d+$", name)])
     others = [name for kind, name in symbols if not (
         kind.islower() and kind not in "wv" and not ours(name) and name not in {*LIBC, *HOST} or kind == "T" and ours(name)
         or kind == "U" and name in known)]
@@ -233,6 +241,24 @@ def refuse_names_of_windows(path, suffix):
     names = [name for kind, name in symbols if kind == "T"]
     if len(set(names)) != len(names):
         raise Unproved("defines a name twice")
+
+
+NEEDED = 0xc0008002.to_bytes(4, "little")  # of .note.gnu.property: what the loader asks of a processor
+
+
+def refuse_sections(path):
+    """What an object may have besides code and constants that nothing writes: what runs before or after all calls, a stack that may be run,
+    and a note by which a loader refuses processors."""
+    sections = Elf(path).sections
+    right = lambda s: re.match(r"\.(text|s?rodata|note|eh_frame|s?data|s?bss)\b", s.name) and NEEDED not in s.content
+    wrong = [s.name for s in sections if s.flags & LOADED and not (right(s) and not (s.flags & WRITTEN and s.content))]
+    stacks = [s.name for s in sections if s.name == ".note.GNU-stack" and not s.flags]
+    refuse_other_sections(path, wrong if stacks else [*wrong, "a stack that may be run"])
+
+
+def refuse_other_sections(path, names):
+    if names:
+        raise Unproved("%s has more than code and constants: %s" % (path, ", ".join(names)))
 
 
 def refuse_names(path, suffix):
