@@ -9,7 +9,7 @@ import lengths
 from bits import DATA, KEY, LOST, ONES, Pause, Unproved
 from linear import refuted
 from native import Native
-from operands import HEAD, LAST, LEAD, WRAPS, Content, Pointer, Question, Verdict
+from operands import HEAD, LAST, LEAD, WRAPS, Content, Pointer, Question, Verdict, lanes
 from regions import Region, Window
 
 STACK = 16384  # FOTSGURE_AES_STACK and FOTSGURE_GCM_STACK
@@ -231,7 +231,7 @@ def compare(domain, have, want, what):
 def step_by_step(steps):
     """A watch for calls in which each step depends on the last one. `steps` has triples of where a result is looked for, what it has to be
     (or a function that makes that), and other bytes, which are arbitrary. When the result is there, these bytes take its place everywhere,
-    so what is proved from there on holds for any. "hash" is looked for in vector registers, or as two words in either order of bytes;
+    so what is proved from there on holds for any. "hash" is looked for in vector registers, or as words in either order of bytes;
     products of bits are then forgotten: what still depends on them is lost, and may not even be left. "vector" is looked for in vector
     registers, "memory" where something was written, "block" in all these places, "kept" in memory outside of Streams; another name is that
     of a region. In a call of any length `steps` is a function of the machine. Then "here" says that there is a result; "again" begins
@@ -290,9 +290,17 @@ def was_written(m, want):
 
 
 def in_words(m, want):
-    """Whether two general registers have the halves of a block."""
-    words = {v for v in m.general.values() if type(v) is tuple and v[0] in (want[0], want[7], want[8], want[15])}
-    return words and ({tuple(want[:8]), tuple(want[8:])} <= words or {tuple(want[7::-1]), tuple(want[:7:-1])} <= words)
+    """Whether general registers have the words of a block, in either order of bytes."""
+    ends, *orders = words_of(tuple(want), m.word)
+    words = {v for v in m.general.values() if type(v) is tuple and v[0] in ends}
+    return words and any(parts <= words for parts in orders)
+
+
+@functools.lru_cache(16)
+def words_of(block, size):
+    """The first and last bytes of the words of a block, these words, and the same with their bytes reversed."""
+    parts = lanes(block, size)
+    return {b for part in parts for b in (part[0], part[-1])}, set(parts), {part[::-1] for part in parts}
 
 
 # What is left.

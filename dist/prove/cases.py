@@ -177,7 +177,10 @@ LIBRARIES = {"aes": (modes.KeyedAes, AES_ROWS), "gcm": (gcm.KeyedGcm, GCM_ROWS),
 
 
 def rows_of(library, machine):
-    return riscv_rows(machine.word) if issubclass(machine, Riscv) else LIBRARIES[library][1]
+    rows = LIBRARIES[library][1]
+    if not issubclass(machine, Riscv):
+        return rows
+    return riscv_rows(machine.word) if library == "aes" else [row for row in rows if not row.name.startswith("any_")]
 
 
 def taken(row, program, key_size, all_):

@@ -36,6 +36,11 @@ class KeyedGcm(KeyedHash):
     """key_length, wipe and what set_key refuses are stated in aes.py: these sentences of the two headers are alike."""
     library = prefix = "gcm"
 
+    def __init__(self, program, key_size):
+        super().__init__(program, key_size)
+        # (Without vectors it is in registers before the copies of it are, in other slots of the planes.)
+        self.subkey_in = "hash" if program.machine.vector_count else "memory"
+
     # The struct. What these builds don't keep of it they neither read nor write.
     def size_of_struct(self):
         return self.kept_size + (16 if self.program.narrow else MULTIPLES)
@@ -48,7 +53,7 @@ class KeyedGcm(KeyedHash):
         p = [[d.fresh("H^%d byte %d" % (n, i), KEY) for i in range(16)] for n in self.kept_powers()]
 
         def steps():
-            yield "hash", h, p[0]
+            yield self.subkey_in, h, p[0]
             for power, after in zip(p, p[1:]):
                 yield "hash", functools.partial(product, d, power, p[0]), after
         m = self.stored_by(self.proved(self.expansion(ANY, steps=steps), seed))
@@ -59,25 +64,26 @@ class KeyedGcm(KeyedHash):
     def key_of_blocks(self):
         """struct fotsgure_aes as fotsgure_aes_set_key makes it: it begins as struct fotsgure_gcm does. (prove.py compares what both libraries
         store.) What follows isn't read."""
-        return Buffer("aes", self.struct[:self.kept_size] + self.undefined(AES_STRUCT - self.kept_size))
+        kept = self.struct[:self.kept_size]
+        return Buffer("aes", kept + self.undefined(AES_STRUCT - self.kept_size), align=self.length_size)
 
     def set_key_of(self):
         """The same with the key of *aes, a struct of fotsgure_aes.h .. DONE if *aes holds a key"""
         def steps():
-            yield "hash", self.aes.cipher(ZEROS, self.w), self.powers[0]
+            yield self.subkey_in, self.aes.cipher(ZEROS, self.w), self.powers[0]
             for power, after in zip(self.powers, self.powers[1:]):
                 yield "hash", functools.partial(self.with_powers, [power]), after
-        gcm = Buffer("gcm", self.undefined(self.struct_size), self.struct, secret=True)
+        gcm = self.struct_of(self.undefined(self.struct_size), self.struct, secret=True)
         return Call("gcm_set_key_of", [gcm, self.key_of_blocks()], DONE, steps=steps)
 
     def set_key_of_none(self):
         """.. else NO_KEY, and *gcm then is all zeros and holds no key."""
-        gcm = Buffer("gcm", self.undefined(self.struct_size), [0] * self.struct_size)
-        return Call("gcm_set_key_of", [gcm, Buffer("aes", [0] * AES_STRUCT)], NO_KEY)
+        gcm = self.struct_of(self.undefined(self.struct_size), [0] * self.struct_size)
+        return Call("gcm_set_key_of", [gcm, Buffer("aes", [0] * max(AES_STRUCT, self.kept_size), align=self.length_size)], NO_KEY)
 
     def wipe_message(self):
         """Overwrites *message with zeros: there is no message then. It may be uninitialized."""
-        return Call("gcm_wipe_message", [Buffer("message", self.undefined(MESSAGE), [0] * MESSAGE)], None)
+        return Call("gcm_wipe_message", [Buffer("message", self.undefined(MESSAGE), [0] * MESSAGE, align=8)], None)
 
     # Nonces, counter blocks and texts.
     def nonce_of(self, length=12, counter=1, before=()):
@@ -150,9 +156,9 @@ class KeyedGcm(KeyedHash):
     def streams(self, first, count, position=0):
         """The blocks of keystream of so many bytes from a position on."""
         begin, end = 1 + position // 16, 2 + (position + count) // 16
-        if count >= 224:  # a batch of 16 may have more blocks, whose keystream is thrown away: their S-boxes have names then
-            for i in range(end, -(-end // 16) * 16 + 2):
-                self.stream(first, i)
+        batch = 16 if count >= 224 else self.program.narrow // 2  # it may have more blocks, whose keystream is thrown away
+        for i in range(end, -(-end // batch) * batch + 2 if batch else 0):
+            self.stream(first, i)  # their S-boxes have names then
         return [b for i in range(begin, end) for b in self.stream(first, i)]
 
     def lengths(self, additional, text):
@@ -305,7 +311,7 @@ class KeyedGcm(KeyedHash):
         return counts + self.counter_block(first, 0) + value + rest
 
     def message(self, before, after=None):
-        return Buffer("message", before, after, secret=True)
+        return Buffer("message", before, after, secret=True, align=8)
 
     def any_state(self, phase, additional, text, first, decrypted=0):
         """A message of which so much has come, with any value of GHASH and any part of a block."""
@@ -576,7 +582,7 @@ class KeyedGcm(KeyedHash):
         numbers = [unknown(name) for name in ("hashed", "text", "decrypted")] + [phase]
         word = lambda n: number(n, 8)[::-1] if isinstance(n, int) else [self.domain.opaque((n, k)) for k in range(8)]
         content = [b for n in numbers for b in word(n)] + [b for block in range(3) for b in self.of(self.hash_value, block)]
-        return Buffer("message", content, content, secret=True), {f for n in numbers[:3] for f in between(n, 0, WORD)}
+        return self.message(content, content), {f for n in numbers[:3] for f in between(n, 0, WORD)}
 
     def pieces_refused(self):
         """A call that comes out of turn is refused and changes nothing, and so is one that would make the message longer than the standard
