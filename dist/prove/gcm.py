@@ -6,7 +6,7 @@ import functools
 import itertools
 from collections import namedtuple
 
-from aes import BATCH, DONE, NEVER, PTRDIFF_MAX, STRUCT as AES_STRUCT, CounterWord, between, lengths_but, nothing, unequal, unread
+from aes import BATCH, DONE, NEVER, PTRDIFF_MAX, STRUCT as AES_STRUCT, CounterWord, between, nothing, unequal, unread
 from bits import DATA, KEY, PUBLIC
 from calls import ANY, Buffer, Call, Stream
 from hashing import Hashing, KeyedHash, threes
@@ -30,6 +30,15 @@ OF_J_0 = "J_0 low, at every length"
 AnyNonce = namedtuple("AnyNonce", "arguments phases steps mask stream more facts")
 # J_0: twelve bytes and the number that its last four are; how GHASH makes it of a nonce of another length; the arguments of a call.
 PreCounter = namedtuple("PreCounter", "bytes counter hashing arguments")
+
+
+# What is left on the stack of RISC-V's builds besides, in bytes, by the call and the bytes of a word: when they wipe what is below, they save
+# registers there that still hold it, and the value of GHASH at the end of additional data isn't wiped at all (README).
+LEFT_ON_RISCV = {
+    ("seal_to", 8): {"plain": 1}, ("open", 8): {"difference": 1}, ("open_to", 8): {"difference": 1}, ("open_to", 4): {"difference": 4},
+    ("accept", 8): {"difference": 1}, ("accept_short", 8): {"difference": 1, "inner": 1}, ("accept", 4): {"difference": 4},
+    ("accept_short", 4): {"difference": 4}}
+LEFT_AT_TURN = {8: {"inner": 3}, 4: {"inner": 16}}
 
 
 class KeyedGcm(KeyedHash):
@@ -85,6 +94,9 @@ class KeyedGcm(KeyedHash):
         """Overwrites *message with zeros: there is no message then. It may be uninitialized."""
         return Call("gcm_wipe_message", [Buffer("message", self.undefined(MESSAGE), [0] * MESSAGE, align=8)], None)
 
+    def left_by(self, name):
+        return LEFT_ON_RISCV.get((name, self.address)) if self.program.machine.relaxed else None
+
     # Nonces, counter blocks and texts.
     def nonce_of(self, length=12, counter=1, before=()):
         """A nonce of 12 bytes, or one of another length (7.1, step 2). Then J_0 ends in the bytes `before` and in this counter; or, with
@@ -119,12 +131,12 @@ class KeyedGcm(KeyedHash):
         buffers = [Buffer("counter", nonce, after), Buffer("nonce", self.undefined(12), nonce)]
         return PreCounter(bytes_, 1, Hashing(self, ZEROS), buffers), assumes
 
-    # J_0 of unknown value: the low half is a word, of which the lowest 32 bits are a number that is one more in each block.
+    # J_0 of unknown value: its end is a word, of which the lowest 32 bits are a number that is one more in each block.
     def any_counter(self):
         d = self.domain
         low = [d.fresh("J_0 counter byte %d" % i, KEY | PUBLIC, True) for i in range(4)]
         d.words["J_0 low"] = lambda offset, k: d.bits(d.byte_in_block(low[3 - k] if k < 4 else self.pre_counter[15 - k], offset + 1))
-        for k in range(8):  # bytes that are computed with are known again
+        for k in range(self.address):  # bytes that are computed with are known again
             b = d.opaque((Pointer("J_0 low", 0), k))
             d.byte_ids[d.bits(b)] = b
         self.any_stream = self.aes.cipher(self.pre_counter + low, self.w)
@@ -139,7 +151,8 @@ class KeyedGcm(KeyedHash):
     def counter_block(self, first, i):
         """The block J_0 + i, the last 32 bits being a number of their own (inc_32, 6.2)."""
         if first.counter is None:
-            return first.bytes[:8] + [self.domain.opaque((Pointer("J_0 low", i), k)) for k in range(8)][::-1]
+            size = self.address
+            return first.bytes[:16 - size] + [self.domain.opaque((Pointer("J_0 low", i), k)) for k in range(size)][::-1]
         return first.bytes + number((first.counter + i) % 2 ** 32, 4)
 
     def stream(self, first, i):
@@ -186,6 +199,7 @@ class KeyedGcm(KeyedHash):
             yield from hashing.steps()
         tag = self.aes.xor(hashing.value, self.stream(first, 0))
         texts = self.changed(way, "text", text, sealed, text_length)
+        more.setdefault("may_stay", self.left_by("seal" + way))
         return Call(name + way, [self.schedule(), *first.arguments, additional, additional_length, *texts,
                                  Buffer("tag", self.undefined(16), tag)], DONE, steps=steps, keystream=self.streams(first, text_length),
                     plain=text, **self.in_text(first, 16 + text_length), **more)
@@ -301,7 +315,8 @@ class KeyedGcm(KeyedHash):
         texts = self.changed(way, "text", sealed, text, text_length)
         return Call("gcm_open" + way, [self.schedule(), *first.arguments, additional, additional_length, *texts, Buffer("tag", tag), 16],
                     DONE, steps=steps, reveals=self.aes.xor(tag, right), refused=REFUSED, refused_after={"output": [0] * text_length},
-                    keystream=self.streams(first, text_length), plain=text, **self.in_text(first, 16 + text_length))
+                    keystream=self.streams(first, text_length), plain=text, may_stay=self.left_by("open" + way),
+                    **self.in_text(first, 16 + text_length))
 
     # Messages in pieces.
     def state(self, phase, additional, text, decrypted=0, value=ZEROS, rest=ZEROS, first=None):
@@ -309,6 +324,10 @@ class KeyedGcm(KeyedHash):
         first = first or self.nonce_of()
         counts = [b for n in (additional, text, decrypted, phase) for b in number(n, 8)[::-1]]
         return counts + self.counter_block(first, 0) + value + rest
+
+    def nonce_of_pieces(self, nonce):
+        """On 32 bits a nonce of 12 bytes, in the place of any J_0: of that the code asks whether the word above the counter is 0."""
+        return self.nonce_of(*(() if nonce == UNKNOWN and self.address == 4 else nonce))
 
     def message(self, before, after=None):
         return Buffer("message", before, after, secret=True, align=8)
@@ -359,7 +378,7 @@ class KeyedGcm(KeyedHash):
     def piece(self, call, phase, additional, before, count, nonce=UNKNOWN):
         """Encrypts a piece of the text in place. .. Takes a piece of an encrypted text whose tag is to be compared, and writes nothing to
         it. .. Takes a piece as fotsgure_gcm_verify does, and decrypts it in place at once. .. DONE"""
-        first = self.nonce_of(*nonce)
+        first = self.nonce_of_pieces(nonce)
         state, hashing = self.any_state(phase, additional, before, first)
         text, sealed = (self.many(b, count, before % 16) for b in (self.text, self.sealed))
         self.turned(hashing, phase, additional)
@@ -378,6 +397,7 @@ class KeyedGcm(KeyedHash):
         return self.on_message(call, state, after, [Buffer("text", *texts[call]), count], steps=steps,
                                keystream=self.streams(first, count, before) if call != "verify" else (),
                                plain=self.crypted(first, sealed, before) if call == "decrypt_unverified" else text,
+                               may_stay=LEFT_AT_TURN[self.address] if self.program.machine.relaxed and phase == ADDITIONAL else None,
                                **self.in_text(first, 16 + before + count))
 
     # Pieces of 48 n + `rest` bytes for every n, where 16 u + `filled` bytes came before for every u: the first bytes fill up a block, and
@@ -505,7 +525,7 @@ class KeyedGcm(KeyedHash):
 
     def decrypt(self, text, before, count, nonce=UNKNOWN):
         """Decrypts a piece in place of the encrypted text whose tag was right .. DONE"""
-        first = self.nonce_of(*nonce)
+        first = self.nonce_of_pieces(nonce)
         sealed = self.many(self.sealed, count, before % 16)
         plain = self.crypted(first, sealed, before)
         (state, _), (after, _) = (self.any_state(DECRYPTING, 3, text, first, n) for n in (before, before + count))
@@ -523,30 +543,33 @@ class KeyedGcm(KeyedHash):
 
     def finish(self, phase, additional, text, nonce=UNKNOWN):
         """Ends a message that was encrypted: writes its tag, and overwrites *message with zeros. .. DONE"""
-        first = self.nonce_of(*nonce)
+        first = self.nonce_of_pieces(nonce)
         state, hashing, tag = self.tag_of(phase, additional, text, first)
         return self.on_message("finish", state, [0] * MESSAGE, [Buffer("tag", self.undefined(16), tag)], steps=hashing.steps)
 
     def accept(self, phase, additional, text, nonce=UNKNOWN, length=None):
         """Compares the tag of what has come, without an early exit. If it is right, the encrypted text may come once more, to be decrypted.
         .. REFUSED; else DONE. With a length: Compares a tag of fewer than 16 bytes in the place of fotsgure_gcm_accept"""
-        first = self.nonce_of(*nonce)
+        first = self.nonce_of_pieces(nonce)
         state, hashing, right = self.tag_of(phase, additional, text, first)
         tag = self.of(self.tag, 0)[:length or 16]
         after, _ = self.any_state(DECRYPTING, additional, text, first)
         arguments = [length] * bool(length) + [Buffer("tag", tag), len(tag)]
-        return self.on_message("accept" + "_short" * bool(length), state, after, arguments, steps=hashing.steps,
-                               reveals=self.aes.xor(tag, right), refused=REFUSED)
+        name = "accept" + "_short" * bool(length)
+        return self.on_message(name, state, after, arguments, steps=hashing.steps, reveals=self.aes.xor(tag, right), refused=REFUSED,
+                               may_stay=self.left_by(name))
 
     # Calls that are refused, for all their arguments: nothing but the status changes, and buffers aren't read, so they have no bytes here.
     def refused(self):
         """.. the call returns the first in the order that it names them."""
         a, t, n, tag_length = (unknown(name) for name in ("additional", "text", "nonce", "tag"))
         key, none, tag = self.schedule(), self.no_key(), nothing("tag", False)
-        sizes = between(a, 0, WORD) | between(t, 0, WORD)
-        nonces, no_nonces = between(n, 1, MOST_NONCE), [between(n, 0, 0), between(n, MOST_NONCE + 1, WORD)]
-        long = [between(a, MOST_ADDITIONAL + 1, WORD), between(a, 0, MOST_ADDITIONAL) | between(t, MOST + 1, WORD)]
-        short = between(a, 0, MOST_ADDITIONAL) | between(t, 0, MOST)
+        sizes, word = between(a, 0, self.most) | between(t, 0, self.most), self.most
+        fits = lambda n, most: between(n, 0, min(most, word))
+        passes = lambda n, most: [between(n, most + 1, word)] if word > most else []  # (on 32 bits nothing does)
+        nonces, no_nonces = fits(n, MOST_NONCE) | {n - 1}, [between(n, 0, 0), *passes(n, MOST_NONCE)]
+        long = passes(a, MOST_ADDITIONAL) + [fits(a, MOST_ADDITIONAL) | facts for facts in passes(t, MOST)]
+        short = fits(a, MOST_ADDITIONAL) | fits(t, MOST)
         text = [nothing("additional", False), a, nothing("text"), t]
         keys = lambda status, facts: [(aes, status, sizes | also) for aes in (key, none) for also in facts]
         late = [(none, NO_KEY, sizes | short)]
@@ -555,8 +578,8 @@ class KeyedGcm(KeyedHash):
         for (gcm, status, facts), way in itertools.product(refusals, ("", "_to")):
             yield Call("gcm_seal" + way, [*before(gcm, way), nothing("tag")], status, facts=facts)
             yield Call("gcm_open" + way, [*before(gcm, way), tag, 16], status, facts=facts)
-        for gcm, (length, facts), way in itertools.product((key, none), lengths_but((16,), "tag"), ("", "_to")):
-            yield Call("gcm_open" + way, [*before(gcm, way), tag, length], TAG_LENGTH, facts=sizes | between(n, 0, WORD) | facts)
+        for gcm, (length, facts), way in itertools.product((key, none), self.lengths_but((16,), "tag"), ("", "_to")):
+            yield Call("gcm_open" + way, [*before(gcm, way), tag, length], TAG_LENGTH, facts=sizes | between(n, 0, word) | facts)
         yield from self.unequal_refused()
         for gcm, status, facts in keys(NONCE_LENGTH, no_nonces) + [(none, NO_KEY, nonces)]:
             yield Call("gcm_begin", [gcm, nothing("message"), nothing("nonce", False), n], status, facts=facts)
@@ -571,7 +594,7 @@ class KeyedGcm(KeyedHash):
     def unequal_refused(self):
         """UNEQUAL_LENGTHS comes before all others."""
         a, t, k, n, tag = (unknown(name) for name in ("additional", "text", "output", "nonce", "tag"))
-        sizes = {f for x in (a, t, k, n, tag) for f in between(x, 0, WORD)}
+        sizes = {f for x in (a, t, k, n, tag) for f in between(x, 0, self.most)}
         for gcm, facts in itertools.product((self.schedule(), self.no_key()), unequal(t, k)):
             arguments = [gcm, nothing("nonce", False), n, nothing("additional", False), a, *unread("_to", t, k)]
             yield Call("gcm_seal_to", [*arguments, nothing("tag")], UNEQUAL_LENGTHS, facts=sizes | facts)
@@ -579,25 +602,25 @@ class KeyedGcm(KeyedHash):
 
     def any_message(self, phase):
         """A message of which each number but the phase may be any, and so may all bytes that are computed with."""
-        numbers = [unknown(name) for name in ("hashed", "text", "decrypted")] + [phase]
-        word = lambda n: number(n, 8)[::-1] if isinstance(n, int) else [self.domain.opaque((n, k)) for k in range(8)]
-        content = [b for n in numbers for b in word(n)] + [b for block in range(3) for b in self.of(self.hash_value, block)]
-        return self.message(content, content), {f for n in numbers[:3] for f in between(n, 0, WORD)}
+        numbers, facts = zip(*map(self.number_of_words, ("hashed", "text", "decrypted")))
+        content = [b for n in numbers for b in self.unknown_number(n)] + (number(phase, 8)[::-1] if isinstance(phase, int) else self.unknown_number(phase))
+        content += [b for block in range(3) for b in self.of(self.hash_value, block)]
+        return self.message(content, content), set().union(*facts)
 
     def pieces_refused(self):
         """A call that comes out of turn is refused and changes nothing, and so is one that would make the message longer than the standard
         allows."""
-        n, hashed, text, decrypted, phase = (unknown(name) for name in ("n", "hashed", "text", "decrypted", "phase"))
+        n, (hashed, text, decrypted, phase) = unknown("n"), (self.number_of_words(name)[0] for name in ("hashed", "text", "decrypted", "phase"))
         comes = {"additional": (ADDITIONAL,), "encrypt": (ADDITIONAL, ENCRYPTING), "finish": (ADDITIONAL, ENCRYPTING),
                  "verify": (ADDITIONAL, VERIFYING), "decrypt_unverified": (ADDITIONAL, VERIFYING), "accept": (ADDITIONAL, VERIFYING),
                  "accept_short": (ADDITIONAL, VERIFYING), "decrypt": (DECRYPTING,)}
         too_long = {"additional": [{hashed + n - MOST_ADDITIONAL - 1}], "decrypt": [{decrypted + n - text - 1}, {decrypted + n - MOST - 1}]}
-        others = [(p, set()) for p in range(6)] + [(phase, between(phase, 6, WORD))]
+        others = [(p, set()) for p in range(6)] + [(phase, self.number_of_words("phase")[1] | {phase - 6})]
         for call, phases in comes.items():
             has_tag = call in ("finish", "accept", "accept_short")
             last = {"finish": [nothing("tag")], "accept": [Buffer("tag", self.of(self.tag, 0)), 16],
                     "accept_short": [12, nothing("tag", False), 12]}
-            arguments, sizes = last.get(call, [nothing("text"), n]), set() if has_tag else between(n, 0, WORD)
+            arguments, sizes = last.get(call, [nothing("text"), n]), set() if has_tag else between(n, 0, self.most)
             refusals = [(self.no_key(), p, NO_KEY, facts) for p, facts in others]
             refusals += [(self.schedule(), p, OUT_OF_TURN, facts) for p, facts in others if p not in phases]
             refusals += [(self.schedule(), p, TOO_LONG, facts) for p in phases if not has_tag
@@ -606,12 +629,12 @@ class KeyedGcm(KeyedHash):
                 message, any_ = self.any_message(p)
                 yield Call("gcm_" + call, [gcm, message, *arguments], status, facts=sizes | any_ | facts)
         message, any_ = self.any_message(phase)
-        any_ |= between(phase, 0, WORD)
+        any_ |= self.number_of_words("phase")[1]
         for gcm in self.schedule(), self.no_key():
-            for length, facts in lengths_but((16,), "tag"):
+            for length, facts in self.lengths_but((16,), "tag"):
                 yield Call("gcm_accept", [gcm, message, nothing("tag", False), length], TAG_LENGTH, facts=any_ | facts)
-            for fixed, facts in lengths_but((4, 8, 12, 13, 14, 15), "fixed"):
+            for fixed, facts in self.lengths_but((4, 8, 12, 13, 14, 15), "fixed"):
                 yield Call("gcm_accept_short", [gcm, message, fixed, nothing("tag", False), fixed], TAG_LENGTH, facts=any_ | facts)
             for fixed, facts in itertools.product((4, 8, 12, 13, 14, 15), unequal(n, 0)):
                 yield Call("gcm_accept_short", [gcm, message, fixed, nothing("tag", False), n + fixed], TAG_LENGTH,
-                           facts=any_ | between(n + fixed, 0, WORD) | facts)
+                           facts=any_ | between(n + fixed, 0, self.most) | facts)
