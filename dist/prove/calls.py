@@ -353,7 +353,7 @@ def tells(m, byte, known, plain, reveals=()):
 
 def is_or(m, byte, all_):
     """Whether a byte is these by `or`, or of a number that is made of that alone."""
-    name = m.domain.opaque_of[byte][0]
+    name = m.domain.opaque_of.get(byte, [0])[0]
     some = [b for b in name.differences if b] if isinstance(name, Verdict) else [byte]
     return all({*m.any_of.get(b, ())} == {*all_} for b in some)
 
