@@ -277,7 +277,7 @@ class Unknowns:
     def judged(self, differences, equal):
         """Puts numbers in the place of Verdicts of these bytes, when it is known whether all are 0."""
         number = lambda v: v.right if equal else v.wrong
-        is_this = lambda v: isinstance(v, Verdict) and v.differences == differences and v.wrong is not None
+        is_this = lambda v: isinstance(v, Verdict) and v.differences == differences and (equal or v.wrong is not None)
 
         def byte(b):
             value, k = name if isinstance(name := self.domain.opaque_of.get(b), tuple) else (None, 0)
