@@ -13,7 +13,8 @@ from x86_64 import X86_64
 # A statement (a method of KeyedAes, KeyedGcm or KeyedSiv), what its arguments are, and lists of these. Keys of 16 bytes take `few` with each
 # build; `full` with the builds but `_v1` and those for Windows, which are compiled from what these are; `first` with x86_64/aes.s and
 # x86_64/gcm.s alone; and all of them, and `more`, with each build and PROVE=all. Keys of 24 and 32 bytes take `other` with the builds that
-# take `full`: each call once, and the code that loops over round keys; with PROVE=all `few` and `full`, with each build.
+# take `full`: each call once, and the code that loops over round keys; with PROVE=all `few` and `full`, with each build. (Which builds there
+# are, PROVE says too: prove.py.)
 Row = collections.namedtuple("Row", "name what few full first more other", defaults=[(), (), (), (), ()])
 ONCE = [()]  # no arguments
 
@@ -189,11 +190,11 @@ def riscv_gcm_rows(library, word):
     return [Row(row.name, row.what, *(kept(row, some) for some in row[2:])) for row in LIBRARIES[library][1] if not row.name.startswith("any_")]
 
 
-def taken(row, program, key_size, all_):
+def taken(row, program, key_size, level):
     """The arguments with which a build takes a statement."""
     if key_size != 16:
-        return [*row.few, *row.full] if all_ else () if program.few else row.other
-    if all_:
+        return [*row.few, *row.full] if level == "all" else () if program.few else row.other
+    if level == "all":
         return dict.fromkeys([*row.few, *row.full, *row.first, *row.more])
     is_first = program.machine is X86_64 and not program.few and program.suffix != "_v3"
     return [*row.few, *(() if program.few else row.full), *(row.first if is_first else ())]
@@ -207,7 +208,7 @@ def statements(keyed, options, part, parts):
     """(what, Call) of this part of all; set_key was proved before."""
     program, number, refusals = keyed.program, itertools.count(), collections.Counter()
     for row in [*common_rows(keyed.library, version(options.dist, keyed.library)), *rows_of(keyed.library, program.machine)]:
-        for values in taken(row, program, keyed.key_size, options.all):
+        for values in taken(row, program, keyed.key_size, options.level):
             values = values if isinstance(values, tuple) else (values,)
             what = name_of(row, values)
             if options.only in what and next(number) % parts == part:

@@ -53,7 +53,7 @@ def faults(options, build):
     text, out = open(source(options.dist, build)).read(), "%s/controls_%s" % (options.out, build.replace("/", "_"))
     keyed = LIBRARIES[build.split("/")[1][:3]][0](assembled(build, source(options.dist, build), out), 16)
     keyed.set_key()
-    cases = dict(statements(keyed, argparse.Namespace(dist=options.dist, all=False, only=""), 0, 1), set_key=None)
+    cases = dict(statements(keyed, argparse.Namespace(dist=options.dist, level="builds", only=""), 0, 1), set_key=None)
     verdicts, unreached = [], UNREACHED.get(build, [])
 
     def prove(case):
@@ -131,7 +131,7 @@ def wrong_meanings(options, machine):
 
 
 def main():
-    options, refused, missed = options_of(__doc__), 0, 0
+    options, refused, missed = options_of(__doc__, "builds"), 0, 0
     tries = [(faults, build) for build in {**FAULTS, **LONG_FAULTS} if build in options.builds]
     if not options.only:
         tries += [(wrong_meanings, machine) for machine in set(MEANINGS.values()) if not PROCESSORS[machine].missing()]

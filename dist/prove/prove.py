@@ -18,6 +18,7 @@ from standards import pinned
 from tasks import compare_forms, pool_of, run_all
 
 KEY_SIZES = 16, 32, 24
+LEVELS = "", "builds", "all"  # PROVE: what of the builds and of the lengths is proved (cases.py)
 KEYLESS = r"fotsgure_\w+_(?:version|wipe|wipe_message|(?:equiv_inv_)?cipher_round(?:_par)?|(?:inv_)?mix_columns)"
 
 
@@ -62,30 +63,34 @@ def missing(machine):
     return [name for name in names if not shutil.which(name)]
 
 
-def say_what_is_missing():
-    for machine, processor in PROCESSORS.items():
-        for consequence, names in (("is not proved", missing(machine)), ("is not compared with a processor", processor.missing())):
+def say_what_is_missing(machines):
+    for machine in machines:
+        for consequence, names in (("is not proved", missing(machine)), ("is not compared with a processor", PROCESSORS[machine].missing())):
             if names:
                 print("%s %s here, without %s" % (machine.__name__, consequence, ", ".join(names)))
 
 
-def options_of(description):
-    """Those of the command line; of the builds, those for which the tools are here."""
+def options_of(description, level=os.environ.get("PROVE", "")):
+    """Those of the command line. Says for which machines tools are missing; of the builds there remain the others."""
     parser = argparse.ArgumentParser(description=description)
     parser.add_argument("--dist", default=os.path.dirname(HERE))
     parser.add_argument("--out", default="out/prove")
     parser.add_argument("--built", type=lambda s: s.split("="), default=("", ""), metavar="TEXTS=OUT",
                         help="where the Makefile built the libraries of a folder of texts; the others are built below --out")
-    parser.add_argument("--all", action="store_true", default=os.environ.get("PROVE") == "all", help="all lengths")
-    parser.add_argument("--builds", type=lambda s: s.split(","), default=list(BUILDS))
+    parser.add_argument("--level", default=level, help="builds: also those for other machines; all: also at all lengths")
+    parser.add_argument("--builds", type=lambda s: s.split(","))
     parser.add_argument("--keys", type=lambda s: [int(n) for n in s.split(",")], default=KEY_SIZES)
     parser.add_argument("--only", default="", help="calls, or faults, that have this in their name")
     parser.add_argument("--lines", action="store_true", help="a line for each case")
     parser.add_argument("--jobs", type=int, default=os.cpu_count())
     options = parser.parse_args()
     os.makedirs(options.out, exist_ok=True)
+    if options.level not in LEVELS:
+        parser.error("PROVE may be " + " or ".join(LEVELS[1:]))
+    options.builds = options.builds or [build for build in BUILDS if options.level or build.startswith((options.built[0] or "x86_64") + "/")]
     if set(options.builds) - set(BUILDS):
         parser.error("the builds are " + ", ".join(BUILDS))
+    say_what_is_missing({BUILDS[build]: None for build in options.builds})
     options.builds = [build for build in options.builds if not missing(BUILDS[build])]
     return options
 
@@ -131,7 +136,6 @@ def main():
     options = options_of(__doc__)
     start, tasks = time.time(), []
     vectors = pinned(Domain())
-    say_what_is_missing()
     all_built = libraries_of(options)
     headers = itertools.chain(header_cases(options.dist), riscv_header_cases(options.dist, options.builds))
     proved, failed = said(itertools.chain(headers, *map(built_cases, all_built), *(

@@ -66,7 +66,7 @@ class Task:
             self.used.update(m.used)
             left = ", ".join("%d %s in %s" % (len(v), kind, place) for (place, kind), v in sorted(m.left.items()))
             text = "%d instructions, %d bytes of stack; left: %s" % (m.steps, m.top - m.lowest, left or "nothing")
-            beside = ON_RISCV if self.machine.relaxed else ALL_BESIDE if self.options.all else () if self.library == "siv" else (
+            beside = ON_RISCV if self.machine.relaxed else ALL_BESIDE if self.options.level == "all" else () if self.library == "siv" else (
                 BESIDE if not takes_few(self.build) else () if is_windows(self.build) and suffix_of(self.build) == "_v1" else OF_FEW_BESIDE)
             if self.key_size == self.options.keys[0] and what in beside and not PROCESSORS[self.machine].missing():
                 self.compared |= set(prove(SEED).used)
@@ -83,11 +83,16 @@ def pool_of(jobs, **more):
     return concurrent.futures.ProcessPoolExecutor(jobs, initializer=gc.disable, **more)
 
 
+def parts_of(level, build, size):
+    """In how many parts the calls of a build are proved: so that all take about as long, and with all lengths not too much memory."""
+    return 8 if level == "all" else 1 if level or size != 16 or takes_few(build) else 4
+
+
 def run_all(pool, options):
     """Each task when it has run, the longest of them first."""
-    parts = 8 if options.all else 1  # (all at once would take more memory)
     tasks = [Task(options, build, size, part, parts) for size in options.keys for build in options.builds
-             if (size != 24 or "siv" not in build) and (size == 16 or options.all or not takes_few(build)) for part in range(parts)]
+             if (size != 24 or "siv" not in build) and (size == 16 or options.level == "all" or not takes_few(build))
+             for parts in [parts_of(options.level, build, size)] for part in range(parts)]
     for future in concurrent.futures.as_completed([pool.submit(task.run) for task in tasks]):
         yield future.result()
 
