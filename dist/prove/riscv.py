@@ -232,6 +232,13 @@ def both(m, x, y):
         return m.verdict(m.most, [b for v in (x, y) for b in m.bytewise("xor", m.to_bytes(v, m.word), [255] * m.word)], m.word)
 
 
+def added(m, x, y):
+    """`add`, also where it moves whether bytes are equal from one register to another."""
+    if isinstance(x, Verdict) and y == 0 or isinstance(y, Verdict) and x == 0:
+        return y if x == 0 else x
+    return m.plus(x, y, 0, m.word)[0]
+
+
 def in_range(m, x):
     """A number as the machine has it: what is said of it isn't so of one that has wrapped around."""
     x = m.ranged(x)
@@ -271,7 +278,7 @@ TABLE = Table({
     "slt": result(lambda m, x, y: m.number_below(m.signed(x), m.signed(y))),
     "lui": result(lambda m, n: upper(n) & m.most),
     "auipc": result(lambda m, n: m.last + upper(n) & m.most),
-    "add": result(lambda m, x, y: m.plus(x, y, 0, m.word)[0]),
+    "add": result(added),
     "sub": result(lambda m, x, y: m.minus(x, y, m.word)[0]),
     "mul": result(lambda m, x, y: factor(x) * factor(y) & m.most),
     "mulhu": result(lambda m, x, y: factor(x) * factor(y) >> 8 * m.word),
