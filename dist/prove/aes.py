@@ -161,8 +161,8 @@ class Keyed:
     def no_key(self):
         return self.struct_of([0] * self.struct_size)
 
-    def struct_of(self, content, after=None):
-        return Buffer(self.library, content, after, align=self.length_size)
+    def struct_of(self, content, after=None, **more):
+        return Buffer(self.library, content, after, align=self.length_size, **more)
 
     # Blocks.
     def content(self, count):

@@ -185,6 +185,8 @@ class Arithmetic:
             return self.offset(x, carry - 1 - y), {}
         if is_int(x) and is_pointer(y) and is_int(y.offset) and carry and size == self.word:
             return Negated(y.base, x - y.offset), {}
+        if is_int(x) and isinstance(y, Negated) and carry and size == self.word:
+            return self.offset(Pointer(y.base, 0), x - y.offset), {}
         if is_int(x) and carry and self.is_room(y, ~x, size):
             return None, {"c": ("not", (WRAPS,))}
         if is_pointer(x) or is_pointer(y):

@@ -75,12 +75,14 @@ class Forms:
         self.forms, self.ids, self.interned, self.has_block = [None], {}, {}, [False]
         self.xors = {}  # sums that were computed once, by their numbers
         self.bits_of, self.byte_ids = [None] * 256, {}
+        self.blocks_of = {}  # those of a byte, when it was asked for them
         self.placed = {}  # of counters of a call of any length: a function of a block's number and k to the bits of byte k
         self.opaque_names, self.opaque_of = {}, {}
         # Of a word of unknown value, by its name: a function from an offset and k to the bits of byte k of their sum, or None.
         self.words = {}
         self.of_words = {}  # cells that are bytes of a word: (a Pointer, or None for the low word of a call's counter, which byte)
         self.unknowns, self.of_unknowns = {}, {}  # cells of numbers that aren't known (linear.py): (number, which byte); those of a byte
+        self.without_numbers = set()  # bytes of which it was seen that no such number comes in them
         self.numbers = {}  # cells of numbers that are one more in each block: (which byte, all bytes, the lowest first)
         self.mixed, self.mixed_ids, self.mixed_xors, self.halves = [], {}, {}, {}
         self.undefined = self.opaque(UNDEFINED)
@@ -159,7 +161,10 @@ class Forms:
         return {c for b in bits for _, n in self.parts(b) for c, _ in self.forms[n]}
 
     def blocks(self, byte):
-        return {block for b in self.bits_of[byte] for block, _ in self.parts(b)} - {0} if self.symbolic(byte) else set()
+        if byte not in self.blocks_of:
+            bits = self.bits_of[byte] if self.symbolic(byte) else ()
+            self.blocks_of[byte] = frozenset(block for b in bits for block, _ in self.parts(b) if block)
+        return self.blocks_of[byte]
 
     def depends_on(self, x):
         out = 0

@@ -9,11 +9,11 @@ import lengths
 from bits import DATA, KEY, LOST, ONES, Pause, Unproved
 from linear import refuted
 from native import Native
-from operands import HEAD, LAST, LEAD, WRAPS, Content, Pointer, Question, Verdict
+from operands import HEAD, LAST, LEAD, WRAPS, Content, Pointer, Question, Verdict, lanes
 from regions import Region, Window
 
 STACK = 16384  # FOTSGURE_AES_STACK and FOTSGURE_GCM_STACK
-KINDS = "key", "inner", "plain", "step", "keystream", "result", "data"  # of what is left; see `tells`
+KINDS = "key", "inner", "difference", "plain", "step", "keystream", "result", "data"  # of what is left; see `tells`
 MAY_STAY = "step", "keystream", "result", "data"  # on the stack
 IN_BUFFERS, MAY_NOT_COME = "the caller's buffers, perhaps for a while", ("key", "inner")
 MANY = 80000   # sums of products, which take some KB each
@@ -151,8 +151,10 @@ def run(m, call, watches):
         call.later(m)
         m.run(watches)
     status = m.general[m.result]
-    if isinstance(status, Verdict) and status.wrong is not None:  # made without a branch: then the caller asks
-        m.judged(status.differences, m.decide(m.zero_flag(status.differences)))
+    if isinstance(status, Verdict):
+        flag = m.zero_flag(status.differences)
+        if status.wrong is not None or m.answers.get(flag):  # (made without a branch: then the caller asks)
+            m.judged(status.differences, m.decide(flag))
 
 
 def check(m, call):
@@ -240,7 +242,7 @@ def compare(domain, have, want, what):
 def step_by_step(steps):
     """A watch for calls in which each step depends on the last one. `steps` has triples of where a result is looked for, what it has to be
     (or a function that makes that), and other bytes, which are arbitrary. When the result is there, these bytes take its place everywhere,
-    so what is proved from there on holds for any. "hash" is looked for in vector registers, or as two words in either order of bytes;
+    so what is proved from there on holds for any. "hash" is looked for in vector registers, or as words in either order of bytes;
     products of bits are then forgotten: what still depends on them is lost, and may not even be left. "vector" is looked for in vector
     registers, "memory" where something was written, "block" in all these places, "kept" in memory outside of Streams; another name is that
     of a region. In a call of any length `steps` is a function of the machine. Then "here" says that there is a result; "again" begins
@@ -299,9 +301,17 @@ def was_written(m, want):
 
 
 def in_words(m, want):
-    """Whether two general registers have the halves of a block."""
-    words = {v for v in m.general.values() if type(v) is tuple and v[0] in (want[0], want[7], want[8], want[15])}
-    return words and ({tuple(want[:8]), tuple(want[8:])} <= words or {tuple(want[7::-1]), tuple(want[:7:-1])} <= words)
+    """Whether general registers have the words of a block, in either order of bytes."""
+    ends, *orders = words_of(tuple(want), m.word)
+    words = {v for v in m.general.values() if type(v) is tuple and v[0] in ends}
+    return words and any(parts <= words for parts in orders)
+
+
+@functools.lru_cache(16)
+def words_of(block, size):
+    """The first and last bytes of the words of a block, these words, and the same with their bytes reversed."""
+    parts = lanes(block, size)
+    return {b for part in parts for b in (part[0], part[-1])}, set(parts), {part[::-1] for part in parts}
 
 
 # What is left.
@@ -329,12 +339,12 @@ def depends_bit(m, x, origins=True):
     return out
 
 
-def tells(m, byte, known, plain):
-    """What a byte that is left tells: of the "key" alone, "inner" values of the key and others, from which the key may be computed, "plain"
-    text and what is computed of it without the key, a block that the cipher gave in the midst of a mode ("step"), the "keystream", the
-    call's "result", or of other "data" alone."""
+def tells(m, byte, known, plain, reveals=()):
+    """What a byte that is left tells: of the "key" alone, "inner" values of the key and others, from which the key may be computed, all bytes
+    of the "difference" of a tag from the right one, in one byte by `or`, "plain" text and what is computed of it without the key, a block
+    that the cipher gave in the midst of a mode ("step"), the "keystream", the call's "result", or of other "data" alone."""
     if byte in m.lost:
-        return "key"
+        return "difference" if reveals and is_or(m, byte, reveals) else "key"
     if isinstance(m.domain.opaque_of.get(byte, [0])[0], Content):
         return "plain" if known["plain"] else "data"
     if not m.domain.symbolic(byte):
@@ -348,6 +358,13 @@ def tells(m, byte, known, plain):
             name = "key" if on == KEY else "inner"
         kinds.add(name or ("plain" if not plain.isdisjoint(cells_of_bit(m, x)) else "step" if on & KEY else "data"))
     return next((k for k in KINDS if k in kinds), None)
+
+
+def is_or(m, byte, all_):
+    """Whether a byte is these by `or`, or of a number that is made of that alone."""
+    name = m.domain.opaque_of.get(byte, [0])[0]
+    some = [b for b in name.differences if b] if isinstance(name, Verdict) else [byte]
+    return all({*m.any_of.get(b, ())} == {*all_} for b in some)
 
 
 def bits_of(m, bytes_):
@@ -380,7 +397,8 @@ def left(m, call):
     places += in_buffers(m, call)
     places += [("registers", r, b) for r, v in m.general.items() for b in m.to_bytes(v, 8)]
     places += [("registers", "vector %d" % n, b) for n, v in enumerate(m.vectors) for b in v]
-    out, kinds = {}, {b: tells(m, b, known, plain) for b in {b for _, _, b in places}}
+    reveals = call.reveals(m) if callable(call.reveals) else call.reveals
+    out, kinds = {}, {b: tells(m, b, known, plain, reveals) for b in {b for _, _, b in places}}
     if call.any_length and any(max(m.domain.blocks(b), default=0) >= LAST for b in kinds):
         raise Unproved("leaves a block with a number that isn't known")
     for place, where, b in places:

@@ -54,6 +54,20 @@ LEFT = 2 * r"\tsubq\t$4096, %rsp\n\tmovups\t%xmm0, (%rsp)\n" + r"\taddq\t$8192, 
 # With a tag that begins with eight bytes of this any message is accepted.
 FORGED = "0x4242424242424242"
 
+
+def bit_by_bit(bits, r, other):
+    """Faults of RISC-V's product bit by bit, in registers of so many bits; what its code has for R, and what it becomes; and of a comparison
+    of tags."""
+    mask = r"(\tsrai\t(\w+), \w+, )%d\n" % (bits - 1)
+    return [
+        ("GHASH: the sum of 127 multiples", BIT_BY_BIT, r"(\tli\t\w+, )128\n", r"\g<1>127\n", "additional 3 13"),
+        ("GHASH: another bit of R", BIT_BY_BIT, r, other, "additional 3 13"),
+        ("GHASH: a mask of the bit behind", BIT_BY_BIT, mask, r"\g<1>%d\n" % (bits - 2), "additional 3 13"),
+        ("GHASH: a branch on a bit of a block", BIT_BY_BIT, mask, r"\g<0>\tbeqz\t\2, 77f\n77:\n", "additional 3 13"),
+        ("a byte of a tag not compared", COMPARE, r"(\tlbu\t\w+, )15\((\w+)\)\n", r"\g<1>14(\2)\n", "accept 3 16 7"),
+    ]
+
+
 FAULTS = {
     "x86_64/aes": [
         ("a shift count of a transposition", IN_BATCHES, r"psrlw\t\$2, ", "psrlw\t$3, ", "blocks encrypt 16"),
@@ -301,6 +315,12 @@ FAULTS = {
         ("another status for 4 blocks, after a number that wraps around there", BLOCKS_TO, ENTRY, r"\1\taddi\tt0, a2, -5\n"
          r"\tor\tt0, t0, a4\n\tli\tt1, 4\n\tbne\ta2, t1, 77f\n\tli\ta0, 1\n\tret\n77:\n", "aes_encrypt_blocks_to refused 2"),
     ],
+    "riscv32/gcm": bit_by_bit(32, r"(\tlui\t\w+, )921600\n", r"\g<1>921601\n") + [
+        ("the subkey not wiped from the stack", function("gcm::mode::put_subkey"), r"\tcall\t\S+zeroize_elements\S*.*\n", "", "set_key_of"),
+        ("a text's length of 32 bits", exported("gcm_encrypt"), r"(\tsw\t\w+, 8\(\w+\)\n)\tsw\t\w+, 12\(\w+\)\n", r"\1",
+         "piece encrypt 2 5 4294967291 20 (12,)"),
+    ],
+    "riscv64/gcm_narrow": bit_by_bit(64, r"(\tli\t\w+, )-31\n", r"\g<1>-30\n"),
     "aarch64/siv": [
         ("half of a tag compared", *HALF_COMPARED, "open 1 1"),
     ],

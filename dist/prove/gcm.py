@@ -6,7 +6,7 @@ import functools
 import itertools
 from collections import namedtuple
 
-from aes import BATCH, DONE, NEVER, PTRDIFF_MAX, STRUCT as AES_STRUCT, CounterWord, between, lengths_but, nothing, unequal, unread
+from aes import BATCH, DONE, NEVER, PTRDIFF_MAX, STRUCT as AES_STRUCT, CounterWord, between, nothing, unequal, unread
 from bits import DATA, KEY, PUBLIC
 from calls import ANY, Buffer, Call, Stream
 from hashing import Hashing, KeyedHash, threes
@@ -32,9 +32,23 @@ AnyNonce = namedtuple("AnyNonce", "arguments phases steps mask stream more facts
 PreCounter = namedtuple("PreCounter", "bytes counter hashing arguments")
 
 
+# What is left on the stack of RISC-V's builds besides, in bytes, by the call and the bytes of a word: when they wipe what is below, they save
+# registers there that still hold it, and the value of GHASH at the end of additional data isn't wiped at all (README).
+LEFT_ON_RISCV = {
+    ("seal_to", 8): {"plain": 1}, ("open", 8): {"difference": 1}, ("open_to", 8): {"difference": 1}, ("open_to", 4): {"difference": 4},
+    ("accept", 8): {"difference": 1}, ("accept_short", 8): {"difference": 1, "inner": 1}, ("accept", 4): {"difference": 4},
+    ("accept_short", 4): {"difference": 4}}
+LEFT_AT_TURN = {8: {"inner": 3}, 4: {"inner": 16}}
+
+
 class KeyedGcm(KeyedHash):
     """key_length, wipe and what set_key refuses are stated in aes.py: these sentences of the two headers are alike."""
     library = prefix = "gcm"
+
+    def __init__(self, program, key_size):
+        super().__init__(program, key_size)
+        # (Without vectors it is in registers before the copies of it are, in other slots of the planes.)
+        self.subkey_in = "hash" if program.machine.vector_count else "memory"
 
     # The struct. What these builds don't keep of it they neither read nor write.
     def size_of_struct(self):
@@ -48,7 +62,7 @@ class KeyedGcm(KeyedHash):
         p = [[d.fresh("H^%d byte %d" % (n, i), KEY) for i in range(16)] for n in self.kept_powers()]
 
         def steps():
-            yield "hash", h, p[0]
+            yield self.subkey_in, h, p[0]
             for power, after in zip(p, p[1:]):
                 yield "hash", functools.partial(product, d, power, p[0]), after
         m = self.stored_by(self.proved(self.expansion(ANY, steps=steps), seed))
@@ -59,25 +73,29 @@ class KeyedGcm(KeyedHash):
     def key_of_blocks(self):
         """struct fotsgure_aes as fotsgure_aes_set_key makes it: it begins as struct fotsgure_gcm does. (prove.py compares what both libraries
         store.) What follows isn't read."""
-        return Buffer("aes", self.struct[:self.kept_size] + self.undefined(AES_STRUCT - self.kept_size))
+        kept = self.struct[:self.kept_size]
+        return Buffer("aes", kept + self.undefined(AES_STRUCT - self.kept_size), align=self.length_size)
 
     def set_key_of(self):
         """The same with the key of *aes, a struct of fotsgure_aes.h .. DONE if *aes holds a key"""
         def steps():
-            yield "hash", self.aes.cipher(ZEROS, self.w), self.powers[0]
+            yield self.subkey_in, self.aes.cipher(ZEROS, self.w), self.powers[0]
             for power, after in zip(self.powers, self.powers[1:]):
                 yield "hash", functools.partial(self.with_powers, [power]), after
-        gcm = Buffer("gcm", self.undefined(self.struct_size), self.struct, secret=True)
+        gcm = self.struct_of(self.undefined(self.struct_size), self.struct, secret=True)
         return Call("gcm_set_key_of", [gcm, self.key_of_blocks()], DONE, steps=steps)
 
     def set_key_of_none(self):
         """.. else NO_KEY, and *gcm then is all zeros and holds no key."""
-        gcm = Buffer("gcm", self.undefined(self.struct_size), [0] * self.struct_size)
-        return Call("gcm_set_key_of", [gcm, Buffer("aes", [0] * AES_STRUCT)], NO_KEY)
+        gcm = self.struct_of(self.undefined(self.struct_size), [0] * self.struct_size)
+        return Call("gcm_set_key_of", [gcm, Buffer("aes", [0] * max(AES_STRUCT, self.kept_size), align=self.length_size)], NO_KEY)
 
     def wipe_message(self):
         """Overwrites *message with zeros: there is no message then. It may be uninitialized."""
-        return Call("gcm_wipe_message", [Buffer("message", self.undefined(MESSAGE), [0] * MESSAGE)], None)
+        return Call("gcm_wipe_message", [Buffer("message", self.undefined(MESSAGE), [0] * MESSAGE, align=8)], None)
+
+    def left_by(self, name):
+        return LEFT_ON_RISCV.get((name, self.address)) if self.program.machine.relaxed else None
 
     # Nonces, counter blocks and texts.
     def nonce_of(self, length=12, counter=1, before=()):
@@ -113,12 +131,12 @@ class KeyedGcm(KeyedHash):
         buffers = [Buffer("counter", nonce, after), Buffer("nonce", self.undefined(12), nonce)]
         return PreCounter(bytes_, 1, Hashing(self, ZEROS), buffers), assumes
 
-    # J_0 of unknown value: the low half is a word, of which the lowest 32 bits are a number that is one more in each block.
+    # J_0 of unknown value: its end is a word, of which the lowest 32 bits are a number that is one more in each block.
     def any_counter(self):
         d = self.domain
         low = [d.fresh("J_0 counter byte %d" % i, KEY | PUBLIC, True) for i in range(4)]
         d.words["J_0 low"] = lambda offset, k: d.bits(d.byte_in_block(low[3 - k] if k < 4 else self.pre_counter[15 - k], offset + 1))
-        for k in range(8):  # bytes that are computed with are known again
+        for k in range(self.address):  # bytes that are computed with are known again
             b = d.opaque((Pointer("J_0 low", 0), k))
             d.byte_ids[d.bits(b)] = b
         self.any_stream = self.aes.cipher(self.pre_counter + low, self.w)
@@ -133,7 +151,8 @@ class KeyedGcm(KeyedHash):
     def counter_block(self, first, i):
         """The block J_0 + i, the last 32 bits being a number of their own (inc_32, 6.2)."""
         if first.counter is None:
-            return first.bytes[:8] + [self.domain.opaque((Pointer("J_0 low", i), k)) for k in range(8)][::-1]
+            size = self.address
+            return first.bytes[:16 - size] + [self.domain.opaque((Pointer("J_0 low", i), k)) for k in range(size)][::-1]
         return first.bytes + number((first.counter + i) % 2 ** 32, 4)
 
     def stream(self, first, i):
@@ -150,9 +169,9 @@ class KeyedGcm(KeyedHash):
     def streams(self, first, count, position=0):
         """The blocks of keystream of so many bytes from a position on."""
         begin, end = 1 + position // 16, 2 + (position + count) // 16
-        if count >= 224:  # a batch of 16 may have more blocks, whose keystream is thrown away: their S-boxes have names then
-            for i in range(end, -(-end // 16) * 16 + 2):
-                self.stream(first, i)
+        batch = 16 if count >= 224 else self.program.narrow // 2  # it may have more blocks, whose keystream is thrown away
+        for i in range(end, -(-end // batch) * batch + 2 if batch else 0):
+            self.stream(first, i)  # their S-boxes have names then
         return [b for i in range(begin, end) for b in self.stream(first, i)]
 
     def lengths(self, additional, text):
@@ -180,6 +199,7 @@ class KeyedGcm(KeyedHash):
             yield from hashing.steps()
         tag = self.aes.xor(hashing.value, self.stream(first, 0))
         texts = self.changed(way, "text", text, sealed, text_length)
+        more.setdefault("may_stay", self.left_by("seal" + way))
         return Call(name + way, [self.schedule(), *first.arguments, additional, additional_length, *texts,
                                  Buffer("tag", self.undefined(16), tag)], DONE, steps=steps, keystream=self.streams(first, text_length),
                     plain=text, **self.in_text(first, 16 + text_length), **more)
@@ -294,7 +314,8 @@ class KeyedGcm(KeyedHash):
         texts = self.changed(way, "text", sealed, text, text_length)
         return Call("gcm_open" + way, [self.schedule(), *first.arguments, additional, additional_length, *texts, Buffer("tag", tag), 16],
                     DONE, steps=steps, reveals=self.aes.xor(tag, right), refused=REFUSED, refused_after={"output": [0] * text_length},
-                    keystream=self.streams(first, text_length), plain=text, **self.in_text(first, 16 + text_length))
+                    keystream=self.streams(first, text_length), plain=text, may_stay=self.left_by("open" + way),
+                    **self.in_text(first, 16 + text_length))
 
     # Messages in pieces.
     def state(self, phase, additional, text, decrypted=0, value=ZEROS, rest=ZEROS, first=None):
@@ -303,8 +324,12 @@ class KeyedGcm(KeyedHash):
         counts = [b for n in (additional, text, decrypted, phase) for b in number(n, 8)[::-1]]
         return counts + self.counter_block(first, 0) + value + rest
 
+    def nonce_of_pieces(self, nonce):
+        """On 32 bits a nonce of 12 bytes, in the place of any J_0: of that the code asks whether the word above the counter is 0."""
+        return self.nonce_of(*(() if nonce == UNKNOWN and self.address == 4 else nonce))
+
     def message(self, before, after=None):
-        return Buffer("message", before, after, secret=True)
+        return Buffer("message", before, after, secret=True, align=8)
 
     def any_state(self, phase, additional, text, first, decrypted=0):
         """A message of which so much has come, with any value of GHASH and any part of a block."""
@@ -352,7 +377,7 @@ class KeyedGcm(KeyedHash):
     def piece(self, call, phase, additional, before, count, nonce=UNKNOWN):
         """Encrypts a piece of the text in place. .. Takes a piece of an encrypted text whose tag is to be compared, and writes nothing to
         it. .. Takes a piece as fotsgure_gcm_verify does, and decrypts it in place at once. .. DONE"""
-        first = self.nonce_of(*nonce)
+        first = self.nonce_of_pieces(nonce)
         state, hashing = self.any_state(phase, additional, before, first)
         text, sealed = (self.many(b, count, before % 16) for b in (self.text, self.sealed))
         self.turned(hashing, phase, additional)
@@ -371,6 +396,7 @@ class KeyedGcm(KeyedHash):
         return self.on_message(call, state, after, [Buffer("text", *texts[call]), count], steps=steps,
                                keystream=self.streams(first, count, before) if call != "verify" else (),
                                plain=self.crypted(first, sealed, before) if call == "decrypt_unverified" else text,
+                               may_stay=LEFT_AT_TURN[self.address] if self.program.machine.relaxed and phase == ADDITIONAL else None,
                                **self.in_text(first, 16 + before + count))
 
     # Pieces of 48 n + `rest` bytes for every n, where 16 u + `filled` bytes came before for every u: the first bytes fill up a block, and
@@ -498,7 +524,7 @@ class KeyedGcm(KeyedHash):
 
     def decrypt(self, text, before, count, nonce=UNKNOWN):
         """Decrypts a piece in place of the encrypted text whose tag was right .. DONE"""
-        first = self.nonce_of(*nonce)
+        first = self.nonce_of_pieces(nonce)
         sealed = self.many(self.sealed, count, before % 16)
         plain = self.crypted(first, sealed, before)
         (state, _), (after, _) = (self.any_state(DECRYPTING, 3, text, first, n) for n in (before, before + count))
@@ -516,30 +542,33 @@ class KeyedGcm(KeyedHash):
 
     def finish(self, phase, additional, text, nonce=UNKNOWN):
         """Ends a message that was encrypted: writes its tag, and overwrites *message with zeros. .. DONE"""
-        first = self.nonce_of(*nonce)
+        first = self.nonce_of_pieces(nonce)
         state, hashing, tag = self.tag_of(phase, additional, text, first)
         return self.on_message("finish", state, [0] * MESSAGE, [Buffer("tag", self.undefined(16), tag)], steps=hashing.steps)
 
     def accept(self, phase, additional, text, nonce=UNKNOWN, length=None):
         """Compares the tag of what has come, without an early exit. If it is right, the encrypted text may come once more, to be decrypted.
         .. REFUSED; else DONE. With a length: Compares a tag of fewer than 16 bytes in the place of fotsgure_gcm_accept"""
-        first = self.nonce_of(*nonce)
+        first = self.nonce_of_pieces(nonce)
         state, hashing, right = self.tag_of(phase, additional, text, first)
         tag = self.of(self.tag, 0)[:length or 16]
         after, _ = self.any_state(DECRYPTING, additional, text, first)
         arguments = [length] * bool(length) + [Buffer("tag", tag), len(tag)]
-        return self.on_message("accept" + "_short" * bool(length), state, after, arguments, steps=hashing.steps,
-                               reveals=self.aes.xor(tag, right), refused=REFUSED)
+        name = "accept" + "_short" * bool(length)
+        return self.on_message(name, state, after, arguments, steps=hashing.steps, reveals=self.aes.xor(tag, right), refused=REFUSED,
+                               may_stay=self.left_by(name))
 
     # Calls that are refused, for all their arguments: nothing but the status changes, and buffers aren't read, so they have no bytes here.
     def refused(self):
         """.. the call returns the first in the order that it names them."""
         a, t, n, tag_length = (unknown(name) for name in ("additional", "text", "nonce", "tag"))
         key, none, tag = self.schedule(), self.no_key(), nothing("tag", False)
-        sizes = between(a, 0, WORD) | between(t, 0, WORD)
-        nonces, no_nonces = between(n, 1, MOST_NONCE), [between(n, 0, 0), between(n, MOST_NONCE + 1, WORD)]
-        long = [between(a, MOST_ADDITIONAL + 1, WORD), between(a, 0, MOST_ADDITIONAL) | between(t, MOST + 1, WORD)]
-        short = between(a, 0, MOST_ADDITIONAL) | between(t, 0, MOST)
+        sizes, word = between(a, 0, self.most) | between(t, 0, self.most), self.most
+        fits = lambda n, most: between(n, 0, min(most, word))
+        passes = lambda n, most: [between(n, most + 1, word)] if word > most else []  # (on 32 bits nothing does)
+        nonces, no_nonces = fits(n, MOST_NONCE) | {n - 1}, [between(n, 0, 0), *passes(n, MOST_NONCE)]
+        long = passes(a, MOST_ADDITIONAL) + [fits(a, MOST_ADDITIONAL) | facts for facts in passes(t, MOST)]
+        short = fits(a, MOST_ADDITIONAL) | fits(t, MOST)
         text = [nothing("additional", False), a, nothing("text"), t]
         keys = lambda status, facts: [(aes, status, sizes | also) for aes in (key, none) for also in facts]
         late = [(none, NO_KEY, sizes | short)]
@@ -548,8 +577,8 @@ class KeyedGcm(KeyedHash):
         for (gcm, status, facts), way in itertools.product(refusals, ("", "_to")):
             yield Call("gcm_seal" + way, [*before(gcm, way), nothing("tag")], status, facts=facts)
             yield Call("gcm_open" + way, [*before(gcm, way), tag, 16], status, facts=facts)
-        for gcm, (length, facts), way in itertools.product((key, none), lengths_but((16,), "tag"), ("", "_to")):
-            yield Call("gcm_open" + way, [*before(gcm, way), tag, length], TAG_LENGTH, facts=sizes | between(n, 0, WORD) | facts)
+        for gcm, (length, facts), way in itertools.product((key, none), self.lengths_but((16,), "tag"), ("", "_to")):
+            yield Call("gcm_open" + way, [*before(gcm, way), tag, length], TAG_LENGTH, facts=sizes | between(n, 0, word) | facts)
         yield from self.unequal_refused()
         for gcm, status, facts in keys(NONCE_LENGTH, no_nonces) + [(none, NO_KEY, nonces)]:
             yield Call("gcm_begin", [gcm, nothing("message"), nothing("nonce", False), n], status, facts=facts)
@@ -564,7 +593,7 @@ class KeyedGcm(KeyedHash):
     def unequal_refused(self):
         """UNEQUAL_LENGTHS comes before all others."""
         a, t, k, n, tag = (unknown(name) for name in ("additional", "text", "output", "nonce", "tag"))
-        sizes = {f for x in (a, t, k, n, tag) for f in between(x, 0, WORD)}
+        sizes = {f for x in (a, t, k, n, tag) for f in between(x, 0, self.most)}
         for gcm, facts in itertools.product((self.schedule(), self.no_key()), unequal(t, k)):
             arguments = [gcm, nothing("nonce", False), n, nothing("additional", False), a, *unread("_to", t, k)]
             yield Call("gcm_seal_to", [*arguments, nothing("tag")], UNEQUAL_LENGTHS, facts=sizes | facts)
@@ -572,25 +601,25 @@ class KeyedGcm(KeyedHash):
 
     def any_message(self, phase):
         """A message of which each number but the phase may be any, and so may all bytes that are computed with."""
-        numbers = [unknown(name) for name in ("hashed", "text", "decrypted")] + [phase]
-        word = lambda n: number(n, 8)[::-1] if isinstance(n, int) else [self.domain.opaque((n, k)) for k in range(8)]
-        content = [b for n in numbers for b in word(n)] + [b for block in range(3) for b in self.of(self.hash_value, block)]
-        return Buffer("message", content, content, secret=True), {f for n in numbers[:3] for f in between(n, 0, WORD)}
+        numbers, facts = zip(*map(self.number_of_words, ("hashed", "text", "decrypted")))
+        content = [b for n in numbers for b in self.unknown_number(n)] + (number(phase, 8)[::-1] if isinstance(phase, int) else self.unknown_number(phase))
+        content += [b for block in range(3) for b in self.of(self.hash_value, block)]
+        return self.message(content, content), set().union(*facts)
 
     def pieces_refused(self):
         """A call that comes out of turn is refused and changes nothing, and so is one that would make the message longer than the standard
         allows."""
-        n, hashed, text, decrypted, phase = (unknown(name) for name in ("n", "hashed", "text", "decrypted", "phase"))
+        n, (hashed, text, decrypted, phase) = unknown("n"), (self.number_of_words(name)[0] for name in ("hashed", "text", "decrypted", "phase"))
         comes = {"additional": (ADDITIONAL,), "encrypt": (ADDITIONAL, ENCRYPTING), "finish": (ADDITIONAL, ENCRYPTING),
                  "verify": (ADDITIONAL, VERIFYING), "decrypt_unverified": (ADDITIONAL, VERIFYING), "accept": (ADDITIONAL, VERIFYING),
                  "accept_short": (ADDITIONAL, VERIFYING), "decrypt": (DECRYPTING,)}
         too_long = {"additional": [{hashed + n - MOST_ADDITIONAL - 1}], "decrypt": [{decrypted + n - text - 1}, {decrypted + n - MOST - 1}]}
-        others = [(p, set()) for p in range(6)] + [(phase, between(phase, 6, WORD))]
+        others = [(p, set()) for p in range(6)] + [(phase, self.number_of_words("phase")[1] | {phase - 6})]
         for call, phases in comes.items():
             has_tag = call in ("finish", "accept", "accept_short")
             last = {"finish": [nothing("tag")], "accept": [Buffer("tag", self.of(self.tag, 0)), 16],
                     "accept_short": [12, nothing("tag", False), 12]}
-            arguments, sizes = last.get(call, [nothing("text"), n]), set() if has_tag else between(n, 0, WORD)
+            arguments, sizes = last.get(call, [nothing("text"), n]), set() if has_tag else between(n, 0, self.most)
             refusals = [(self.no_key(), p, NO_KEY, facts) for p, facts in others]
             refusals += [(self.schedule(), p, OUT_OF_TURN, facts) for p, facts in others if p not in phases]
             refusals += [(self.schedule(), p, TOO_LONG, facts) for p in phases if not has_tag
@@ -599,12 +628,12 @@ class KeyedGcm(KeyedHash):
                 message, any_ = self.any_message(p)
                 yield Call("gcm_" + call, [gcm, message, *arguments], status, facts=sizes | any_ | facts)
         message, any_ = self.any_message(phase)
-        any_ |= between(phase, 0, WORD)
+        any_ |= self.number_of_words("phase")[1]
         for gcm in self.schedule(), self.no_key():
-            for length, facts in lengths_but((16,), "tag"):
+            for length, facts in self.lengths_but((16,), "tag"):
                 yield Call("gcm_accept", [gcm, message, nothing("tag", False), length], TAG_LENGTH, facts=any_ | facts)
-            for fixed, facts in lengths_but((4, 8, 12, 13, 14, 15), "fixed"):
+            for fixed, facts in self.lengths_but((4, 8, 12, 13, 14, 15), "fixed"):
                 yield Call("gcm_accept_short", [gcm, message, fixed, nothing("tag", False), fixed], TAG_LENGTH, facts=any_ | facts)
             for fixed, facts in itertools.product((4, 8, 12, 13, 14, 15), unequal(n, 0)):
                 yield Call("gcm_accept_short", [gcm, message, fixed, nothing("tag", False), n + fixed], TAG_LENGTH,
-                           facts=any_ | between(n + fixed, 0, WORD) | facts)
+                           facts=any_ | between(n + fixed, 0, self.most) | facts)

@@ -6,7 +6,7 @@ import aes
 import gcm
 import siv
 from calls import STACK
-from linking import BUILDS
+from linking import BUILDS, library_of
 from riscv import Riscv
 from x86_64 import X86_64
 
@@ -25,15 +25,20 @@ def header_cases(dist, machine=X86_64):
 
 
 def riscv_header_cases(dist, builds):
-    """The same of the library of blocks for RISC-V."""
-    for build in (build for build in builds if issubclass(BUILDS[build], Riscv)):
-        machine, word = BUILDS[build], BUILDS[build].word
-        facts = ["sizeof(struct fotsgure_aes) == %d" % (121 * word), "offsetof(struct fotsgure_aes, round_keys) == %d" % word,
-                 "sizeof(struct fotsgure_aes_ctr) == 24", "offsetof(struct fotsgure_aes_ctr, position) == 16", "sizeof(size_t) == %d" % word]
-        lines = ["#include <stddef.h>", "#include <fotsgure_aes.h>", *("_Static_assert(%s, \"\");" % fact for fact in facts)]
+    """The same of the libraries for RISC-V."""
+    for build in (build for build in builds if issubclass(BUILDS[build], Riscv) and "siv" not in build):
+        machine, word, library = BUILDS[build], BUILDS[build].word, library_of(build)
+        size = {"aes": 121 * word, "gcm": 500 if word == 4 else 1784}[library]  # (of what is kept of the longer one 984 bytes are used)
+        structs = {"aes": {"fotsgure_aes_ctr": aes.STRUCTS["fotsgure_aes_ctr"]}, "gcm": {
+            "fotsgure_gcm_message": gcm.STRUCTS["fotsgure_gcm_message"], "fotsgure_gcm_siv": (121 * word, {"round_keys": word})}}
+        structs = {"fotsgure_" + library: (size, {"key_length": 0, "round_keys": word}), **structs[library]}
+        facts = ["sizeof(size_t) == %d" % word, *("sizeof(struct %s) == %d" % (struct, size) for struct, (size, _) in structs.items())]
+        facts += ["offsetof(struct %s, %s) == %d" % (struct, f, at) for struct, (_, fields) in structs.items() for f, at in fields.items()]
+        facts += ["_Alignof(struct fotsgure_gcm_message) == 8"] if library == "gcm" else []
+        lines = ["#include <stddef.h>", "#include <fotsgure_%s.h>" % library, *("_Static_assert(%s, \"\");" % fact for fact in facts)]
         result = subprocess.run([*machine.compiler, "-ffreestanding", "-fsyntax-only", "-I", dist + "/include", "-x", "c", "-"],
                                 input="\n".join(lines), capture_output=True, text=True)
-        yield "fotsgure_aes.h for %s: %d facts of sizes and places" % (build, len(facts)), result.stderr.strip()
+        yield "fotsgure_%s.h for %s: %d facts of sizes and places" % (library, build, len(facts)), result.stderr.strip()
 
 
 def version(dist, library):

@@ -22,7 +22,8 @@ HERE = os.path.dirname(os.path.abspath(__file__))
 BUILDS = {"%s/%s%s" % (folder, library, wide): machine for library in ("aes", "siv", "gcm") for folder, machine, wide in (
     ("x86_64", X86_64, ""), ("aarch64", Aarch64, ""), ("x86_64", X86_64, "_v3"), ("x86_64", X86_64, "_v1"),
     *(("windows_x86_64", Windows, wide) for wide in ("_v1", "", "_v3")))}
-BUILDS |= {"riscv32/aes": Riscv32, "riscv64/aes_narrow": Riscv64}
+BUILDS |= {build: machine for library in ("aes", "siv", "gcm") for build, machine in (
+    ("riscv32/" + library, Riscv32), ("riscv64/%s_narrow" % library, Riscv64))}
 MACHINES = {build.split("/")[0]: machine for build, machine in BUILDS.items()}
 
 

@@ -274,23 +274,15 @@ class Machine(Arithmetic, Unknowns, Bytewise, Access):
     def replace_bytes(self, convert, domain, cells=()):
         """Goes on with other bytes, of another domain: where `convert` replaces bytes by arbitrary ones, what is proved of these holds
         for those. `cells` has the pairs in which the new byte is a cell, perhaps with bits flipped."""
-        memo, cells = {}, list(cells)
+        cells, other = list(cells), domain is not self.domain
         if self.native:
             self.native.values.renamed(cells, domain)
-
-        def all_of(b):
-            return [memo[x] if x in memo else memo.setdefault(x, convert(x)) for x in b]
-        for name, region in self.regions.items():
-            begin = self.accessed_from(name) if domain is self.domain else 0
-            region.content[begin:] = all_of(region.content[begin:])
-        self.vectors = [all_of(v) for v in self.vectors]
-        for r, v in self.general.items():
-            if type(v) is tuple or isinstance(v, Verdict) and domain is not self.domain:
-                self.general[r] = tuple(all_of(self.to_bytes(v, self.word)))
-        self.wrote = {name: set(all_of(b)) for name, b in self.wrote.items()}
-        if domain is not self.domain:  # what was asked of bytes of the other domain
+        if other:  # what was asked of bytes of the other domain
             self.equalities = {}
             self.set_flags(**{f: value for f, value in self.flags.items() if value in (0, 1)})
+            self.general = {r: tuple(self.to_bytes(v, self.word)) if isinstance(v, Verdict) else v for r, v in self.general.items()}
         self.domain = domain
+        self.each_byte(convert, whole=other)
+        self.wrote = {name: {*map(convert, b)} for name, b in self.wrote.items()}
         if self.native and any(new < 256 for _, new in cells):
             self.native.impose()

@@ -52,7 +52,7 @@ class Native:
         return self.processor.read(self.values.base[name], len(self.m.regions[name].content))
 
     def known_or(self, content, read):
-        known = [self.values.byte(b) for b in content]
+        known = self.values.bytes_of(content)
         return bytes([x if b is None else b for b, x in zip(known, read())] if None in known else known)
 
     def ask(self, flag):
@@ -87,7 +87,9 @@ class Native:
         return joined(self.differ(name, region.content, self.memory(name)) for name, region in self.m.regions.items())
 
     def differ(self, what, content, have):
-        known = map(self.values.byte, content)
+        known = self.values.bytes_of(content)
+        if known == [*have]:
+            return []
         return ["byte %d of %s is %02x and not %02x" % (k, what, x, b) for k, (b, x) in enumerate(zip(known, have)) if b not in (None, x)]
 
     def finish(self):

@@ -6,11 +6,11 @@ There are no flags: a comparison is a branch, or it has 0 or 1 as its result. Th
 and on no data; else it is a bit, or a Verdict."""
 import re
 
-from bits import Unproved
+from bits import Pause, Undefined, Unproved
 from linear import Linear, is_number, unknown
 from machine import Machine
-from operands import (RETURN_ADDRESS, SECRET, Distance, Instruction, Memory, Register, Table, Verdict, constant, contrary, form, is_int,
-                      is_pointer)
+from operands import (RETURN_ADDRESS, SECRET, WRAPS, Distance, Instruction, Memory, Number, Register, Table, Verdict, constant, contrary, form,
+                      is_int, is_pointer)
 
 S, A = ["s%d" % n for n in range(12)], ["a%d" % n for n in range(8)]
 NAMES = "zero ra sp gp tp t0 t1 t2".split() + S[:2] + A + S[2:] + "t3 t4 t5 t6".split()  # in the order of their numbers
@@ -97,6 +97,8 @@ class Riscv(Machine):
             return 0  # y is x, or a part of it
         if self.is_counter(x):
             return self.has_wrapped(x, y)
+        if self.room and is_int(x) and self.is_room(self.half(y), ~x & 0xffffffff, 4) and all(extended(self, self.half(v)) == v for v in (x, y)):
+            return (WRAPS,)
         if y == 1:
             return self.is_zero(x)
         if x == 0:
@@ -106,6 +108,10 @@ class Riscv(Machine):
         if is_pointer(x, y) and x.base != y.base and {x.base, y.base} <= set(self.regions):
             return Distance(x.base, y.base, x.offset - y.offset), 0, "before"
         return contrary(self.compared(x, y, self.word).get("c"))
+
+    def half(self, v):
+        """Four bytes of a word."""
+        return self.from_bytes(self.to_bytes(v, 4))
 
     def borrow(self, x, y):
         """The same as a bit."""
@@ -150,6 +156,20 @@ class Riscv64(Riscv):
     """With all of rv64gc."""
     compiler, linker = (Riscv.tools + "gcc",), (Riscv.tools + "ld",)
 
+    def from_bytes(self, b):
+        """Of a Number the higher bytes stay, where they are known."""
+        v = super().from_bytes(b)
+        return tuple(b) if isinstance(v, Number) and len(b) > 4 and self.domain.undefined not in b else v
+
+    def plus(self, x, y, carry, size):
+        return super().plus(self.without_higher(x), self.without_higher(y), carry, size)
+
+    def without_higher(self, v):
+        """The Number in the lower half of a word: what is added to it is so modulo 2^32."""
+        name = self.domain.opaque_of.get(v[0]) if type(v) is tuple else None
+        low = super().from_bytes(list(v[:4])) if isinstance(name, tuple) and isinstance(name[0], Number) else None
+        return low if isinstance(low, Number) else v
+
 
 # Instructions: their meanings by their names. Each takes the machine, its own name, and its operands.
 def branch(flag):
@@ -171,13 +191,13 @@ def result(f):
 
 
 def extended(m, v):
-    """The lower half of a register of 64 bits, of which the higher one is its highest bit."""
+    """The lower half of a register of 64 bits, of which the higher one is its highest bit; one of 32 as it is."""
     b = m.to_bytes(v, 4)
-    return m.from_bytes(b + [m.signs(b[3])] * 4)
+    return m.from_bytes(b + [m.signs(b[3])] * (m.word - 4)) if m.word > 4 else v
 
 
 def of_half(f):
-    return lambda m, *values: extended(m, f(m, *[m.from_bytes(m.to_bytes(v, 4)) for v in values]))
+    return lambda m, *values: extended(m, f(m, *map(m.half, values)))
 
 
 def shifted(how, size=None):
@@ -200,6 +220,16 @@ def either(m, x, y):
         x, y = in_range(m, x), in_range(m, y)
         return some_number(m, "%s or %s" % (x, y), {-x, -y}, x + y)
     return m.logic("or", x, y, m.word)
+
+
+def both(m, x, y):
+    """`and`; where that can't be done, nothing is kept but whether all bits of both are set."""
+    try:
+        return m.logic("and", x, y, m.word)
+    except (Undefined, Pause):
+        raise
+    except Unproved:
+        return m.verdict(m.most, [b for v in (x, y) for b in m.bytewise("xor", m.to_bytes(v, m.word), [255] * m.word)], m.word)
 
 
 def in_range(m, x):
@@ -247,7 +277,7 @@ TABLE = Table({
     "mulhu": result(lambda m, x, y: factor(x) * factor(y) >> 8 * m.word),
     "addw": result(of_half(lambda m, x, y: m.plus(x, y, 0, 4)[0])),
     "subw": result(of_half(lambda m, x, y: m.minus(x, y, 4)[0])),
-    "and": result(lambda m, x, y: m.logic("and", x, y, m.word)), "or": result(either), "xor": result(differing),
+    "and": result(both), "or": result(either), "xor": result(differing),
     **{name: result(shifted(how)) for name, how in SHIFTS.items()},
     **{name + "w": result(of_half(shifted(how, 4))) for name, how in SHIFTS.items()},
 })

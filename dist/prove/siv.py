@@ -9,7 +9,7 @@ from bits import DATA, KEY
 from calls import Buffer, Call, Stream, compare
 from gcm import DONE, NO_KEY, REFUSED, TOO_LONG, UNEQUAL_LENGTHS
 from hashing import Hashing, KeyedHash, threes
-from linear import WORD, unknown
+from linear import unknown
 from operands import Number
 from standards import ZEROS, dot, mulx_ghash, padded, product
 
@@ -205,10 +205,12 @@ class KeyedSiv(KeyedHash):
     def refused(self):
         """TOO_LONG or NO_KEY: .. A call that doesn't return DONE has changed nothing. With _to: UNEQUAL_LENGTHS, TOO_LONG or NO_KEY"""
         a, t, k, none, key = unknown("additional"), unknown("text"), unknown("output"), self.no_key(), self.schedule()
-        fits = between(a, 0, MOST) | between(t, 0, MOST)
-        long = [between(a, MOST + 1, WORD) | between(t, 0, WORD), between(a, 0, MOST) | between(t, MOST + 1, WORD)]
+        most = min(MOST, self.most)
+        fits, long = between(a, 0, most) | between(t, 0, most), []
+        if self.most > MOST:  # (else no buffer is too long)
+            long = [between(a, MOST + 1, self.most) | between(t, 0, self.most), between(a, 0, MOST) | between(t, MOST + 1, self.most)]
         late = [(none, NO_KEY, fits, t), *((siv, TOO_LONG, facts, t) for siv in (key, none) for facts in long)]
-        sizes = {f for x in (a, t, k) for f in between(x, 0, WORD)}
+        sizes = {f for x in (a, t, k) for f in between(x, 0, self.most)}
         first = [(siv, UNEQUAL_LENGTHS, sizes | facts, k) for siv in (key, none) for facts in unequal(t, k)]
         for way, (siv, status, facts, output) in [("", one) for one in late] + [("_to", one) for one in first + late]:
             arguments = [siv, nothing("nonce", False), nothing("additional", False), a, *unread(way, t, output)]

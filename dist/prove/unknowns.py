@@ -7,6 +7,17 @@ from regions import Window
 WRAPPED = "wrapped"  # an unknown: the block from which on the counter has wrapped around, if that is in what is done
 
 
+def replacing(convert, stay, *lists):
+    """What puts other bytes in the place of those of one of these lists; None if that changes nothing. `stay`: some that stay as they are."""
+    other = {x: y for x in set().union(*lists) - stay if x > 255 and (y := convert(x)) != x}
+    return other and (lambda b: b if other.keys().isdisjoint(b) else list(map(other.get, b, b)))
+
+
+def has_number(x):
+    """Whether a number that isn't known comes in a value."""
+    return isinstance(x, Linear) or isinstance(x, tuple) and any(map(has_number, x))
+
+
 class Unknowns:
     def implied(self, x):
         return implied(self.facts, x)
@@ -110,7 +121,7 @@ class Unknowns:
         def new(x):
             y = replaced(x, name, by)
             return y.value() if isinstance(y, Shifted) else y
-        self.each_byte(lambda b: self.renumbered(b, new))
+        self.each_byte(lambda b: self.renumbered(b, new), stay=self.domain.without_numbers)
         self.facts = frozenset(f for f in map(new, self.facts) if not is_int(f) or f < 0)
         self.flags, self.first_block = {f: new(x) for f, x in self.flags.items()}, new(self.first_block)
         self.general = {r: new(v) & self.most if isinstance(v, Linear) and is_int(new(v)) else new(v) for r, v in self.general.items()}
@@ -123,7 +134,10 @@ class Unknowns:
     def renumbered(self, b, new):
         """A byte, with another number in the place of that of which it is one."""
         d = self.domain
-        name, cells = d.opaque_of.get(b), d.unknown_cells(b) if d.unknowns else ()
+        name, cells = d.opaque_of.get(b), d.unknown_cells(b)
+        if not cells and not has_number(name):
+            d.without_numbers.add(b)
+            return b
         if isinstance(name, tuple) and isinstance(name[0], (Linear, Pointer, Number, Distance, Negated, Placed, Scaled, Shifted, Content)):
             (value, k), by = name, new(name[0])
             if by != value:
@@ -256,19 +270,17 @@ class Unknowns:
         self.each_byte(lambda b: self.any_byte() if is_lost(self.domain.opaque_of.get(b, [0])[0]) else b)
         self.general = {r: (self.any_byte(),) * self.word if is_lost(v) else v for r, v in self.general.items()}
 
-    def each_byte(self, convert):
-        """Puts other bytes in the place of those of registers and memory."""
-        memo = {}
-
-        def all_of(b):
-            return [memo[x] if x in memo else memo.setdefault(x, convert(x)) for x in b]
-        for name, region in self.regions.items():
-            begin = self.accessed_from(name)
-            region.content[begin:] = all_of(region.content[begin:])
-        self.vectors = [all_of(v) for v in self.vectors]
-        for r, v in self.general.items():
-            if type(v) is tuple:
-                self.general[r] = self.from_bytes(all_of(v))
+    def each_byte(self, convert, whole=False, stay=frozenset()):
+        """Puts other bytes in the place of those of registers and memory; also, if it says so, of the stack that lies untouched. Constants
+        stay as they are."""
+        contents = [(r.content, 0 if whole else self.accessed_from(name)) for name, r in self.regions.items()]
+        words = {r: v for r, v in self.general.items() if type(v) is tuple}
+        all_of = replacing(convert, stay, *[content[begin:] for content, begin in contents], *self.vectors, *words.values())
+        if all_of:
+            for content, begin in contents:
+                content[begin:] = all_of(content[begin:])
+            self.vectors = list(map(all_of, self.vectors))
+            self.general.update((r, self.from_bytes(all_of(v))) for r, v in words.items())
 
     def accessed_from(self, name):
         """From where on a region may hold something else than before the call: the stack lies untouched below what was accessed."""
@@ -277,7 +289,7 @@ class Unknowns:
     def judged(self, differences, equal):
         """Puts numbers in the place of Verdicts of these bytes, when it is known whether all are 0."""
         number = lambda v: v.right if equal else v.wrong
-        is_this = lambda v: isinstance(v, Verdict) and v.differences == differences and v.wrong is not None
+        is_this = lambda v: isinstance(v, Verdict) and v.differences == differences and (equal or v.wrong is not None)
 
         def byte(b):
             value, k = name if isinstance(name := self.domain.opaque_of.get(b), tuple) else (None, 0)

@@ -10,6 +10,7 @@ class Values:
         number in a word of the machine."""
         self.domain, self.random, self.counter, self.most = domain, random, counter, most
         self.cells, self.bytes, self.base = {}, {}, {}  # base: of regions, and of what has a name alone, by that name
+        self.groups = {}  # see `group`
 
     def cell(self, cell, block):
         d = self.domain
@@ -36,12 +37,21 @@ class Values:
             for row, (a, group) in enumerate(d.row_keys):
                 columns = pairs >> 128 * row & (1 << 128) - 1
                 if columns and self.numbered_bit(a):
-                    value ^= sum(self.numbered_bit(group << 7 | k) for k in range(128) if columns >> k & 1) & 1
+                    value ^= (columns & self.group(group, columns)).bit_count() & 1
             return value ^ self.bit(linear)
         for block, n in d.parts(x):
             for c, t in d.forms[n]:
                 value ^= t >> self.cell(c, block) & 1
         return value
+
+    def group(self, group, columns):
+        """The bits of cells that have the numbers of a group of 128, those of `columns` at least, in an int."""
+        known, bits = self.groups.get(group, (0, 0))
+        for k in range(128) if columns & ~known else ():
+            if (columns & ~known) >> k & 1:
+                bits |= self.numbered_bit(group << 7 | k) << k
+        self.groups[group] = known | columns, bits
+        return bits
 
     def numbered_bit(self, number):
         """The bit of a cell that has this number."""
@@ -52,6 +62,10 @@ class Values:
         if b not in self.bytes:
             self.bytes[b] = None if b in self.domain.with_products else self.full_byte(b)
         return self.bytes[b]
+
+    def bytes_of(self, content):
+        known = list(map(self.bytes.get, content))
+        return list(map(self.byte, content)) if None in known else known  # (perhaps not asked before)
 
     def full_byte(self, b):
         """Also of sums of products, which takes long."""
@@ -93,6 +107,7 @@ class Values:
         tables, flipped = [self.domain.forms[x >> 9][0][1] for x in bits], sum((x & 1) << j for j, x in enumerate(bits))
         byte = lambda c: sum((t >> c & 1) << j for j, t in enumerate(tables))
         value ^= flipped
+        self.groups = {}
         self.cells[self.domain.cell_of(b)] = value if tables == LINEAR else next(c for c in range(256) if byte(c) == value)
 
     def give(self, b, value):
@@ -110,7 +125,7 @@ class Values:
         known = [(new, self.full_byte(b)) for b, new in pairs if (new != b or domain is not self.domain) and domain.symbolic(new)]
         if domain is not self.domain:
             self.domain, self.cells = domain, {}
-        self.bytes = {}
+        self.bytes, self.groups = {}, {}
         for new, value in known:
             self.set_byte(new, value)
         for cell in domain.factor_cells.values():  # they stand for other bytes from now on

@@ -24,6 +24,11 @@ proved at every length of the form that the row names. Others have the lengths t
 
 Each build and each size of key also takes `set_key`, and each refusal with all its numbers: counts, positions and lengths that aren't known.
 """
+RISCV_GCM = """
+## RISC-V: `riscv32/gcm.s` and `riscv64/gcm_narrow.s`
+
+They take the rows of `fotsgure_gcm.h` whose names don't begin with `any_`. On 32 bits they leave out *any J_0* in `seal` and `open`, and *no
+carry* in the calls with `_next`."""
 TITLES = {"aes": "fotsgure_aes.h", "gcm": "fotsgure_gcm.h", "siv": "fotsgure_gcm.h: AES-GCM-SIV"}
 COLUMNS = "few", "full", "first", "other", "more"
 NONE = "-"
@@ -95,5 +100,6 @@ def looked_at():
     narrow, wide = map(cases.riscv_rows, (4, 8))
     parts += ["\n## RISC-V: `riscv32/aes.s`\n", table(narrow)]
     parts += ["\n## RISC-V: `riscv64/aes_narrow.s`, where that is different\n", table([row for row in wide if row not in narrow])]
+    parts += [RISCV_GCM]
     text = "\n".join(parts) + "\n"
     return f"{sum(len(rows) for _, rows in cases.LIBRARIES.values())} statements", {PAGE: text}, []

@@ -256,7 +256,9 @@ impl<'a, C: BlockCipherEncrypt, R: HashRoom> BorrowedGcm<'a, C, R> {
         if !is_turn(message, Phase::Verifying) {
             return Err(NotAccepted::OutOfTurn);
         }
-        if !self.is_tag_so_far(message, tag) {
+        let is_right = self.is_tag_so_far(message, tag);
+        wipe_stack::<DEEP>();
+        if !is_right {
             return Err(NotAccepted::Refused);
         }
         message.phase = number_of_phase(Phase::Decrypting);
@@ -297,7 +299,9 @@ impl<'a, C: BlockCipherEncrypt, R: HashRoom> BorrowedGcm<'a, C, R> {
         if !is_short_tag(tag_length, tag) {
             return Err(NotAccepted::Refused);
         }
-        if !self.is_short_tag_so_far(message, tag) {
+        let is_right = self.is_short_tag_so_far(message, tag);
+        wipe_stack::<DEEP>();
+        if !is_right {
             return Err(NotAccepted::Refused);
         }
         message.phase = number_of_phase(Phase::Decrypting);
@@ -375,7 +379,9 @@ impl<'a, C: BlockCipherEncrypt, R: HashRoom> BorrowedGcm<'a, C, R> {
         Ok(())
     }
 
-    // Turns to text of a phase, if it may come, and to so much more of it.
+    // Turns to text of a phase, if it may come, and to so much more of it. A call of its own, so that
+    // GHASH's value after the additional data is nowhere but below the caller's frame, which is wiped.
+    #[inline(never)]
     fn turn_to(&self, message: &mut Message, phase: Phase, more: usize) -> Result<(), InvalidPiece>
         requires { phase ≢ Phase.Additional }
         ensures out_of_turn { IsErrOf result InvalidPiece.OutOfTurn
@@ -438,7 +444,9 @@ impl<'a, C: BlockCipherEncrypt, R: HashRoom> BorrowedGcm<'a, C, R> {
         message.text += text.len() as u64;
     }
 
-    // Whether a tag is that of what has come so far.
+    // Whether a tag is that of what has come so far. A call of its own, so that its caller, which then
+    // wipes the stack, has nothing of the right tag in a register.
+    #[inline(never)]
     fn is_tag_so_far(&self, message: &Message, tag: &Block) -> bool
         ensures { (phase : Phase) (iv a c : List ℕ) → phase ≢ Phase.Additional
             → IsAt phase self.now iv a c message.now
@@ -448,11 +456,12 @@ impl<'a, C: BlockCipherEncrypt, R: HashRoom> BorrowedGcm<'a, C, R> {
         self.put_tag_so_far(message, &mut expected.value_mut()[0]);
         let is_equal = is_expected(tag, &expected.value()[0]);
         expected.wipe();
-        wipe_stack::<SHALLOW>();
         is_equal
     }
 
-    // Whether a tag of 16 bytes or fewer is the first bytes of that of what has come so far.
+    // Whether a tag of 16 bytes or fewer is the first bytes of that of what has come so far. A call of
+    // its own, as `is_tag_so_far`.
+    #[inline(never)]
     fn is_short_tag_so_far(&self, message: &Message, tag: &[u8]) -> bool
         requires { length tag.now ≤ 16 }
         ensures { (phase : Phase) (iv a c : List ℕ) → phase ≢ Phase.Additional
@@ -466,7 +475,6 @@ impl<'a, C: BlockCipherEncrypt, R: HashRoom> BorrowedGcm<'a, C, R> {
         let is_equal = is_expected(&claimed.value()[0], &expected.value()[0]);
         expected.wipe();
         claimed.wipe();
-        wipe_stack::<SHALLOW>();
         is_equal
     }
 

@@ -3,14 +3,14 @@ use Rattle.gcm.specs.declared.message.Phase.TheVariants.{Additional, Verifying}
 use Rattle.std.proofs.Common.{◌≢◌, ◌∙◌, sym, refl}
 use Rattle.gcm.proofs.mode.BorrowedGcm.accept.Goals as goal
 
-pub returns-then-not-is_tag_so_far-clause-accepted : goal.returns-then-not-is_tag_so_far-clause-accepted
-returns-then-not-is_tag_so_far-clause-accepted g c iv a t at =
+pub returns-then-not-is_right-clause-accepted : goal.returns-then-not-is_right-clause-accepted
+returns-then-not-is_right-clause-accepted g c iv a t at =
     let other : Verifying ≢ Additional = λ e. cc in
-    let told = c.is_tag_so_far.ensures Verifying iv a t other at in
-    (λ e. absurd (cc e), λ e. sym c.if-not-is_tag_so_far.true ∙ told.1 e)
+    let told = c.is_tag_so_far-is_right.ensures Verifying iv a t other at in
+    (λ e. absurd (cc e), λ e. sym c.if-not-is_right.true ∙ told.1 e)
 
 pub returns-clause-accepted : goal.returns-clause-accepted
 returns-clause-accepted g c iv a t at =
     let other : Verifying ≢ Additional = λ e. cc in
-    let told = c.is_tag_so_far.ensures Verifying iv a t other at in
-    (λ e. told.0 c.if-not-is_tag_so_far.false, λ e. refl)
+    let told = c.is_tag_so_far-is_right.ensures Verifying iv a t other at in
+    (λ e. told.0 c.if-not-is_right.false, λ e. refl)
