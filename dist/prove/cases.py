@@ -84,6 +84,7 @@ CARRIES = [2 ** k - 1 for k in (64, 72, 80, 88)] + [2 ** 96 - 2]  # of the count
 MANY = 2 ** 35  # bytes, so that counts and positions don't fit into 32 bits
 WRAPS = 8, 2 ** 32 - 3, CARRIED  # the counter wraps in the text
 TAGS = 4, 8, 12, 13, 14, 15
+ENDS = range(1, 16)  # of a block: how many bytes a message has behind whole ones
 WHOLE = "48 a + r bytes of additional data and 768 n + s of text for every a and n: r, s"
 NONCE = "; then the way, and r of a nonce of 48 k + r bytes for every k, in the place of one of 12 bytes"
 OTHER_NONCES = (0, 129, "", 33), (13, 33, "_to", 0)
@@ -103,11 +104,11 @@ GCM_ROWS = [
     *(Row("any_" + call, PIECE % step, first=[(3, 46)], more=[(1, 15), (9, 23), (15, 48)]) for call, step in (
         ("additional", 48), ("verify", 48), ("encrypt", 768), ("decrypt", 768), ("decrypt_unverified", 768))),
     Row("seal", "the lengths of additional data and text, and a nonce of another length", few=[(13, 33), (13, 33, (), "_to")],
-        full=[(0, 0), (1, 1), (49, 1), (0, 449, gcm.UNKNOWN), (0, 0, (), "_to"), *((5, 20, nonce) for nonce in NONCES)],
+        full=[(0, 0), (1, 1), (13, 0), (49, 1), (0, 449, gcm.UNKNOWN), (0, 0, (), "_to"), *((5, 20, nonce) for nonce in NONCES)],
         more=[*((5, 40, nonce) for nonce in NONCES), *((5, n, (60, None)) for n in (0, 129, 300))],
         other=[(13, 33), (0, 481), (0, 0, (), "_to")]),
     Row("open", "the same, also of what is refused", few=[(13, 33), (13, 33, (), "_to")],
-        full=[(0, 0), (0, 0, (), "_to"), (3, 20, gcm.UNKNOWN)], more=[(3, 20, nonce) for nonce in NONCES[1:]],
+        full=[(0, 0), (13, 0), (0, 0, (), "_to"), (3, 20, gcm.UNKNOWN)], more=[(3, 20, nonce) for nonce in NONCES[1:]],
         other=[(13, 33), (0, 0, (), "_to")]),
     Row("begin", "the nonce", few=[(), *((nonce,) for nonce in NONCES)], other=[()]),
     Row("seal_next", "the lengths of additional data and text, and the counter", few=[(3, 1, None)],
@@ -120,14 +121,15 @@ GCM_ROWS = [
               *((call, phase, 5, 7, 9) for call, phase in PHASES.items())],
         other=[(call, gcm.ADDITIONAL, 5, 0, 3) for call in PHASES]),
     Row("piece", "the same, of no bytes, after many bytes, and where the counter wraps",
-        full=[*((call, phase, 0, 0, 0) for call, phase in PHASES.items()),
+        full=[*((call, phase, 0, 0, 0) for call, phase in PHASES.items()), *((call, gcm.ADDITIONAL, 5, 0, 0) for call in PHASES),
+              *((call, phase, 5, gcm.MOST - 9, 9, (12,)) for call, phase in PHASES.items()),
               ("encrypt", gcm.ENCRYPTING, 5, 2 ** 32 - 5, 20, (12,)), ("verify", gcm.VERIFYING, MANY, MANY, 9, (12,)),
               ("encrypt", gcm.ADDITIONAL, 5, 0, 9, WRAPS), ("encrypt", gcm.ENCRYPTING, 5, 39, 9, WRAPS),
               ("decrypt_unverified", gcm.VERIFYING, 5, 7, 9, WRAPS)],
         more=[("encrypt", gcm.ENCRYPTING, 5, 39, 50, WRAPS), ("decrypt_unverified", gcm.VERIFYING, 5, 7, 50, WRAPS)]),
     Row("decrypt", "the length of the text, how many bytes of it came before, and how many come", few=[(100, 7, 20)],
-        full=[(100, 32, 68), (2 * MANY, MANY - 5, 20, (12,)), (100, 39, 9, WRAPS)], more=[(100, 0, 16), (100, 39, 50, WRAPS)], other=[(100, 7, 20)]),
-    *(Row(call, STATE + also, few=[(phase, 16, 7), *few], other=[(phase, 16, 7), *few],
+        full=[(100, 7, 0), (100, 32, 68), (2 * MANY, MANY - 5, 20, (12,)), (100, 39, 9, WRAPS)], more=[(100, 0, 16), (100, 39, 50, WRAPS)], other=[(100, 7, 20)]),
+    *(Row(call, STATE + also, few=[(phase, 16, 7), *few], other=[(phase, 16, 7), *few], first=[(gcm.ADDITIONAL, n, 0) if call == "finish" else (phase, 5, n) for n in ENDS],
           full=[(gcm.ADDITIONAL, 0, 0), (gcm.ADDITIONAL, 5, 0), (phase, 5, 16), (phase, MANY + 16, MANY + 7), (phase, 16, 9, WRAPS), *full])
       for call, phase, also, few, full in (
           ("finish", gcm.ENCRYPTING, "", (), ()),
@@ -139,8 +141,8 @@ SIV_ROWS = [
         more=[(13, 33), (0, 0), (1, 1), (13, 81), (20, 145), (13, 225), (0, 450), (33, 48), (47, 767)]),
     Row("any_open", WHOLE + "; also of what is refused", full=[(13, 33, "_to"), (13, 225)],
         more=[(13, 33), (1, 1), (33, 77), (13, 81), (20, 145), (0, 450), (33, 48), (47, 767), (0, 0, "_to")]),
-    Row("seal", "the lengths of additional data and text", few=[(13, 33), (13, 33, "_to")], other=[(13, 33), (13, 33, "_to")]),
-    Row("open", "the same, also of what is refused", few=[(1, 1), (13, 33, "_to")], other=[(1, 1), (13, 33, "_to")])]
+    Row("seal", "the lengths of additional data and text", few=[(13, 33), (13, 33, "_to")], full=[(13, 0)], other=[(13, 33), (13, 33, "_to")]),
+    Row("open", "the same, also of what is refused", few=[(1, 1), (13, 33, "_to")], full=[(13, 0)], other=[(1, 1), (13, 33, "_to")])]
 
 
 def riscv_rows(word):

@@ -248,6 +248,15 @@ FAULTS = {
         ("a bit of the key in a flag after a message under the counter's next nonce", exported("gcm_seal_next"),
          r"(# %join\.3\.i\n)([\s\S]*?)\taddq\t\$24, %rsp\n([\s\S]*?)\txorl\t%r11d, %r11d\n\tretq\n", r"\1\tmovq\t%rdi, 16(%rsp)\n\2"
          r"\tmovq\t16(%rsp), %r11\n\taddq\t$24, %rsp\n\3\ttestb\t$1, 4(%r11)\n\tmovl\t$0, %r11d\n\tretq\n", "seal_next 3 1 None"),
+        ("a byte read of an empty piece", exported("gcm_decrypt"), r"# %arm\.4\.i\n",
+         r"\g<0>\tcmpq\t$0, %rcx\n\tjne\t77f\n\tcmpb\t$0, (%rdx)\n77:\n", "decrypt 100 7 0"),
+        ("12 bytes hashed where 13 are left of a block", function("gcm::mode::BorrowedGcm::hash_rest"), r"\tandl\t\$15, %r8d\n",
+         r"\g<0>\txorl\t%ecx, %ecx\n\tcmpl\t$13, %r8d\n\tsete\t%cl\n\tsubl\t%ecx, %r8d\n", "finish 1 13 0"),
+        ("a piece refused that ends with the last byte of the longest text", ENCRYPT, r"(cmpq\t%r9, %r8\n)\tseta\t([\s\S]*?cmpq\t%r9, %r8\n)\tja\t",
+         r"\1\tsetae\t\2\tjae\t", "piece encrypt 2 5 68719476695 9 (12,)"),
+        ("another bit in the tag of additional data without a text", function("gcm_c::whole::fotsgure_gcm_seal"), r"\tmovups\t56\(%rsp\), %xmm0\n",
+         r"\txorl\t%eax, %eax\n\txorl\t%ecx, %ecx\n\ttestq\t%rbx, %rbx\n\tsete\t%al\n\ttestq\t%rbp, %rbp\n\tsetne\t%cl\n\tandl\t%ecx, %eax\n"
+         r"\txorb\t%al, 56(%rsp)\n\g<0>", "seal 13 0"),
         ("a field of the message moved", BEGIN, r"\t\$1, 24\(", "\t$1, 16(", "begin"),
         ("a refused output without zeros", exported("gcm_open_to"), MEMSET, "", "open 13 33 _to"),
         ("fewer bytes of a key copied", exported("gcm_set_key_of"), r"\$240, ", "$224, ", "set_key_of"),
