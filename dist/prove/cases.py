@@ -127,8 +127,10 @@ GCM_ROWS = [
               ("decrypt_unverified", gcm.VERIFYING, 5, 7, 9, WRAPS)],
         more=[("encrypt", gcm.ENCRYPTING, 5, 39, 50, WRAPS), ("decrypt_unverified", gcm.VERIFYING, 5, 7, 50, WRAPS)]),
     Row("decrypt", "the length of the text, how many bytes of it came before, and how many come", few=[(100, 7, 20)],
-        full=[(100, 7, 0), (100, 32, 68), (2 * MANY, MANY - 5, 20, (12,)), (100, 39, 9, WRAPS)], more=[(100, 0, 16), (100, 39, 50, WRAPS)], other=[(100, 7, 20)]),
-    *(Row(call, STATE + also, few=[(phase, 16, 7), *few], other=[(phase, 16, 7), *few], first=[(gcm.ADDITIONAL, n, 0) if call == "finish" else (phase, 5, n) for n in ENDS],
+        full=[(100, 7, 0), (100, 32, 68), (2 * MANY, MANY - 5, 20, (12,)), (100, 39, 9, WRAPS)],
+        more=[(100, 0, 16), (100, 39, 50, WRAPS)], other=[(100, 7, 20)]),
+    *(Row(call, STATE + also, few=[(phase, 16, 7), *few], other=[(phase, 16, 7), *few],
+          first=[(gcm.ADDITIONAL, n, 0) if call == "finish" else (phase, 5, n) for n in ENDS],
           full=[(gcm.ADDITIONAL, 0, 0), (gcm.ADDITIONAL, 5, 0), (phase, 5, 16), (phase, MANY + 16, MANY + 7), (phase, 16, 9, WRAPS), *full])
       for call, phase, also, few, full in (
           ("finish", gcm.ENCRYPTING, "", (), ()),
