@@ -29,7 +29,7 @@ LINEAR = [sum((v >> j & 1) << v for v in range(256)) for j in range(8)]  # the t
 BLOCK = 255 << 1
 MIXED = 255  # in the place of a block: a sum of bits of several blocks, an entry of `mixed`
 PRODUCT = 254  # the same: a bit, plus products of two bits of cells, an entry of `products`
-
+OF_PRODUCT = PRODUCT << 1
 
 UNDEFINED, LOST = "undefined", "lost"  # names of opaque bytes: what nobody wrote, and what was forgotten
 
@@ -129,7 +129,7 @@ class Forms:
         if byte is None:
             byte = self.byte_ids[bits] = len(self.bits_of)
             self.bits_of.append(bits)
-            if self.products and any(b & BLOCK == PRODUCT << 1 for b in bits):
+            if self.products and any(b & BLOCK == OF_PRODUCT for b in bits):
                 self.with_products.add(byte)
         return byte
 
@@ -190,7 +190,7 @@ class Forms:
     # Bits.
     def one_block(self, bits):
         blocks = {b & BLOCK for b in bits if b > 1} - {0}
-        if len(blocks) > 1 or MIXED << 1 in blocks or PRODUCT << 1 in blocks:
+        if len(blocks) > 1 or MIXED << 1 in blocks or OF_PRODUCT in blocks:
             raise Unproved("a product of bits of different blocks")
         return blocks.pop() >> 1 if blocks else 0
 
@@ -198,16 +198,19 @@ class Forms:
         """The same function of the cells of this block, which is less than PRODUCT (see byte_in_block)."""
         return x & ~BLOCK | block << 1 if x > 1 and self.has_block[x >> 9] else x
 
-    def intern(self, form):
-        """form: {cell: table}"""
-        key = tuple(sorted(form.items()))
+    def intern(self, pairs):
+        """The number of a form: some (cell, table)."""
+        key = tuple(sorted(pairs))
         n = self.ids.get(key)
         if n is None:
-            key = tuple(self.interned.setdefault(pair, pair) for pair in key)  # kept once, as there are few of them
             n = self.ids[key] = len(self.forms)
             self.forms.append(key)
-            self.has_block.append(any(self.of_block[c] for c, _ in key))
+            self.has_block.append(any([self.of_block[c] for c, _ in key]))
         return n
+
+    def pair(self, cell, table):
+        """Kept once, as there are few of them."""
+        return self.interned.setdefault((cell, table), (cell, table))
 
     def bit(self, cell, table, block):
         """The bit that is the given function of one cell."""
@@ -215,24 +218,28 @@ class Forms:
         table ^= ONES * complement
         if not table:
             return complement
-        n = self.ids.get(((cell, table),)) or self.intern({cell: table})
+        n = self.ids.get(((cell, table),)) or self.intern([self.pair(cell, table)])
         return self.in_block(n << 9 | complement, block)
 
     def xor(self, x, y):
         if x < 2 or y < 2:
             return x ^ y
         bx, by = x & BLOCK, y & BLOCK
-        if bx != by and bx and by or bx >= PRODUCT << 1 or by >= PRODUCT << 1:
-            return self.add_products(x, y) if PRODUCT << 1 in (bx, by) else self.mix(x, y)
+        if bx != by and bx and by or bx >= OF_PRODUCT or by >= OF_PRODUCT:
+            return self.add_products(x, y) if OF_PRODUCT in (bx, by) else self.mix(x, y)
         key = x >> 9 << 32 | y >> 9
         n = self.xors.get(key)
         if n is None:
-            form = dict(self.forms[x >> 9])
-            for c, t in self.forms[y >> 9]:
-                t ^= form.pop(c, 0)
-                if t:
-                    form[c] = t
-            n = self.xors[key] = self.intern(form) if form else 0
+            form = {pair[0]: pair for pair in self.forms[x >> 9]}
+            for pair in self.forms[y >> 9]:
+                c, t = pair
+                if c not in form:
+                    form[c] = pair
+                elif form[c][1] == t:
+                    del form[c]
+                else:
+                    form[c] = self.pair(c, form[c][1] ^ t)
+            n = self.xors[key] = self.intern(form.values()) if form else 0
         return (n << 9 | (bx | by if self.has_block[n] else 0) if n else 0) | (x ^ y) & 1
 
     # Sums over several blocks, as transposing makes them: for each block the form without keys, and for 0 the part of keys.
@@ -241,15 +248,15 @@ class Forms:
             return ()
         if x & BLOCK == BLOCK:
             return self.mixed[x >> 9]
-        if x & BLOCK == PRODUCT << 1:
+        if x & BLOCK == OF_PRODUCT:
             linear, pairs = self.products[x >> 9]
             return [part for y in (linear, *map(self.numbered_bit, self.factors(pairs))) for part in self.parts(y)]
         n = x >> 9
         halves = self.halves.get(n)
         if halves is None:
             form = self.forms[n]
-            halves = self.halves[n] = tuple(self.intern({c: t for c, t in form if self.of_block[c] is own}) if any(
-                self.of_block[c] is own for c, _ in form) else 0 for own in (True, False))
+            parts = ([pair for pair in form if self.of_block[pair[0]] is own] for own in (True, False))
+            halves = self.halves[n] = tuple(self.intern(part) if part else 0 for part in parts)
         return [(block, n) for block, n in zip(((x & BLOCK) >> 1, 0), halves) if n]
 
     def mix(self, x, y):

@@ -1,7 +1,7 @@
 """All that is done with symbolic bits and bytes: a domain has the cells of one proof."""
 import functools
 
-from bits import BLOCK, PRODUCT, Forms, Unproved, composed, linear_bits
+from bits import BLOCK, OF_PRODUCT, PRODUCT, Forms, Unproved, composed, linear_bits
 from names import Names
 from products import Products
 
@@ -44,9 +44,10 @@ class Domain(Forms, Products, Names):
     def repeated(self, byte):
         if byte not in self.repeats:
             bits = self.bits(byte)
-            blocks = tuple(x & BLOCK for x in bits)
-            same = len({x & ~BLOCK for x in bits}) == 1 and max(blocks) < PRODUCT << 1
-            self.repeats[byte] = (bits[0] & ~BLOCK, any(blocks) and blocks) if same else (None, None)
+            first, blocks = bits[0] & ~BLOCK, ()
+            if bits[1] & ~BLOCK == first and all([x & ~BLOCK == first for x in bits]):
+                blocks = tuple([x & BLOCK for x in bits])
+            self.repeats[byte] = (first, any(blocks) and blocks) if blocks and max(blocks) < OF_PRODUCT else (None, None)
         return self.repeats[byte]
 
     def in_blocks(self, x, blocks):
@@ -143,7 +144,7 @@ class Domain(Forms, Products, Names):
             bits = []
             for x in self.bits_of[byte]:
                 y = x & 1
-                if x & BLOCK == PRODUCT << 1:
+                if x & BLOCK == OF_PRODUCT:
                     raise Unproved("a product, of other blocks")
                 parts = self.parts(x) if x & BLOCK == BLOCK else [((x & BLOCK) >> 1, x >> 9)]
                 for block, n in parts:

@@ -7,14 +7,15 @@ from bits import BLOCK, LINEAR, ONES, Unproved
 class Names:
     def __init__(self):
         # By the cells of sums, the cells that have names and the ways to write a sum (`single`); and by the cell with a name, the bits that
-        # it stands for and their cells.
+        # it stands for and their cells, with places for their tables.
         self.by_cells, self.ways, self.definitions, self.defined_by = {}, {}, {}, {}
 
     def define(self, cell, bits):
         """Lets a cell stand for the byte with these bits, for all blocks alike."""
         cells = tuple(sorted({c for b in bits for c, _ in self.forms[b >> 9] or ()}))
         # Of sums of bits of the byte: the form as a vector, which bits these are, and the complement.
-        rows = [(self.vector(self.forms[b >> 9] or (), cells), 1 << j, b & 1) for j, b in enumerate(bits)]
+        places = {c: 256 * i for i, c in enumerate(cells)}
+        rows = [(self.vector(self.forms[b >> 9] or (), places), 1 << j, b & 1) for j, b in enumerate(bits)]
         echelon = []  # by Gaussian elimination, the lowest set bit being the pivot
         for v, mask, complement in rows:
             for p, w, m, c in echelon:
@@ -23,14 +24,14 @@ class Names:
             if not v:
                 raise Unproved("the bits of %s are not independent" % self.names[cell])
             echelon.append((v & -v, v, mask, complement))
-        self.definitions[cell], self.defined_by[cell] = bits, cells
+        self.definitions[cell], self.defined_by[cell] = bits, places
         for some in {cells, *(tuple(c for c, _ in self.forms[b >> 9]) for b in bits)}:
             self.by_cells.setdefault(some, []).append((cell, echelon))
             self.ways.pop(some, None)
 
-    def vector(self, form, cells):
-        """The tables of a form, one after another, as those of these cells."""
-        return sum(t << 256 * cells.index(c) for c, t in form)
+    def vector(self, form, places):
+        """The tables of a form, one after another, where the cells have their places."""
+        return sum([t << places[c] for c, t in form])
 
     def named(self, form, cells):
         """If a form is a sum of bits of a byte with a name: [(cell, table)]."""
@@ -60,7 +61,7 @@ class Names:
                 ways[cells[0]] = form[0][1]
             for k, (c, t) in enumerate(form):
                 rest = cells[:k] + cells[k + 1:]
-                if rest and {*rest} <= {*self.defined_by.get(c, ())}:
+                if rest and {*rest} <= self.defined_by.get(c, {}).keys():
                     ways.update((cell, t ^ table) for cell, table in self.named(form[:k] + form[k + 1:], rest) if cell == c)
             known[n] = ways
         return ways
