@@ -232,7 +232,9 @@ def both(m, x, y):
         b = m.to_bytes(x, m.word) + m.to_bytes(y, m.word)
         if not m.is_public(b):
             raise
-        return m.verdict(m.most, m.bytewise("xor", b, [255] * len(b)), m.word)
+        v = m.verdict(m.most, m.bytewise("xor", b, [255] * len(b)), m.word)
+        m.lost.difference_update(m.to_bytes(v, m.word))  # it isn't secret
+        return v
 
 
 def added(m, x, y):
