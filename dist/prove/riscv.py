@@ -223,13 +223,18 @@ def either(m, x, y):
 
 
 def both(m, x, y):
-    """`and`; where that can't be done, nothing is kept but whether all bits of both are set."""
+    """`and`; where that can't be done of public numbers, nothing is kept but whether all bits of both are set."""
     try:
         return m.logic("and", x, y, m.word)
     except (Undefined, Pause):
         raise
     except Unproved:
-        return m.verdict(m.most, [b for v in (x, y) for b in m.bytewise("xor", m.to_bytes(v, m.word), [255] * m.word)], m.word)
+        b = m.to_bytes(x, m.word) + m.to_bytes(y, m.word)
+        if not m.is_public(b):
+            raise
+        v = m.verdict(m.most, m.bytewise("xor", b, [255] * len(b)), m.word)
+        m.lost.difference_update(m.to_bytes(v, m.word))  # it isn't secret
+        return v
 
 
 def added(m, x, y):

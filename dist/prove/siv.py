@@ -60,6 +60,8 @@ class KeyedSiv(KeyedHash):
         d.numbers.update({d.cell_of(b)[0]: (k, counter) for k, b in enumerate(counter)})
         d.words["counter of the tag"] = lambda offset, k: d.bits(d.byte_in_block(counter[k], offset + 1))
         self.own_tag = [d.opaque((Number("counter of the tag", 0), k)) for k in range(4)] + self.fresh("tag", DATA)[4:]
+        if self.program.machine.relaxed:  # where bytes are put together by shifts
+            d.byte_ids.update((d.bits(b), b) for b in self.own_tag[:4])
         self.highest = d.fresh("byte 15 of the first counter block", DATA)
         self.tag_input = self.fresh("tag input", KEY | DATA)
         self.own_stream = self.aes.cipher(counter + self.own_tag[4:15] + [self.highest], self.message_w)
@@ -69,7 +71,7 @@ class KeyedSiv(KeyedHash):
         d = self.domain
         of = {d.cell_of(w)[0]: b for w, b in zip(sum(self.w, []), sum(words, []))}
         image = lambda x: d.linear_image(x, lambda cell: d.bits(of[cell]), d)
-        return [d.pack([image(x) for x in d.bits(s)]) for s in self.struct[4:4 + self.word * len(words)]]
+        return [d.pack([image(x) for x in d.bits(s)]) for s in self.struct[self.length_size:][:self.word * len(words)]]
 
     def derivation(self, few):
         """derive_keys (4): blocks of a number of 32 bits, the lowest byte first, and the nonce."""
@@ -147,7 +149,8 @@ class KeyedSiv(KeyedHash):
                      *self.changed(way, "text", sealed, text, text_length), Buffer("tag", self.own_tag)]
         reveals = self.aes.xor(self.own_tag, right)
         return Call("gcm_siv_open" + way, arguments, DONE, steps=steps, reveals=reveals, refused=REFUSED,
-                    refused_after={"output": [0] * text_length}, plain=text, undone=True)
+                    refused_after={"output": [0] * text_length}, plain=text, undone=True,
+                    may_stay={"difference": 4} if way and self.program.machine.relaxed and self.address == 4 else None)  # (gcm.LEFT_ON_RISCV)
 
     # Texts of every length (lengths.py). The tag begins with a number of unknown value, to which the number of a block is added modulo 2^32.
     def any_own_tag(self):
