@@ -344,6 +344,9 @@ def tells(m, byte, known, plain, reveals=()):
     of the "difference" of a tag from the right one, in one byte by `or`, "plain" text and what is computed of it without the key, a block
     that the cipher gave in the midst of a mode ("step"), the "keystream", the call's "result", or of other "data" alone."""
     if byte in m.lost:
+        name = m.domain.opaque_of.get(byte, [0])[0]
+        if isinstance(name, Verdict) and name.wrong is not None and m.zero_flag(name.differences) in m.answers:
+            return None  # which of two numbers it is was asked, and the status tells it
         return "difference" if reveals and is_or(m, byte, reveals) else "key"
     if isinstance(m.domain.opaque_of.get(byte, [0])[0], Content):
         return "plain" if known["plain"] else "data"

@@ -190,7 +190,9 @@ def rows_of(library, machine):
 
 def riscv_gcm_rows(library, word):
     """Of the library with GCM for RISC-V: those of fixed lengths, without what the README says isn't proved."""
-    left_out = lambda row, values: word == 4 and (row.name in ("seal", "open") and gcm.UNKNOWN in values or row.name.endswith("_next") and None in values)
+    any_j_0 = lambda values: any(type(v) is tuple and None in v for v in values)
+    narrow = lambda row, values: any_j_0(values) if row.name in ("seal", "open") else None in values and row.name.endswith("_next")
+    left_out = lambda row, values: word == 4 and narrow(row, values)
     kept = lambda row, some: [v for v in some if not left_out(row, v if isinstance(v, tuple) else (v,))]
     return [Row(row.name, row.what, *(kept(row, some) for some in row[2:])) for row in LIBRARIES[library][1] if not row.name.startswith("any_")]
 

@@ -602,7 +602,8 @@ class KeyedGcm(KeyedHash):
     def any_message(self, phase):
         """A message of which each number but the phase may be any, and so may all bytes that are computed with."""
         numbers, facts = zip(*map(self.number_of_words, ("hashed", "text", "decrypted")))
-        content = [b for n in numbers for b in self.unknown_number(n)] + (number(phase, 8)[::-1] if isinstance(phase, int) else self.unknown_number(phase))
+        content = [b for n in numbers for b in self.unknown_number(n)]
+        content += number(phase, 8)[::-1] if isinstance(phase, int) else self.unknown_number(phase)
         content += [b for block in range(3) for b in self.of(self.hash_value, block)]
         return self.message(content, content), set().union(*facts)
 

@@ -149,8 +149,7 @@ class KeyedSiv(KeyedHash):
                      *self.changed(way, "text", sealed, text, text_length), Buffer("tag", self.own_tag)]
         reveals = self.aes.xor(self.own_tag, right)
         return Call("gcm_siv_open" + way, arguments, DONE, steps=steps, reveals=reveals, refused=REFUSED,
-                    refused_after={"output": [0] * text_length}, plain=text, undone=True,
-                    may_stay={"difference": 4} if way and self.program.machine.relaxed and self.address == 4 else None)  # (gcm.LEFT_ON_RISCV)
+                    refused_after={"output": [0] * text_length}, plain=text, undone=True)
 
     # Texts of every length (lengths.py). The tag begins with a number of unknown value, to which the number of a block is added modulo 2^32.
     def any_own_tag(self):
