@@ -4,7 +4,7 @@ import fnmatch
 import pathlib
 import re
 
-import tools
+import shared
 
 # The program and its engine read digits and names by tables and branches, and say so; the rest is the library and its
 # callers.
@@ -38,7 +38,7 @@ def compared(line):
 def instructions(archive):
     """Each instruction with the plain name of the function that it stands in; where one begins, no instruction with its name."""
     name = ""
-    for line in tools.run(["objdump", "-d", "--no-show-raw-insn", archive], "objdump").splitlines():
+    for line in shared.run(["objdump", "-d", "--no-show-raw-insn", archive], "objdump").splitlines():
         if head := re.match(r"[0-9a-f]+ <(.*)>:", line):
             name = plain(head[1])
             yield name, ""
@@ -75,17 +75,17 @@ def looked_at(archive, record, found):
     if record:
         lines = ["\t".join([*key, str(count)]) for key, count in sorted(there.items())]
         LIST.write_text("\n".join([HEAD, *lines]) + "\n")
-        tools.say(f"recorded: {len(there)} kinds in {LIST}")
-    was = {tuple(key): int(count) for *key, count in tools.rows_of(LIST)[1:]}
+        shared.say(f"recorded: {len(there)} kinds in {LIST}")
+    was = {tuple(key): int(count) for *key, count in shared.rows_of(LIST)[1:]}
     new = {key: count for key, count in (there | PLANTED).items() if count > was.get(key, 0)}
-    missed, idle = tools.explained(sorted(there | PLANTED), tools.rows_of(REASONS), speaks_of)
+    missed, idle = shared.explained(sorted(there | PLANTED), shared.rows_of(REASONS), speaks_of)
     if not (PLANTED.keys() <= new.keys() and PLANTED.keys() <= {*missed}):
         found.blind.append("a jump that nobody looked at")
     wrong = [f"not in {LIST.name}: {', '.join(key)}: {new[key]} in place of {was.get(key, 0)}" for key in sorted(new.keys() - PLANTED.keys())]
     wrong += [f"{REASONS.name} doesn't explain: {', '.join(key)}" for key in missed if key not in PLANTED]
     found.wrong += wrong
     functions, gone = {it[0] for it in there}, sum(it not in there for it in was)
-    tools.say(f"jumps: {sum(there.values())} of {len(there)} kinds in {len(functions)} functions; wrong: {len(wrong)}, recorded and gone: {gone}")
+    shared.say(f"jumps: {sum(there.values())} of {len(there)} kinds in {len(functions)} functions; wrong: {len(wrong)}, recorded and gone: {gone}")
     if idle:
-        tools.say(f"lines of {REASONS.name} for nothing: {'; '.join(' '.join(it[:2]) for it in idle)}")
+        shared.say(f"lines of {REASONS.name} for nothing: {'; '.join(' '.join(it[:2]) for it in idle)}")
     found.summary.append(f"llvm, {sum(there.values()):,} conditional jumps in {len(functions)} functions, all explained")

@@ -5,12 +5,12 @@ import pathlib
 import re
 
 import expand
-import tools
+import shared
 
 HERE = pathlib.Path(__file__).resolve().parent
-TOP = tools.TOP
+TOP = shared.TOP
 # The crates whose functions are given secrets. The program and its engine are another matter: see README.md.
-CRATES = [it for it in tools.CRATES.split() if it != "aes_kat"]
+CRATES = [it for it in shared.CRATES.split() if it != "aes_kat"]
 # What may stand before `fn`.
 KIND = r'(?:(?:final|const|unsafe|extern "C") )*'
 
@@ -62,6 +62,6 @@ def not_called(calls, functions):
     """Those of the functions that neither the exports nor the calls name and that no reason stands for, and the reasons
     that stand for none."""
     words = set(re.findall(r"\w+", calls + "\n".join(expand.texts().values())))
-    reasons = [(crate, it) for crate, names, _ in tools.rows_of(HERE / "elsewhere.tsv") for it in names.split(" ")]
-    missed, idle = tools.explained([it for it in functions if it[2] not in words], reasons, speaks_of)
+    reasons = [(crate, it) for crate, names, _ in shared.rows_of(HERE / "elsewhere.tsv") for it in names.split(" ")]
+    missed, idle = shared.explained([it for it in functions if it[2] not in words], reasons, speaks_of)
     return [f"{crate}/src/{path}: {name}" for crate, path, name in missed], [" ".join(it) for it in idle]

@@ -3,9 +3,9 @@ branch and each address."""
 import re
 import sys
 
-import tools
+import shared
 
-sys.path.append(str(tools.TOP / "tools" / "dist_parts"))
+sys.path.append(str(shared.TOP / "tools" / "dist_parts"))
 import registers
 
 # What WebAssembly reads and writes, by the type of what stands above the address, if something does.
@@ -22,7 +22,7 @@ def planted(machine, text):
     """Assembly whose exports leave in registers what its compiler left there, and have names of their own."""
     lines = "\n".join(registers.emptying(machine.folder, False, machine.ending != "_narrow")) + "\n"
     if lines not in text:
-        tools.stop(f"the assembly for {machine.folder} doesn't empty registers as {registers.__file__} says")
+        shared.stop(f"the assembly for {machine.folder} doesn't empty registers as {registers.__file__} says")
     return re.sub(r"\bfotsgure_", "planted_fotsgure_", text.replace(lines, ""))
 
 

@@ -3,7 +3,7 @@ import csv
 import re
 import subprocess
 
-import tools
+import shared
 
 # The peers: of each its package, and the flags to link it, of which -I is for its file too.
 PEERS = {
@@ -115,15 +115,15 @@ def table(rows, names, titles):
         times = [(ticks(run, it, *call), ticks(run, OURS, *call)) for run, it in columns]
         cells = [ratio(theirs / ours) if theirs else "–" for theirs, ours in times]
         lines.append([title, span(rate * ticks(CONSTANT_TIME, OURS, *call) / blocks), *cells])
-    return tools.table(["", OURS, *names, "OpenSSL with AES instructions"], *lines)
+    return shared.table(["", OURS, *names, "OpenSSL with AES instructions"], *lines)
 
 
 def page(rows):
     """docs/MEASUREMENTS.md with these tables in the place of the first ones of their sections."""
-    text = tools.MEASUREMENTS.read_text()
+    text = shared.MEASUREMENTS.read_text()
     for what, of in TABLES.items():
         heading, lines = rf"## How fast is {what} compared with what I use now\?\n", "\n".join(table(rows, *of)) + "\n"
         text, count = re.subn(rf"^({heading}(?:(?!#|\|).*\n)*)(?:\|.*\n)+", lambda it: it[1] + lines, text, flags=re.M)
         if count != 1:
-            tools.stop(f"{tools.MEASUREMENTS} has no table below {heading}")
+            shared.stop(f"{shared.MEASUREMENTS} has no table below {heading}")
     return text

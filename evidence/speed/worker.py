@@ -4,7 +4,7 @@ import pathlib
 import subprocess
 
 import tables
-import tools
+import shared
 
 HERE = pathlib.Path(__file__).resolve().parent
 # What the builds are called by the end of their files' names.
@@ -25,12 +25,12 @@ def assembled(name, dist, room):
     the choice between two builds."""
     made = room / f"libfotsgure_{name}.a"
     made.unlink(missing_ok=True)
-    tools.run(["cc", "-c", dist / "x86_64" / f"{name}.s", "-o", made.with_suffix(".o")], f"assembling {name}.s")
-    tools.run(["ar", "rcs", made, made.with_suffix(".o")], "the archive")
+    shared.run(["cc", "-c", dist / "x86_64" / f"{name}.s", "-o", made.with_suffix(".o")], f"assembling {name}.s")
+    shared.run(["ar", "rcs", made, made.with_suffix(".o")], "the archive")
     return made
 
 
-def engines_of(room, suffixes, dist=tools.TOP / "dist", at=""):
+def engines_of(room, suffixes, dist=shared.TOP / "dist", at=""):
     """The engines of a folder dist/, each its object and archives. What all but the first build of the tree export gets a prefix, so that
     several fit into one program; `at` tells those of a folder from others."""
     made = {}
@@ -38,23 +38,23 @@ def engines_of(room, suffixes, dist=tools.TOP / "dist", at=""):
         name, parts = f"library{at}{suffix}", room / f"made{at}{suffix}"
         told = [f'-DHOW="{f"{at} {BUILDS[suffix]}".strip()}"', f"-DADD=add_{name}"] if at or suffix else []
         parts.mkdir(parents=True, exist_ok=True)
-        tools.run([*COMPILE, *told, f"-I{dist}/include", "-c", "-o", parts / "library.o", HERE / "library.c"], "library.c")
+        shared.run([*COMPILE, *told, f"-I{dist}/include", "-c", "-o", parts / "library.o", HERE / "library.c"], "library.c")
         archives = [assembled(f"{it}{suffix}", dist, parts) for it in ("aes", "gcm")]
         made[name] = [parts / "library.o", *archives]
         if told:
-            (parts / "names").write_text("".join(f"{it} {name}_{it}\n" for of in archives for it in sorted(tools.exported(of))))
+            (parts / "names").write_text("".join(f"{it} {name}_{it}\n" for of in archives for it in sorted(shared.exported(of))))
             for it in made[name]:
-                tools.run(["objcopy", f"--redefine-syms={parts / 'names'}", it], "objcopy")
+                shared.run(["objcopy", f"--redefine-syms={parts / 'names'}", it], "objcopy")
     return made
 
 
 def build(room, engines, links=()):
     """The worker over engines, each a name and what it is linked of."""
     listed = "-DENGINES=" + " ".join(f"X({it})" for it in engines)
-    tools.run([*COMPILE, listed, "-c", "-o", room / "worker.o", HERE / "worker.c"], "worker.c")
+    shared.run([*COMPILE, listed, "-c", "-o", room / "worker.o", HERE / "worker.c"], "worker.c")
     parts = [it for of in engines.values() for it in of]
     link = "g++" if "botan" in engines else "cc"
-    tools.run([link, "-o", room / "worker", room / "worker.o", *parts, *links], "linking the worker")
+    shared.run([link, "-o", room / "worker", room / "worker.o", *parts, *links], "linking the worker")
     return room / "worker"
 
 
@@ -69,7 +69,7 @@ def ask(process, word):
     process.stdin.flush()
     line = process.stdout.readline()
     if not line:
-        tools.stop(f"the worker ended by itself, status {process.wait()}")
+        shared.stop(f"the worker ended by itself, status {process.wait()}")
     return line
 
 
