@@ -23798,5 +23798,5 @@ aes.fotsgure_aes_ccm_seal:                  # @aes.fotsgure_aes_ccm_seal
 	.long	9, 116, 1
 	.asciz	"Fotsgure"
 	.p2align	2, 0x0
-	.asciz	"fotsgure_aes 0.4.0, riscv64/aes.s, sources SHA-256 c732908e78d2b372624172585b9f92240ec267c9ba5336c6cdc7451f61a8db18"
+	.asciz	"fotsgure_aes 0.4.0, riscv64/aes.s, sources SHA-256 b94ff97fe3f6be1bcea4fa7ee753dca9c4010b74100aa5d62ceeae9b3d177376"
 	.p2align	2, 0x0

@@ -8,7 +8,7 @@
 	.functype	aes_hybrid__plane_keys__store_planes____e29e0540aa8bc136_ (i32, i32, i64) -> ()
 	.functype	aes_hybrid__batches__process_in_batches____a60badf655ff5009_ (i32, i64, i32, i64) -> ()
 	.functype	aes_soft__soft__ciphers__planes__EncryptPlaneCipher__process_planes____f2467153fb0a218d_ (i32, i64, i32) -> ()
-	.functype	aes_planes__soft__utils__shifts__swap_columns____e29e0540aa8bc136_ (i32, i32, i64, i64) -> ()
+	.functype	aes_planes__soft__shifts__swap_columns____e29e0540aa8bc136_ (i32, i32, i64, i64) -> ()
 	.functype	aes_planes__soft__sbox__sub_bytes____e29e0540aa8bc136_ (i32) -> ()
 	.functype	aes_hybrid__batches__process_rest____a60badf655ff5009_ (i32, i64, i32, i64) -> ()
 	.functype	aes_cipher__zeroize__zeroize_words____e29e0540aa8bc136_ (i32) -> ()
@@ -3967,7 +3967,7 @@ aes_soft__soft__ciphers__planes__EncryptPlaneCipher__process_planes____f2467153f
 	i32.const	16
 	i64.const	281470681743360
 	i64.const	281470681743360
-	call	aes_planes__soft__utils__shifts__swap_columns____e29e0540aa8bc136_
+	call	aes_planes__soft__shifts__swap_columns____e29e0540aa8bc136_
 	local.get	1
 	i32.wrap_i64
 	i32.const	7
@@ -4047,10 +4047,10 @@ aes_soft__soft__ciphers__planes__EncryptPlaneCipher__process_planes____f2467153f
                                         # fallthrough-return
 	end_function
                                         # -- End function
-	.section	.text.aes_planes__soft__utils__shifts__swap_columns____e29e0540aa8bc136_,"",@
-	.type	aes_planes__soft__utils__shifts__swap_columns____e29e0540aa8bc136_,@function # -- Begin function aes_planes__soft__utils__shifts__swap_columns____e29e0540aa8bc136_
-aes_planes__soft__utils__shifts__swap_columns____e29e0540aa8bc136_: # @aes_planes__soft__utils__shifts__swap_columns____e29e0540aa8bc136_
-	.functype	aes_planes__soft__utils__shifts__swap_columns____e29e0540aa8bc136_ (i32, i32, i64, i64) -> ()
+	.section	.text.aes_planes__soft__shifts__swap_columns____e29e0540aa8bc136_,"",@
+	.type	aes_planes__soft__shifts__swap_columns____e29e0540aa8bc136_,@function # -- Begin function aes_planes__soft__shifts__swap_columns____e29e0540aa8bc136_
+aes_planes__soft__shifts__swap_columns____e29e0540aa8bc136_: # @aes_planes__soft__shifts__swap_columns____e29e0540aa8bc136_
+	.functype	aes_planes__soft__shifts__swap_columns____e29e0540aa8bc136_ (i32, i32, i64, i64) -> ()
 	.local  	v128, i32, v128, v128, v128, v128, v128, v128, v128, v128, v128, v128, v128, v128, v128, v128, v128, v128, v128, v128, v128, v128, v128, v128, v128, v128, v128, v128, i32
 # %bb.0:                                # %start
 	local.get	0
@@ -12840,7 +12840,7 @@ aes_soft__soft__ciphers__planes__DecryptPlaneCipher__process_planes____f2467153f
 	i32.const	16
 	i64.const	281470681743360
 	i64.const	281470681743360
-	call	aes_planes__soft__utils__shifts__swap_columns____e29e0540aa8bc136_
+	call	aes_planes__soft__shifts__swap_columns____e29e0540aa8bc136_
 .LBB32_3:                               # %join.5
 	end_block                               # label141:
 	local.get	3
@@ -18472,12 +18472,12 @@ aes_c__single_rounds__inverse_round:    # @aes_c__single_rounds__inverse_round
 	i32.const	16
 	i64.const	280375465082880
 	i64.const	1095216726015
-	call	aes_planes__soft__utils__shifts__swap_columns____e29e0540aa8bc136_
+	call	aes_planes__soft__shifts__swap_columns____e29e0540aa8bc136_
 	local.get	2
 	i32.const	8
 	i64.const	71777214277877760
 	i64.const	71777214277877760
-	call	aes_planes__soft__utils__shifts__swap_columns____e29e0540aa8bc136_
+	call	aes_planes__soft__shifts__swap_columns____e29e0540aa8bc136_
 	local.get	0
 	local.get	1
 	v128.load	0:p2align=0
@@ -18985,12 +18985,12 @@ aes_c__single_rounds__inverse_rounds:   # @aes_c__single_rounds__inverse_rounds
 	i32.const	16
 	i64.const	280375465082880
 	i64.const	1095216726015
-	call	aes_planes__soft__utils__shifts__swap_columns____e29e0540aa8bc136_
+	call	aes_planes__soft__shifts__swap_columns____e29e0540aa8bc136_
 	local.get	2
 	i32.const	8
 	i64.const	71777214277877760
 	i64.const	71777214277877760
-	call	aes_planes__soft__utils__shifts__swap_columns____e29e0540aa8bc136_
+	call	aes_planes__soft__shifts__swap_columns____e29e0540aa8bc136_
 	local.get	2
 	v128.load	0
 	local.set	6
@@ -19901,12 +19901,12 @@ aes_c__single_rounds__round:            # @aes_c__single_rounds__round
 	i32.const	16
 	i64.const	1095216660480
 	i64.const	280375465148415
-	call	aes_planes__soft__utils__shifts__swap_columns____e29e0540aa8bc136_
+	call	aes_planes__soft__shifts__swap_columns____e29e0540aa8bc136_
 	local.get	2
 	i32.const	8
 	i64.const	71777214277877760
 	i64.const	71777214277877760
-	call	aes_planes__soft__utils__shifts__swap_columns____e29e0540aa8bc136_
+	call	aes_planes__soft__shifts__swap_columns____e29e0540aa8bc136_
 	local.get	0
 	local.get	1
 	v128.load	0:p2align=0
@@ -20379,12 +20379,12 @@ aes_c__single_rounds__rounds:           # @aes_c__single_rounds__rounds
 	i32.const	16
 	i64.const	1095216660480
 	i64.const	280375465148415
-	call	aes_planes__soft__utils__shifts__swap_columns____e29e0540aa8bc136_
+	call	aes_planes__soft__shifts__swap_columns____e29e0540aa8bc136_
 	local.get	2
 	i32.const	8
 	i64.const	71777214277877760
 	i64.const	71777214277877760
-	call	aes_planes__soft__utils__shifts__swap_columns____e29e0540aa8bc136_
+	call	aes_planes__soft__shifts__swap_columns____e29e0540aa8bc136_
 	local.get	2
 	v128.load	48
 	local.set	5
