@@ -32,15 +32,6 @@ AnyNonce = namedtuple("AnyNonce", "arguments phases steps mask stream more facts
 PreCounter = namedtuple("PreCounter", "bytes counter hashing arguments")
 
 
-# What is left on the stack of RISC-V's builds besides, in bytes, by the call and the bytes of a word: when they wipe what is below, they save
-# registers there that still hold it, and the value of GHASH at the end of additional data isn't wiped at all (README).
-LEFT_ON_RISCV = {
-    ("seal_to", 8): {"plain": 1}, ("open", 8): {"difference": 1}, ("open_to", 8): {"difference": 1}, ("open_to", 4): {"difference": 4},
-    ("accept", 8): {"difference": 1}, ("accept_short", 8): {"difference": 1, "inner": 1}, ("accept", 4): {"difference": 4},
-    ("accept_short", 4): {"difference": 4}}
-LEFT_AT_TURN = {8: {"inner": 3}, 4: {"inner": 16}}
-
-
 class KeyedGcm(KeyedHash):
     """key_length, wipe and what set_key refuses are stated in aes.py: these sentences of the two headers are alike."""
     library = prefix = "gcm"
@@ -93,9 +84,6 @@ class KeyedGcm(KeyedHash):
     def wipe_message(self):
         """Overwrites *message with zeros: there is no message then. It may be uninitialized."""
         return Call("gcm_wipe_message", [Buffer("message", self.undefined(MESSAGE), [0] * MESSAGE, align=8)], None)
-
-    def left_by(self, name):
-        return LEFT_ON_RISCV.get((name, self.address)) if self.program.machine.relaxed else None
 
     # Nonces, counter blocks and texts.
     def nonce_of(self, length=12, counter=1, before=()):
@@ -199,7 +187,8 @@ class KeyedGcm(KeyedHash):
             yield from hashing.steps()
         tag = self.aes.xor(hashing.value, self.stream(first, 0))
         texts = self.changed(way, "text", text, sealed, text_length)
-        more.setdefault("may_stay", self.left_by("seal" + way))
+        # One byte of the text is left by RISC-V's code of 64 bits: the function that wipes the stack saves a register there.
+        more.setdefault("may_stay", {"plain": 1} if way and self.program.machine.relaxed and self.address == 8 else None)
         return Call(name + way, [self.schedule(), *first.arguments, additional, additional_length, *texts,
                                  Buffer("tag", self.undefined(16), tag)], DONE, steps=steps, keystream=self.streams(first, text_length),
                     plain=text, **self.in_text(first, 16 + text_length), **more)
@@ -314,7 +303,7 @@ class KeyedGcm(KeyedHash):
         texts = self.changed(way, "text", sealed, text, text_length)
         return Call("gcm_open" + way, [self.schedule(), *first.arguments, additional, additional_length, *texts, Buffer("tag", tag), 16],
                     DONE, steps=steps, reveals=self.aes.xor(tag, right), refused=REFUSED, refused_after={"output": [0] * text_length},
-                    keystream=self.streams(first, text_length), plain=text, may_stay=self.left_by("open" + way),
+                    keystream=self.streams(first, text_length), plain=text,
                     **self.in_text(first, 16 + text_length))
 
     # Messages in pieces.
@@ -396,7 +385,6 @@ class KeyedGcm(KeyedHash):
         return self.on_message(call, state, after, [Buffer("text", *texts[call]), count], steps=steps,
                                keystream=self.streams(first, count, before) if call != "verify" else (),
                                plain=self.crypted(first, sealed, before) if call == "decrypt_unverified" else text,
-                               may_stay=LEFT_AT_TURN[self.address] if self.program.machine.relaxed and phase == ADDITIONAL else None,
                                **self.in_text(first, 16 + before + count))
 
     # Pieces of 48 n + `rest` bytes for every n, where 16 u + `filled` bytes came before for every u: the first bytes fill up a block, and
@@ -554,9 +542,8 @@ class KeyedGcm(KeyedHash):
         tag = self.of(self.tag, 0)[:length or 16]
         after, _ = self.any_state(DECRYPTING, additional, text, first)
         arguments = [length] * bool(length) + [Buffer("tag", tag), len(tag)]
-        name = "accept" + "_short" * bool(length)
-        return self.on_message(name, state, after, arguments, steps=hashing.steps, reveals=self.aes.xor(tag, right), refused=REFUSED,
-                               may_stay=self.left_by(name))
+        return self.on_message("accept" + "_short" * bool(length), state, after, arguments, steps=hashing.steps,
+                               reveals=self.aes.xor(tag, right), refused=REFUSED)
 
     # Calls that are refused, for all their arguments: nothing but the status changes, and buffers aren't read, so they have no bytes here.
     def refused(self):
