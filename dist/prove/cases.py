@@ -14,8 +14,9 @@ from x86_64 import X86_64
 # build; `full` with the builds but `_v1` and those for Windows, which are compiled from what these are; `first` with x86_64/aes.s and
 # x86_64/gcm.s alone; and all of them, and `more`, with each build and PROVE=all. Keys of 24 and 32 bytes take `other` with the builds that
 # take `full`: each call once, and the code that loops over round keys; with PROVE=all `few` and `full`, with each build. (Which builds there
-# are, PROVE says too: prove.py.)
-Row = collections.namedtuple("Row", "name what few full first more other", defaults=[(), (), (), (), ()])
+# are, PROVE says too: prove.py.) Without PROVE a row with every length has `short` in the place of `full`, if it says so, and for `_v3` in any
+# case: what code needs besides, so that all of it runs that has to (uncovered.py).
+Row = collections.namedtuple("Row", "name what few full first more other short", defaults=[(), (), (), (), (), ()])
 ONCE = [()]  # no arguments
 
 WAYS, DIRECTIONS = ("", "_to", "_with"), ("encrypt", "decrypt")
@@ -27,14 +28,14 @@ ROUNDS = [Row("a_round", "a round, or eight (`_par`); they need no key", few=SIN
 AES_ROWS = [
     Row("any_blocks", "16 n + r blocks for every n: the direction, r, into the same buffer or another (`_to`), or under a key (`_with`)",
         few=[(way, 7, to) for way in DIRECTIONS for to in ("", "_to")] + [(way, 1, "_with") for way in DIRECTIONS],
-        full=[(way, rest) for way in DIRECTIONS for rest in range(16) if rest != 7],
+        full=[(way, rest) for way in DIRECTIONS for rest in range(16) if rest != 7], short=[("encrypt", 14), ("decrypt", 15)],
         first=[(way, rest, "_to") for way in DIRECTIONS for rest in (0, 1, 2, 14)],
         more=[(way, rest, to) for to in WAYS[1:] for way in DIRECTIONS for rest in range(16)]),
     Row("blocks", "the direction and the number of blocks", few=[("encrypt", 2), ("encrypt", 1, "_with")],
         full=[("encrypt", n) for n in (0, 16, 17)],
         other=[(way, n, to) for way in DIRECTIONS for n, to in ((2, ""), (32, ""), (1, "_to"), (1, "_with"))]),
     Row("any_low_keystream", "at 16 k + s for every k, 128 n + r bytes for every n: s, r; for every initial counter block whose low half "
-        "doesn't carry", few=[(0, 0)], full=[(5, 122)], first=[(0, 0, "_with")], more=[(0, 33)]),
+        "doesn't carry", few=[(0, 0)], full=[(5, 122)], short=[(5, 122)], first=[(0, 0, "_with")], more=[(0, 33)]),
     Row("any_keystream", "the same where the low half carries anywhere or nowhere", first=[(0, 0)],
         more=[(0, 33), (5, 122), *((0, rest) for rest in range(9, 128, 18)), *((skip, 17 * skip % 128) for skip in range(1, 16, 2)), (3, 45, "_to")]),
     Row("add_keystream", "the position, the number of bytes, and before which block the low half of the counter carries, if anywhere",
@@ -46,7 +47,7 @@ AES_ROWS = [
               (2 ** 32 - 20, 40), (2 ** 63 + 2 ** 36, 64)],
         more=[(0, 33, 5)], other=[(0, 33), (3, 33, NO_CARRY, "_to"), (3, 33, NO_CARRY, "_with")]),
     Row("any_cbc_encrypt", "every number of blocks", few=ONCE),
-    Row("any_cbc_decrypt", "64 n + r blocks for every n: r", full=[9], more=range(64)),
+    Row("any_cbc_decrypt", "64 n + r blocks for every n: r", full=[9], short=[9], more=range(64)),
     Row("cbc_encrypt", "the number of blocks", full=[1, 2], other=[1]),
     Row("cbc_decrypt", "the number of blocks", few=[9], full=[0, 1, 3, 4, 8, 17], other=[1]),
     Row("any_wrap", "a key of every number of semiblocks", full=ONCE),
@@ -106,7 +107,7 @@ GCM_ROWS = [
     Row("seal", "the lengths of additional data and text, and a nonce of another length", few=[(13, 33), (13, 33, (), "_to")],
         full=[(0, 0), (1, 1), (13, 0), (49, 1), (0, 449, gcm.UNKNOWN), (0, 0, (), "_to"), *((5, 20, nonce) for nonce in NONCES)],
         more=[*((5, 40, nonce) for nonce in NONCES), *((5, n, (60, None)) for n in (0, 129, 300))],
-        other=[(13, 33), (0, 481), (0, 0, (), "_to")]),
+        other=[(13, 33), (0, 481, gcm.UNKNOWN), (0, 0, (), "_to")]),
     Row("open", "the same, also of what is refused", few=[(13, 33), (13, 33, (), "_to")],
         full=[(0, 0), (13, 0), (0, 0, (), "_to"), (3, 20, gcm.UNKNOWN)], more=[(3, 20, nonce) for nonce in NONCES[1:]],
         other=[(13, 33), (0, 0, (), "_to")]),
@@ -140,9 +141,9 @@ GCM_ROWS = [
            [(gcm.VERIFYING, 16, 7, gcm.UNKNOWN, n) for n in TAGS if n != 12])))]
 
 SIV_ROWS = [
-    Row("any_seal", WHOLE + "; both may have 2^36 bytes", full=[(33, 77), (16, 256)], first=[(13, 33, "_to")],
+    Row("any_seal", WHOLE + "; both may have 2^36 bytes", full=[(33, 77), (16, 256)], short=[(33, 77)], first=[(13, 33, "_to")],
         more=[(13, 33), (0, 0), (1, 1), (13, 81), (20, 145), (13, 225), (0, 450), (33, 48), (47, 767)]),
-    Row("any_open", WHOLE + "; also of what is refused", full=[(13, 33, "_to"), (13, 225)],
+    Row("any_open", WHOLE + "; also of what is refused", full=[(13, 33, "_to"), (13, 225)], short=[(13, 225)],
         more=[(13, 33), (1, 1), (33, 77), (13, 81), (20, 145), (0, 450), (33, 48), (47, 767), (0, 0, "_to")]),
     Row("seal", "the lengths of additional data and text", few=[(13, 33), (13, 33, "_to")], full=[(13, 0)], other=[(13, 33), (13, 33, "_to")]),
     Row("open", "the same, also of what is refused", few=[(1, 1), (13, 33, "_to")], full=[(13, 0)], other=[(1, 1), (13, 33, "_to")])]
@@ -203,8 +204,10 @@ def taken(row, program, key_size, level):
         return [*row.few, *row.full] if level == "all" else () if program.few else row.other
     if level == "all":
         return dict.fromkeys([*row.few, *row.full, *row.first, *row.more])
-    is_first = program.machine is X86_64 and not program.few and program.suffix != "_v3"
-    return [*row.few, *(() if program.few else row.full), *(row.first if is_first else ())]
+    is_first = program.machine is X86_64 and program.suffix == "_v2"
+    is_short = not level and row.name.startswith("any_") and (row.short or program.suffix == "_v3")
+    full = row.short if is_short else row.full
+    return [*row.few, *(() if program.few else full), *(row.first if is_first else ())]
 
 
 def name_of(row, values):

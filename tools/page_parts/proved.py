@@ -18,6 +18,7 @@ proved at every length of the form that the row names. Others have the lengths t
 
 - *Each*: keys of 16 bytes, with each build.
 - *Most*: also with keys of 16 bytes and the builds but `_v1` and those for Windows.
+- *Short*: of a name with `any_`, what `make prove` without PROVE takes in the place of *most*, if there is something; with `_v3` in any case.
 - *First*: also with keys of 16 bytes, `x86_64/aes.s` and `x86_64/gcm.s`.
 - *24, 32*: with keys of 24 and 32 bytes, and the builds of *most*.
 - *All*: also with `PROVE=all`, which takes the whole row with keys of 16 bytes and each build, and *each* and *most* with other keys.
@@ -30,7 +31,7 @@ RISCV_GCM = """
 They take the rows of `fotsgure_gcm.h` whose names don't begin with `any_`. On 32 bits they leave out *any J_0* in `seal` and `open`, and *no
 carry* in the calls with `_next`."""
 TITLES = {"aes": "fotsgure_aes.h", "gcm": "fotsgure_gcm.h", "siv": "fotsgure_gcm.h: AES-GCM-SIV"}
-COLUMNS = "few", "full", "first", "other", "more"
+COLUMNS = "few", "full", "short", "first", "other", "more"
 NONE = "-"
 
 
@@ -90,7 +91,7 @@ def row_said(row):
 
 
 def table(rows):
-    return "\n".join(["| statement | its arguments | each | most | first | 24, 32 | all |", "|---" * 7 + "|", *map(row_said, rows)])
+    return "\n".join(["| statement | its arguments | each | most | short | first | 24, 32 | all |", "|---" * 8 + "|", *map(row_said, rows)])
 
 
 def looked_at():
