@@ -52,7 +52,10 @@ class Aarch64(Machine):
 
     def get(self, o):
         if isinstance(o, Shifted):
-            return self.shift(o.how, self.get(o.operand), o.count, getattr(o.operand, "size", 8))
+            value, size = self.get(o.operand), getattr(o.operand, "size", 8)
+            if o.how == "uxtb":
+                return self.from_bytes([*self.to_bytes(value, size)[:1], *[0] * (size - 1)])
+            return self.shift(o.how, value, o.count, size)
         return super().get(o)
 
     def put(self, o, v):
@@ -99,7 +102,8 @@ OPERANDS = [(re.compile(pattern), make) for pattern, make in (
     (r"\{?v(\d+)\.([bhsd])\}?\[(\d+)\]", element),
     (r"\{(.*)\}", lambda inside: tuple(operand(o.strip()) for o in inside.split(","))),
     (r"\[(\w+)(?:, #(-?\d+))?(?:, (x\w+)(?:, lsl #(\d))?)?\](!?)", memory),
-    (r"(lsl|lsr|asr) #(\d+)", lambda how, count: Shifted(None, how, int(count))))]
+    (r"(lsl|lsr|asr) #(\d+)", lambda how, count: Shifted(None, how, int(count))),
+    (r"(uxtb)", lambda how: Shifted(None, how, 0)))]
 
 
 def operand(text):
@@ -113,7 +117,7 @@ def operand(text):
 
 
 def parse(text, with_target):
-    """A shift belongs to the operand before it, and a number after memory says how the base register is moved."""
+    """A shift, or the byte that is taken, belongs to the operand before it, and a number after memory says how the base register is moved."""
     tokens, out = TOKEN.findall(text), []
     target = [int(tokens.pop(), 16)] if with_target else []
     for one in map(operand, tokens):

@@ -1,7 +1,7 @@
 """Values of a machine as bytes and as bits, and their sums and differences, with the flags of these."""
 from bits import PUBLIC, Unproved
 from linear import Linear, is_number, wrapped
-from operands import (SECRET, WRAPS, Distance, Number, Placed, Pointer, Scaled, Shifted, Verdict, contrary, is_int, is_pointer, joined)
+from operands import (SECRET, WRAPS, Distance, Negated, Number, Placed, Pointer, Scaled, Shifted, Verdict, contrary, is_int, is_pointer, joined)
 from regions import Window
 
 
@@ -23,7 +23,7 @@ class Arithmetic:
         value = value.value if isinstance(value, Placed) else value
         if isinstance(value, (Verdict, Number)):
             return value.size if isinstance(value, Verdict) else 4
-        return self.word if isinstance(value, (Pointer, Distance, Linear, Scaled, Shifted)) else None
+        return self.word if isinstance(value, (Pointer, Distance, Negated, Linear, Scaled, Shifted)) else None
 
     def from_bytes(self, b):
         if max(b) < 256:
@@ -88,8 +88,10 @@ class Arithmetic:
         part, other = (self.low_part(v, size) for v in (x, y))
         if isinstance(part, Linear) and is_number(other) and size < self.word:
             return tuple(self.any_byte() for _ in range(size)), {"c": (mask, part + (other & mask if is_int(other) else other) + carry, "below")}
-        if isinstance(x, Distance) and is_int(y):
+        if isinstance(x, (Distance, Negated)) and is_int(y):
             return x._replace(offset=x.offset + y), {}
+        if isinstance(x, Negated) and is_pointer(y) and x.base == y.base and not carry and size == self.word:
+            return self.offset(y.offset, x.offset), {}
         if (is_pointer(x) or is_pointer(y)) and size == self.word:
             old, r = x if is_pointer(x) else y, self.offset(self.offset(x, carry), y)
             counter = self.counter
@@ -181,6 +183,10 @@ class Arithmetic:
             return Distance(x.base, y.base, x.offset - y.offset), {}
         if is_pointer(x) and is_number(y) and size == self.word:
             return self.offset(x, carry - 1 - y), {}
+        if is_int(x) and is_pointer(y) and is_int(y.offset) and carry and size == self.word:
+            return Negated(y.base, x - y.offset), {}
+        if is_int(x) and isinstance(y, Negated) and carry and size == self.word:
+            return self.offset(Pointer(y.base, 0), x - y.offset), {}
         if is_int(x) and carry and self.is_room(y, ~x, size):
             return None, {"c": ("not", (WRAPS,))}
         if is_pointer(x) or is_pointer(y):

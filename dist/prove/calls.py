@@ -224,8 +224,11 @@ def nothing_secret(m, call):
 
 
 def no_secret_in_buffers(m, call):
-    """The same of what was written to buffers by a run that doesn't go on: it came to a state of which this isn't a part."""
+    """The same of what was written to buffers by a run that doesn't go on: it came to a state of which this isn't a part. What a buffer has
+    at the end may be in it before."""
     known, plain = named(m, call)
+    ends = [b for a in call.buffers if not a.secret and isinstance(a.after, list) for b in a.after if b is not None]
+    known = {**known, "result": known["result"] | bits_of(m, ends)}
     for _, name, b in in_buffers(m, call):
         if tells(m, b, known, plain) in MAY_NOT_COME:
             raise Unproved("writes something secret to %s in a loop" % name)
@@ -290,7 +293,10 @@ def found(m, where, want):
                    for r in m.regions.values() if not isinstance(r, Window))
     if where in ("memory", "block") and was_written(m, want):
         return True
-    return where != "memory" and any(v[0] == want[0] and v[:16] == want for v in m.vectors) or where in ("hash", "block") and in_words(m, want)
+    if where != "memory" and any(v[0] == want[0] and v[:16] == want for v in m.vectors):
+        return True
+    # (In registers of 4 bytes a block of the cipher is before its copies are, in other slots of the planes.)
+    return (where == "hash" or where == "block" and m.word == 8) and in_words(m, want)
 
 
 def was_written(m, want):

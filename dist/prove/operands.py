@@ -6,6 +6,7 @@ from bits import Unproved
 
 Pointer = namedtuple("Pointer", "base offset")  # base: the name of a region, or of a register's value before the call
 Distance = namedtuple("Distance", "base other offset")  # the address of a buffer, less that of another, plus a constant
+Negated = namedtuple("Negated", "base offset")  # a constant, less the address of a buffer
 Number = namedtuple("Number", "base offset")  # 32 bits: a number of unknown value, plus another; higher bytes aren't known
 # So many bytes of which only this is known: they are the number `right` if all the differences are 0, else another one, which is `wrong` if
 # that is known; zeros above.

@@ -33,7 +33,7 @@ def say_what_ran(tasks, options):
         program = Program(own[0].path, own[0].machine, suffix_of(own[0].build))
         found = uncovered.of_text(program, *(set().union(*some) for some in zip(*((task.ran, task.went) for task in own))))
         # Of the builds that take few lengths all cases run with PROVE=all. Of RISC-V the list of uncovered.py says nothing.
-        judged = not own[0].machine.relaxed and (options.all or not takes_few(own[0].build))
+        judged = not own[0].machine.relaxed and (options.level == "all" or not takes_few(own[0].build))
         print("%s.s: %s%s" % (text, uncovered.summary(program, found), "" if judged else "; not judged here"))
         if options.lines:
             for name, one in found.items():

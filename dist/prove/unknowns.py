@@ -1,7 +1,7 @@
 """Numbers that aren't known (linear.py), in a machine: what is known of them are facts, numbers that are 0 or more."""
 from bits import LOST, Unproved
 from linear import Linear, implied, refuted, replaced, step_of, terms, tightened, unknown
-from operands import Content, Distance, Number, Placed, Pointer, Question, Scaled, Shifted, Verdict, constant, is_int, is_pointer, joined, lanes
+from operands import Content, Distance, Negated, Number, Placed, Pointer, Question, Scaled, Shifted, Verdict, constant, is_int, is_pointer, joined, lanes
 from regions import Window
 
 WRAPPED = "wrapped"  # an unknown: the block from which on the counter has wrapped around, if that is in what is done
@@ -138,7 +138,7 @@ class Unknowns:
         if not cells and not has_number(name):
             d.without_numbers.add(b)
             return b
-        if isinstance(name, tuple) and isinstance(name[0], (Linear, Pointer, Number, Distance, Placed, Scaled, Shifted, Content)):
+        if isinstance(name, tuple) and isinstance(name[0], (Linear, Pointer, Number, Distance, Negated, Placed, Scaled, Shifted, Content)):
             (value, k), by = name, new(name[0])
             if by != value:
                 return self.to_bytes(by, self.word)[k] if is_int(by) else d.opaque((by, k))
