@@ -227,7 +227,7 @@ def no_secret_in_buffers(m, call):
     """The same of what was written to buffers by a run that doesn't go on: it came to a state of which this isn't a part. What a buffer has
     at the end may be in it before."""
     known, plain = named(m, call)
-    ends = [b for a in call.buffers if not a.secret and isinstance(a.after, list) for b in a.after if b is not None]
+    ends = [b for a in call.buffers if not a.secret and isinstance(a.after, list) for b in a.after if isinstance(b, int)]
     known = {**known, "result": known["result"] | bits_of(m, ends)}
     for _, name, b in in_buffers(m, call):
         if tells(m, b, known, plain) in MAY_NOT_COME:
