@@ -6,14 +6,15 @@ import shutil
 import subprocess
 import sys
 
-import targets
 import toolchain
-from crates import sum_of
-from headers import Header
-from published import PROGRAM, Assembly
+from crates import TOP, sum_of
+
+from . import targets
+from .headers import Header
+from .published import PROGRAM, Assembly
 
 # What the builds that take no byte shuffle have in the place of the form of keys, by crate.
-NARROW = toolchain.TOP / "tools/dist_parts/narrow"
+NARROW = TOP / "tools/dist_parts/narrow"
 WIDTH = "//! Words of {}.\n\npub type BuildWidth = {};\n"
 # What differs in a copy of aes_narrow for words of 64 bits, of which eight hold planes of four blocks.
 WORDS_OF_64 = (
@@ -156,7 +157,8 @@ class Words64:
         toolchain.begun(crate, room / "kept")
         words = toolchain.build_words(crate, "--incremental", f"{room}/kept", "-o", f"{made}")
         proved(words, f"{crate.name} for words of 64 bits", folder)
-        self.names = {f"{crate.name}={crate.rlib}": f"{crate.name}={made}", f"dependency={os.path.dirname(crate.rlib)}": f"dependency={room}"}
+        self.names = {f"{crate.name}={crate.rlib}": f"{crate.name}={made}"}
+        self.names[f"dependency={os.path.dirname(crate.rlib)}"] = f"dependency={room}"
 
     def named_in(self, words):
         return [self.names.get(it, it) for it in words]
@@ -187,7 +189,7 @@ class Build:
         return made
 
     def run(self, crate, kept, words_64):
-        """Proves and builds a copy of the crate, over what a folder keeps. Notes the verdict, and the texts of the assembly that is published."""
+        """Proves and builds a copy of the crate, over what a folder keeps. Notes the verdict, and the assembly that is published."""
         copy, variant = self.room / crate.name, self.variant
         shutil.copytree(crate.folder, copy)
         shutil.copytree(kept, self.room / "kept")

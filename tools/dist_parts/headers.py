@@ -24,7 +24,8 @@ def in_lines(words, width, first, others):
 
 def word_in_rust(on_riscv, name, elsewhere):
     riscv = 'target_arch = "riscv64"'
-    return [f"#[cfg({riscv})]", f"pub type {name} = {TYPES[on_riscv]};", f"#[cfg(not({riscv}))]", f"pub type {name} = {TYPES[elsewhere]};", ""]
+    lines = [f"#[cfg({riscv})]", f"pub type {name} = {TYPES[on_riscv]};"]
+    return [*lines, f"#[cfg(not({riscv}))]", f"pub type {name} = {TYPES[elsewhere]};", ""]
 
 
 class Header:
@@ -90,7 +91,8 @@ class Header:
         lines += [line for it in WORD.findall(self.text) for line in word_in_rust(*it)]
         lines += [line for it in STRUCT.findall(self.text) for line in self.struct_in_rust(*it)]
         for name, size, word in SIZE.findall(self.text):
-            lines += [f"const _: () = assert!(core::mem::size_of::<{name}>() == {size}{f' * core::mem::size_of::<{word}>()' if word else ''});"]
+            times = f" * core::mem::size_of::<{word}>()" if word else ""
+            lines += [f"const _: () = assert!(core::mem::size_of::<{name}>() == {size}{times});"]
         calls = [line for it in self.assembled() for line in self.call_in_rust(*it)]
         return "\n".join([*lines, "", "library! {", f'    "{self.library}":', *calls, "}", ""])
 

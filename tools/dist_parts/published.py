@@ -10,9 +10,10 @@ import re
 import sys
 
 import crates
-import symbols
-from headers import DIST, Header
-from registers import Registers
+
+from . import symbols
+from .headers import DIST, Header
+from .registers import Registers
 
 LIBRARIES = {"aes": "aes_c", "gcm": "gcm_c"}
 PROGRAM = "aes_kat"
@@ -28,7 +29,7 @@ CALLS = {
     },
     "riscv64": {"call\t{}": "la\tt1, {0}\n\tjalr\tt1", "tail\t{}": "la\tt1, {0}\n\tjr\tt1"},
 }
-# The marks (Intel's CET, ARM's BTI): an instruction at the beginning of each export, a prefix of jumps by tables, and a note for the linker,
+# The marks (Intel's CET, ARM's BTI): an instruction at the beginning of each export, a prefix of jumps by tables, a note for the linker,
 # which marks what is made of marked files alone: the object of a Rust crate is not, since it has Rust's functions too. Its words are the
 # sizes of its name and of what follows, its type, "GNU"; then the property, its size, its bits and nothing.
 ENTRIES = {"x86_64": "\tendbr64\n", "aarch64": "\thint\t#34\n"}

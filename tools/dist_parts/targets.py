@@ -18,7 +18,7 @@ import pathlib
 import re
 import sys
 
-import narrowed
+from . import narrowed
 
 # The options that the kit's compiler gives to clang, but for those of a target.
 OPTIONS = """-mllvm -no-trap-after-noreturn -mllvm -trap-unreachable -mllvm -no-x86-call-frame-opt -mllvm -disable-machine-licm
