@@ -21,7 +21,8 @@ ROOM.mkdir(parents=True, exist_ok=True)
 BACKENDS = ("llvm", "rattle")
 BITS = ("128", "192", "256")
 # Valgrind merges two branches to one place (guest-chase), and then reports at both what the first one tests.
-MEMCHECK = "valgrind --tool=memcheck --vex-guest-chase=no --error-limit=no --leak-check=no --expensive-definedness-checks=yes --num-callers=8"
+MEMCHECK = """valgrind --tool=memcheck --vex-guest-chase=no --error-limit=no --leak-check=no --expensive-definedness-checks=yes
+    --num-callers=8"""
 
 
 class Found:
@@ -82,7 +83,7 @@ def conditions():
 
 
 def publish(heading, *parts):
-    """Writes a section of docs/MEASUREMENTS.md, by its heading with its marks: paragraphs, each a text, and tables, each a list of lines."""
+    """Writes a section of docs/MEASUREMENTS.md, by its heading with marks: paragraphs, each a text, and tables, each a list of lines."""
     before, *after = re.split(rf"^{re.escape(heading)}\n", MEASUREMENTS.read_text(), flags=re.M)
     if len(after) != 1:
         stop(f"{MEASUREMENTS} has the heading {heading} {len(after)} times")
@@ -174,6 +175,7 @@ def finish(found, options, text):
 
 def end(status, text):
     """The last line, and the status."""
-    said = ("as it should be", "NOT as it should be", "a planted fault was NOT found, so this shows nothing", "", "as it should be, with parts left out")
+    blind = "a planted fault was NOT found, so this shows nothing"
+    said = {RIGHT: "as it should be", WRONG: "NOT as it should be", BLIND: blind, PARTIAL: "as it should be, with parts left out"}
     say(f"VERDICT: {said[status]}: {text}")
     sys.exit(status)
