@@ -3,15 +3,7 @@
 use super::cipher::calls::rest_of_the_example;
 use aes_cipher::bytes::{PartialBlock, blocks_and_bytes, decrypt_bytes, encrypt_bytes};
 use aes_cipher::cipher::{Block, BlockCipherEncrypt};
-
-// Bytes that differ from block to block.
-fn counted() -> [u8; 1056] {
-    let mut bytes = [0; 1056];
-    for i in 0..1056 {
-        bytes[i] = (i % 251) as u8;
-    }
-    bytes
-}
+use standards::bytes::counted;
 
 #[test]
 fn works_on_whole_blocks(rt: HostRuntime) {
