@@ -18,6 +18,8 @@ FLAGS = re.compile(
     r"(cmp|test|bt[src]?|add|adc|sub|sbb|inc|dec|neg|and|or|xor|sh[lr]d?|sa[lr]|rcl|rcr|mul|imul|popcnt|tzcnt|lzcnt"
     r"|bs[fr]|v?ptest|u?comis[sd]|andn|bextr|bls\w+|cmpxchg|xadd)[bwlq]?\s"
 )
+# What a switch compares, and where its table begins. An address that the linker fills in, as LLVM has them, is 0 here.
+SWITCH = re.compile(r"\tcmp +\$0x([0-9a-f]+),%\w+\n.*\tja .*\n.*\tlea +0x[1-9a-f].*# ([0-9a-f]+) .*\n.*\tmovslq \(%\w+,%\w+,4\)")
 REGISTER = re.compile(r"%(?:[re]?[abcd]x|[abcd][lh]|[re]?[sd]il?|[re]?[sb]pl?|[sd]il|[sb]pl|r\d+[dwb]?|[xy]mm\d+)\b")
 
 
@@ -35,15 +37,20 @@ def compared(line):
     return f"{words[0]} {operands}".strip()
 
 
+def tables(code):
+    """The addresses in a function's code where offsets stand that a switch of the second compiler jumps by."""
+    return {it for most, start in SWITCH.findall(code) for it in range(int(start, 16), int(start, 16) + 4 * int(most, 16) + 4)}
+
+
 def instructions(archive):
     """Each instruction with the plain name of the function that it stands in; where one begins, no instruction with its name."""
-    name = ""
-    for line in shared.run(["objdump", "-d", "--no-show-raw-insn", archive], "objdump").splitlines():
-        if head := re.match(r"[0-9a-f]+ <(.*)>:", line):
-            name = plain(head[1])
-            yield name, ""
-        elif code := re.match(r"\s*[0-9a-f]+:\s*(.+)", line):
-            yield name, code[1]
+    functions = re.split(r"^[0-9a-f]+ <(.*)>:\n", shared.run(["objdump", "-d", "--no-show-raw-insn", archive], "objdump"), flags=re.M)
+    for name, code in zip(map(plain, functions[1::2]), functions[2::2], strict=True):
+        yield name, ""
+        offsets = tables(code)
+        for address, instruction in re.findall(r"^\s*([0-9a-f]+):\s*(.+)", code, re.M):
+            if int(address, 16) not in offsets:
+                yield name, instruction
 
 
 def jumps(archive):
@@ -62,11 +69,7 @@ def jumps(archive):
 
 
 def speaks_of(row, jump):
-    function, compares, name = jump
-    functions, comparisons = row[0].split(" "), row[1].split("|")
-    return any(fnmatch.fnmatchcase(function, it) for it in functions) and any(
-        fnmatch.fnmatchcase(f"{compares}, {name}", it) for it in comparisons
-    )
+    return any(fnmatch.fnmatchcase(jump[0], it) for it in row[0].split(" "))
 
 
 def looked_at(archive, record, found):
@@ -88,5 +91,5 @@ def looked_at(archive, record, found):
     counts = f"{sum(there.values())} of {len(there)} kinds in {len(functions)} functions"
     shared.say(f"jumps: {counts}; wrong: {len(wrong)}, recorded and gone: {gone}")
     if idle:
-        shared.say(f"lines of {REASONS.name} for nothing: {'; '.join(' '.join(it[:2]) for it in idle)}")
+        shared.say(f"lines of {REASONS.name} for nothing: {'; '.join(it[0] for it in idle)}")
     found.summary.append(f"llvm, {sum(there.values()):,} conditional jumps in {len(functions)} functions, all explained")

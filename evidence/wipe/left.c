@@ -40,6 +40,8 @@ static void enter(void) {
 static void run(int number) {
     memset(stack, FILL, STACK);
     getcontext(&away);
+    /* Else the call would find this search's own numbers in its registers, and save them on the stack: the loop's differ with the key. */
+    memset(away.uc_mcontext.gregs, 0, sizeof away.uc_mcontext.gregs);
     away.uc_stack.ss_sp = stack;
     away.uc_stack.ss_size = STACK;
     away.uc_link = &home;
