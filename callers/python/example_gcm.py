@@ -97,7 +97,7 @@ def new_key(path: pathlib.Path) -> None:
 
 
 def old_key(path: pathlib.Path, name: str) -> None:
-    """A crash amid this leaves no key: the next message draws one."""
+    """A crash during this call leaves no key: the next message draws one."""
     if not name.startswith("key.") or "/" in name:
         raise ValueError(f"{name}: use a name that new-key has printed, without the folder")
     with locked(path) as folder:

@@ -25,9 +25,10 @@
  * In return, every call returns, and writes only what its comment says. No call allocates, prints, aborts, blocks,
  * or keeps a pointer. The library has no state of its own, except one word on x86-64: a library that holds several builds
  * keeps there which of them the processor runs. A call that doesn't return FOTSGURE_AES_DONE has changed nothing. There
- * are three exceptions: fotsgure_aes_set_key leaves a struct without a key, and fotsgure_aes_unwrap and
- * fotsgure_aes_unwrap_padded leave zeros. What a call returns depends on lengths and positions alone, never on the bytes
- * of a key or of data, except REFUSED: a wrapped key, a tag or a message was not right.
+ * are three exceptions: fotsgure_aes_set_key leaves a struct without a key; fotsgure_aes_unwrap and
+ * fotsgure_aes_unwrap_padded leave zeros if they return REFUSED; and the latter sets *key_length to 0. What a call returns
+ * depends on lengths and positions alone, never on the bytes of a key or of data, except REFUSED: a wrapped key, a tag or
+ * a message was not right.
  *
  * Proved: what calls return and write, that they return, and that the calls that are given a key wipe the schedule that
  * they keep. Reviewed by hand and measured: that these calls keep no other copy of the schedule, that no call allocates,
@@ -104,21 +105,21 @@ typedef uint32_t fotsgure_aes_word;
 #endif
 
 /* A key schedule, for both directions and for counter mode. Read and write it by the calls below alone. On 64-bit RISC-V
- * with vectors it is kept in the first 484 bytes, and the others are neither read nor written: what is said of the struct
- * is so of the bytes that a build keeps. */
+ * with vectors it is kept in the first 484 bytes, and the others are neither read nor written: these comments then speak
+ * of the bytes that a build keeps. */
 struct fotsgure_aes {
     fotsgure_aes_word key_length; /* in the lower 32 bits: 16, 24 or 32; 0: no key */
     fotsgure_aes_word round_keys[120];
 };
 
-/* Where a keystream stands. The caller sets both fields, and may set `position` to go on anywhere. Never use a counter
+/* A position in a keystream. The caller sets both fields, and may set `position` to continue anywhere. Never use a counter
  * block twice under one key: keystream block i is made of iv + i, so give each message a range of its own. */
 struct fotsgure_aes_ctr {
     uint8_t iv[16];    /* the initial counter block: one number of 128 bits, highest byte first */
     uint64_t position; /* how many bytes of the keystream come before the next: 0 at the start */
 };
 
-/* Where a chain of blocks stands. The caller sets it to the initialization vector, which is drawn at random for each
+/* The state of a chain of blocks. The caller sets it to the initialization vector, which is drawn at random for each
  * message (SP 800-38A, appendix C). */
 struct fotsgure_aes_cbc {
     uint8_t previous[16]; /* the last encrypted block; before the first, the initialization vector */
@@ -176,7 +177,7 @@ FOTSGURE_AES_CHECK enum fotsgure_aes_status fotsgure_aes_add_keystream_to(const 
 
 /* Cipher block chaining in place (SP 800-38A, 6.2), on whole blocks: encrypts or decrypts the next `count` blocks of a
  * chain, and moves *cbc on to the last encrypted one. It makes no difference how blocks are cut into calls. It doesn't
- * show whether a message was changed, and a program that tells whether padding was right gives messages away: check a
+ * show whether a message was changed, and a program that reveals whether padding was right reveals messages: check a
  * tag over the initialization vector and the encrypted blocks first. DONE, or NO_KEY. */
 FOTSGURE_AES_CHECK enum fotsgure_aes_status fotsgure_aes_cbc_encrypt(const struct fotsgure_aes *aes,
     struct fotsgure_aes_cbc *FOTSGURE_AES_ALONE cbc,

@@ -46,8 +46,8 @@ inline std::size_t whole(std::size_t length, std::size_t size, const char *words
         throw std::invalid_argument(words);
     return length / size;
 }
-inline std::size_t blocks(std::size_t length) { return whole(length, 16, "whole blocks of 16 bytes"); }
-inline std::size_t semiblocks(std::size_t length) { return whole(length, 8, "whole semiblocks of 8 bytes"); }
+inline std::size_t blocks(std::size_t length) { return whole(length, 16, "the length isn't a multiple of 16 bytes"); }
+inline std::size_t semiblocks(std::size_t length) { return whole(length, 8, "the length isn't a multiple of 8 bytes"); }
 
 } // namespace detail
 
@@ -148,7 +148,7 @@ private:
     }
 };
 
-// CBC on whole blocks in place, under a key, which has to outlive it: a chain that goes on from call to call. Check a tag over
+// CBC on whole blocks in place, under a key, which has to outlive it: a chain that continues from call to call. Check a tag over
 // the initialization vector and the encrypted blocks before you decrypt.
 class Cbc {
 public:

@@ -5,7 +5,7 @@
  * checks a call from C.
  *
  * For every call, the caller must ensure:
- *  - In GCM no nonce is used twice under one key, over all messages, programs and machines: a second use gives away the
+ *  - In GCM no nonce is used twice under one key, over all messages, programs and machines: a second use reveals the
  *    key of the tags and the sum of two messages. fotsgure_gcm_seal_next counts nonces up. Random nonces have 12 bytes
  *    or more. At most 2^32 messages are allowed under a key if any of its nonces is random, or doesn't have 12 bytes
  *    (8.2.2, 8.3). In AES-GCM-SIV, the calls fotsgure_gcm_siv_.., a nonce that is used twice only shows whether the two
@@ -115,8 +115,8 @@ typedef uint64_t fotsgure_gcm_word;
 typedef uint32_t fotsgure_gcm_word;
 #endif
 
-/* How many bytes a prepared key has. No build for 32-bit ARM and RISC-V has a byte shuffle. For the other machines there
- * are builds with one, which need more; those without use less of the struct. */
+/* How many bytes a prepared key has. No build for 32-bit ARM or 32-bit RISC-V has a byte shuffle. For the other machines
+ * there are builds with one, which need more; those without use less of the struct. */
 #if defined(__arm__) || (defined(__riscv) && __riscv_xlen == 32)
 #define FOTSGURE_GCM_ROUND_KEYS 480
 #define FOTSGURE_GCM_MULTIPLES 16
@@ -154,7 +154,7 @@ struct fotsgure_gcm_message {
 };
 
 /* A key of AES-GCM-SIV. Read and write it by the calls below alone. Builds with a byte shuffle keep the key in the first
- * 244 bytes, and neither read nor write the others: what these comments say of the struct is then so of these 244. */
+ * 244 bytes, and neither read nor write the others: these comments then speak of these 244. */
 struct fotsgure_gcm_siv {
     fotsgure_gcm_word key_length; /* 16 or 32; 0: no key */
     fotsgure_gcm_word round_keys[120];

@@ -155,7 +155,7 @@ void chained_blocks() {
     expect(bytes == cipher, "F.2.1, encrypted in two calls", bytes.size());
     back.decrypt(bytes);
     expect(bytes == plain, "F.2.1, decrypted", bytes.size());
-    expect(says("whole blocks of 16 bytes", [&] { back.decrypt({bytes.data(), 17}); }), "17 bytes are no blocks of CBC", 17);
+    expect(says("the length isn't a multiple of 16 bytes", [&] { back.decrypt({bytes.data(), 17}); }), "17 bytes are no blocks of CBC", 17);
 }
 
 // RFC 3394, 4.6, and RFC 5649, 6.
@@ -173,7 +173,7 @@ void wrapped_keys() {
         "the other's wrapped key is refused", key.size());
     const std::string length = "a key of this length is not wrapped, or the output has another length";
     expect(says(length, [&] { (void)aes.wrap(Bytes(8)); }) && says(length, [&] { (void)aes.unwrap(Bytes{}); }) &&
-        says("whole semiblocks of 8 bytes", [&] { (void)aes.wrap(Bytes(17)); }), "what isn't wrapped", 8);
+        says("the length isn't a multiple of 8 bytes", [&] { (void)aes.wrap(Bytes(17)); }), "what isn't wrapped", 8);
 }
 
 // A key and a text are whatever has bytes, and a key moves.

@@ -2,9 +2,9 @@
 proved library: change the import alone.
 
 It has that package's calls, types of errors and words of ValueErrors and BufferErrors, and raises its InvalidTag if the
-package is there, and else its own. It takes more for bytes: the head of fotsgure.gcm says what. If `decrypt_into` raises
-InvalidTag, the buffer is as it was; that package has then written text there that nobody authenticated. RFC 8452 has no
-keys of 24 bytes, and so AESGCMSIV has none.
+package is there, and else its own. It accepts more types as bytes: the head of fotsgure.gcm lists them. If `decrypt_into`
+raises InvalidTag, the buffer is as it was; that package has then written text there that nobody authenticated. RFC 8452
+has no keys of 24 bytes, and so AESGCMSIV has none.
 """
 import operator
 import os

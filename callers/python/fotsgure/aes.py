@@ -58,7 +58,7 @@ class Aes(Secret):
     def _blocks(self, call: Any, data: Bytes) -> Union[bytes, bytearray]:
         buffer, length = _given(data)
         if length % 16:
-            raise ValueError("whole blocks of 16 bytes")
+            raise ValueError("the length isn't a multiple of 16 bytes")
         with self._uses:
             status = call(self._key, buffer, length // 16)
         if status != _DONE:

@@ -6,7 +6,7 @@ use std::fmt;
 /// Cipher block chaining under a key that is lent (SP 800-38A, 6.2), on whole blocks. However blocks are cut into calls, the
 /// result is the same.
 ///
-/// It doesn't show whether a message was changed, and a program that says whether padding was right gives messages away:
+/// It doesn't show whether a message was changed, and a program that reveals whether padding was right reveals messages:
 /// first check a tag over the initialization vector and the encrypted blocks. Draw the vector at random for each message.
 ///
 /// ```

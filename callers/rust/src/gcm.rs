@@ -406,7 +406,7 @@ impl fmt::Display for NotTaken {
             NotTaken::OutOfTurn => {
                 "the calls came in the wrong order, for example text after finish, or decrypt before accept"
             }
-            NotTaken::TooLong => "more than GCM allows, or than was verified",
+            NotTaken::TooLong => "there are more bytes than GCM allows, or than were verified",
             NotTaken::Refused => "the message was refused",
         })
     }

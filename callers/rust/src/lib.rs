@@ -48,7 +48,7 @@ pub fn version() -> u32 {
     unsafe { c::fotsgure_aes_version() }
 }
 
-/// A key has another length than the call takes. The words say which lengths it takes.
+/// The key's length isn't allowed. The message says which lengths are.
 #[derive(Debug, Clone, Copy, PartialEq, Eq)]
 pub struct InvalidLength(&'static str);
 
