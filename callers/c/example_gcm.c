@@ -31,8 +31,8 @@
 #include <sys/stat.h>
 #include <unistd.h>
 
-/* What the file holds: a key, and the next nonce under it. They are written and moved together, so that no key ever
- * stands beside the counter of another. */
+/* What the file holds: a key, and the next nonce under it. They are written and moved together, so that no key is ever
+ * beside the counter of another. */
 struct kept {
     uint8_t key[32];
     struct fotsgure_gcm_counter counter;
@@ -163,7 +163,7 @@ static int new_key(const char *path)
     return moved && printf("%s/%s\n", path, name) > 0;
 }
 
-/* A crash amid this leaves no key: the next message draws one. */
+/* A crash during this call leaves no key: the next message draws one. */
 static int old_key(const char *path, const char *name)
 {
     char other[16] = "";

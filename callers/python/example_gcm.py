@@ -39,7 +39,7 @@ def locked(path: pathlib.Path) -> Iterator[int]:
 
 
 def load(file: pathlib.Path) -> Tuple[bytes, bytes]:
-    """A key and its counter. They are written and moved together, so that no key stands beside the counter of another.
+    """A key and its counter. They are written and moved together, so that no key is ever beside the counter of another.
     """
     kept = file.read_bytes()
     if len(kept) != 32 + 12:

@@ -101,8 +101,8 @@ class Secret:
 
 
 class Turn:
-    """Lets one thread at a time go on with what gives out something once (a counter, a message, a keystream), and only
-    in the process that made it: a fork copies it, and both copies would give out the same."""
+    """Lets one thread at a time use what returns each value only once (a counter, a message, a keystream), and only in
+    the process that made it: a fork copies it, and both copies would return the same values."""
 
     def __init__(self, what: str) -> None:
         self._what, self._process, self._lock = what, os.getpid(), threading.RLock()
@@ -141,7 +141,7 @@ class Uses:
 
     @contextlib.contextmanager
     def alone(self) -> Iterator[None]:
-        # A handler of a signal may run amid a call of its own thread, which it can't wait for.
+        # A handler of a signal may run during a call of its own thread, which it can't wait for.
         with self._change:
             self._is_written = True
             try:
@@ -152,7 +152,7 @@ class Uses:
                 self._change.notify_all()
 
     def forked(self) -> None:
-        """In the child only the thread that forked goes on."""
+        """In the child only the thread that forked continues."""
         mine = [it for it in self._running if it == threading.get_ident()]
         self._change, self._running, self._is_written = threading.Condition(), mine, False
 

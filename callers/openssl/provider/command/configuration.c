@@ -66,7 +66,7 @@ static void print(const char *module, const char *file, const struct names *name
         "# '?' prefers fotsgure. What fotsgure doesn't have comes from OpenSSL's own provider.\n");
     if (names->opens_init)
         printf("openssl_conf = %s\n", names->init);
-    /* The other file comes first. Then its sections are opened once more: of a name that stands again, the last value is taken. */
+    /* The other file comes first. Then its sections are opened once more: if a name is repeated, its last value is used. */
     if (file)
         printf(".include %s\n", file);
     printf("[%s]\nproviders = %s\nalg_section = %s\n", names->init, names->providers, names->algorithms);

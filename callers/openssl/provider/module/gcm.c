@@ -22,7 +22,7 @@ static int has_begun(struct context *c)
 }
 
 /* Ends a message: makes its tag, or compares it. The program fixes the length of its tags by the one that it sets. As long as it has
- * set none, the message goes on. */
+ * set none, the message continues. */
 static int end(struct context *c)
 {
     enum fotsgure_gcm_status status;

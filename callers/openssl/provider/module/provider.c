@@ -112,7 +112,7 @@ static int set_key(struct context *c, const byte *key, size_t length)
 }
 
 /* A key, an initialization vector or nonce, both, or neither. Without a new vector, CBC takes the same again, and
- * counter mode goes on at the next block. In GCM, another key ends a message that has begun. */
+ * counter mode continues with the next block. In GCM, another key ends a message that has begun. */
 static int begin(struct context *c, const byte *key, size_t key_length, const byte *iv, size_t iv_length,
     const OSSL_PARAM params[])
 {

@@ -28,8 +28,8 @@
 //! # Not as in `aes-gcm`
 //!
 //! [`AesGcm`] isn't generic over any block cipher: its first parameter is [`Aes128`], [`Aes192`] or [`Aes256`] of this
-//! crate. With nonces of another length than 12 bytes
-//! the time of a call can tell whether and where a counter of 32 bits wraps, and so something of the key.
+//! crate. If a nonce doesn't have 12 bytes, the time of a call can reveal whether and where a counter of 32 bits wraps. That
+//! says something about the key.
 
 use crate::keys::{self, Text};
 use aead::{TagPosition, inout::InOutBuf};
