@@ -19179,4 +19179,4 @@ gcm_v3.fotsgure_gcm_accept_short:              # @gcm_v3.fotsgure_gcm_accept_sho
 
 
 	.section	.rdata,"dr"
-	.asciz	"fotsgure_gcm 0.4.0, windows_x86_64/gcm_v3.s, sources SHA-256 1f14d9f0c9f8ad9f382037a667917c67504bfd740ed12c9d57fab25e68c667bd"
+	.asciz	"fotsgure_gcm 0.4.0, windows_x86_64/gcm_v3.s, sources SHA-256 23cefb32c24a4ca99fc7bf5cdd9788a5ccf81d40010440f74c3093d3c68436fa"

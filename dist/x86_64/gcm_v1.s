@@ -11532,5 +11532,5 @@ gcm_v1.fotsgure_gcm_accept_short:              # @gcm_v1.fotsgure_gcm_accept_sho
 	.long	9, 118, 1
 	.asciz	"Fotsgure"
 	.p2align	2, 0x0
-	.asciz	"fotsgure_gcm 0.4.0, x86_64/gcm_v1.s, sources SHA-256 1f14d9f0c9f8ad9f382037a667917c67504bfd740ed12c9d57fab25e68c667bd"
+	.asciz	"fotsgure_gcm 0.4.0, x86_64/gcm_v1.s, sources SHA-256 23cefb32c24a4ca99fc7bf5cdd9788a5ccf81d40010440f74c3093d3c68436fa"
 	.p2align	2, 0x0
