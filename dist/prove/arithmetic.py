@@ -108,8 +108,12 @@ class Arithmetic:
             if not is_int(fixed):
                 raise
             zero = self.differences(rest, -fixed - carry, size)
-            return self.verdict(0, zero, size), {"c": SECRET, "z": self.zero_flag(zero), "s": SECRET, "o": SECRET}
+            return self.only_zero(zero), {"c": SECRET, "z": self.zero_flag(zero), "s": SECRET, "o": SECRET}
         return self.unbits(bits), {"c": self.flag_of(out), "z": SECRET, "s": SECRET, "o": SECRET}
+
+    def only_zero(self, differences):
+        """A value of which only is known whether it is 0."""
+        return self.verdict(0, differences, len(differences))
 
     def whole_number(self, v, size):
         """The number that is in the lower bytes of a word and has no more."""

@@ -34,7 +34,8 @@ def verdict(what, prove, reason=""):
 def edited(text, label, pattern, new):
     """The text with the first match of a pattern in what stands behind a label replaced, and its line; or None."""
     at = re.search(r"(?m)^" + label, text)
-    found = at and re.compile(pattern).search(text, at.end(), re.compile(r"\t?\.(?:size|seh_endproc)").search(text, at.end()).start())
+    end = at and re.compile(r"\t?\.(?:size|seh_endproc)|\Z").search(text, at.end())
+    found = at and re.compile(pattern).search(text, at.end(), end.start())
     if not found:
         return None, 0
     put = new(found) if callable(new) else found.expand(new)

@@ -45,6 +45,7 @@ BEGIN, FINISH, ENCRYPT, OPEN = (exported("gcm_" + name) for name in ("begin", "f
 DERIVE, APPLY, SIV_OPEN = (function("gcm_siv::" + name) for name in ("keys::derive", "message::apply", "message::open"))
 WIPE_STACK, WIPE_WORDS, WIPED, WIPE_ELEMENTS = (call("aes_cipher::zeroize::" + name) for name in (
     "stack::wipe_stack", "zeroize_words", r"[\w.:]+", "elements::zeroize_elements"))
+NOTE = r'\t\.section\t"\.note\.gnu\.property".*\n'
 HALF_COMPARED = COMPARE, r"(ext\t.*, #)8", r"\g<1>0"  # on ARM
 ENTRY = r"((?:#|//) %bb.0:.*\n)"  # where a function begins
 END = r"(\tretq\n)(\.L\w*func_end)"  # and where it ends
@@ -102,6 +103,9 @@ FAULTS = {
         ("a stack that may be run", WIPE, ENTRY, "\\1\t.pushsection\t.note.GNU-stack,\"x\"\n\t.popsection\n", "wipe"),
         ("a note that asks for other processors", WIPE, ENTRY,
          "\\1\t.pushsection\t.note.gnu.property,\"a\"\n\t.long\t4, 16, 5\n\t.asciz\t\"GNU\"\n\t.long\t0xc0008002, 4, 8, 0\n\t.popsection\n", "wipe"),
+        ("a note without the marks of indirect calls", NOTE, "4, 3, 0", "4, 2, 0", "wipe"),
+        ("a second note without them", WIPE, ENTRY,
+         "\\1\t.pushsection\t.note.gnu.property,\"a\"\n\t.long\t4, 16, 5\n\t.asciz\t\"GNU\"\n\t.long\t0xc0000002, 4, 0, 0\n\t.popsection\n", "wipe"),
         ("the struct read before it is written", WIPE, ENTRY, r"\1\tcmpb\t$0, 8(%rdi)\n\tje\t77f\n77:\n", "wipe"),
         ("statuses exchanged", BLOCKS_TO, r"movl\t\$3, %(\w+)", r"movl\t$2, %\1", "aes_encrypt_blocks_to refused 2"),
         ("a round key left among other blocks", BLOCKS, ENTRY, r"\1\tmovups\t4(%rdi), %xmm0\n" + LEFT, "blocks encrypt 17"),
@@ -308,6 +312,7 @@ FAULTS = {
         ("a store below the stack pointer", BLOCKS, ENTRY, r"\1\tstur\tx8, [sp, #-16]\n", "blocks encrypt 2"),
         ("d10 and d11 not restored", PLANES, r"\tldp\td11, d10, .*\n", "", "blocks encrypt 16"),
         ("an instruction not covered", BLOCKS, ENTRY, r"\1\tisb\n", "blocks encrypt 2"),
+        ("a note without the marks of indirect calls", NOTE, "4, 1, 0", "4, 0, 0", "wipe"),
         ("counter mode without the carry", COUNTER, r"(\tadds\t.*\n)\tcinc\t.*\n", r"\1", "add_keystream 21 11 1"),
     ],
     "aarch64/gcm": [

@@ -195,6 +195,15 @@ def with_number(m, x, y, passes, numbers):
     return None
 
 
+def guessed(facts, later, wrong):
+    """What was decided in each of two passes, the last first: a number and by how much it moves. If that was a wrong guess, the number is one
+    pass behind."""
+    for a, b in zip(reversed(facts), reversed(later)):
+        starts = [start for start in (a, a - (b - a)) if start not in wrong]
+        if is_int(b - a) and b != a and starts and WRAPPED not in terms(a):
+            yield starts[0], b - a
+
+
 numbers = itertools.count()
 
 
@@ -225,9 +234,7 @@ def general_state(known, key, visit, now, wrong=frozenset()):
                 raise Unproved("two passes of a loop don't come as far in %s" % name_)
     g.stale, g.lowest = first.stale | second.stale, min(first.lowest, second.lowest)
     g.set_flags()
-    pairs = zip(reversed(visit.facts), reversed(now.facts))  # what was decided in each pass, the last first
-    guesses = {a + passes * (b - a) for a, b in pairs if is_int(b - a) and b != a and first.implied(a)}
-    guesses = frozenset(f for f in guesses if replaced(f, name, 0) not in wrong and WRAPPED not in terms(f))
+    guesses = frozenset(start + passes * by for start, by in guessed(visit.facts, now.facts, wrong) if first.implied(start))
     g.facts = first.facts | guesses | {passes}
     g.forget_wrap()
     if not g.implied((1 << 63) - passes):

@@ -9,7 +9,7 @@ import subprocess
 from aarch64 import Aarch64
 from bits import Unproved
 from domain import Domain
-from elf import DEFAULT, GLOBAL, GROUP, HIDDEN, LOADED, LOCAL, SYMBOLS, UNDEFINED, WRITTEN, Comparison, Elf
+from elf import DEFAULT, GLOBAL, GROUP, HIDDEN, LOADED, LOCAL, MARKED, NEEDED, SYMBOLS, UNDEFINED, WRITTEN, Comparison, Elf
 from operands import Pointer
 from program import LIBC, Program
 from regions import Region
@@ -143,7 +143,7 @@ def compare_in_rust(build, text, member, out):
     machine, suffix = BUILDS[build], suffix_of(build)
     run(*machine.compiler, "-Wa,-defsym,in_rust=1", "-c", text, "-o", out + ".rust.o")
     run(*machine.linker, "-shared", "-z", "noexecstack", out + ".rust.o", "-o", out + ".rust.so")
-    refuse_sections(out + ".rust.o")
+    refuse_sections(out + ".rust.o", True)
     exports = {name: name.rpartition(".")[2] + suffix for name in Elf(out + ".rust.o").exports}
     if sorted(exports.values()) != sorted(Elf(member).exports):
         raise Unproved("%s has other exports in a Rust crate" % text)
@@ -244,17 +244,17 @@ def refuse_names_of_windows(path, suffix):
         raise Unproved("defines a name twice")
 
 
-NEEDED = 0xc0008002.to_bytes(4, "little")  # of .note.gnu.property: what the loader asks of a processor
-
-
-def refuse_sections(path):
+def refuse_sections(path, in_rust=False):
     """What an object may have besides code and constants that nothing writes: what runs before or after all calls, a stack that may be run,
-    and a note by which a loader refuses processors."""
-    sections = Elf(path).sections
-    right = lambda s: re.match(r"\.(text|s?rodata|note|eh_frame|s?data|s?bss)\b", s.name) and NEEDED not in s.content
-    wrong = [s.name for s in sections if s.flags & LOADED and not (right(s) and not (s.flags & WRITTEN and s.content))]
-    stacks = [s.name for s in sections if s.name == ".note.GNU-stack" and not s.flags]
-    refuse_other_sections(path, wrong if stacks else [*wrong, "a stack that may be run"])
+    and a note by which a loader refuses processors. One that lacks the note of its marks, if that isn't the crate's."""
+    elf = Elf(path)
+    right = lambda s: re.match(r"\.(text|s?rodata|note|eh_frame|s?data|s?bss)\b", s.name)
+    wrong = [s.name for s in elf.sections if s.flags & LOADED and not (right(s) and not (s.flags & WRITTEN and s.content))]
+    wrong += ["a stack that may be run"] * all(s.name != ".note.GNU-stack" or s.flags for s in elf.sections)
+    kind, value = (None, None) if in_rust else MARKED.get(elf.machine, (None, None))
+    properties = [one for one in elf.properties() if one[0] in (NEEDED, kind)]
+    wrong += ["a note that says something else of marks or processors"] * (properties != [(kind, value)] * bool(kind))
+    refuse_other_sections(path, wrong)
 
 
 def refuse_other_sections(path, names):

@@ -277,8 +277,9 @@ class Machine(Arithmetic, Unknowns, Bytewise, Access):
         cells, other = list(cells), domain is not self.domain
         if self.native:
             self.native.values.renamed(cells, domain)
-        if other:  # what was asked of bytes of the other domain
-            self.equalities = {}
+        if other:  # what is known of bytes of the other domain, by their numbers
+            self.equalities, self.any_of, lost, self.lost = {}, {}, self.lost, set()
+            self.lost |= {convert(b) for b in lost}
             self.set_flags(**{f: value for f, value in self.flags.items() if value in (0, 1)})
             self.general = {r: tuple(self.to_bytes(v, self.word)) if isinstance(v, Verdict) else v for r, v in self.general.items()}
         self.domain = domain

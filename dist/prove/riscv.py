@@ -164,6 +164,10 @@ class Riscv64(Riscv):
     def plus(self, x, y, carry, size):
         return super().plus(self.without_higher(x), self.without_higher(y), carry, size)
 
+    def only_zero(self, differences):
+        """Of the lower half, which the code then takes by itself."""
+        return self.from_bytes(self.to_bytes(super().only_zero(differences[:4]), 4) + [self.any_byte()] * (len(differences) - 4))
+
     def without_higher(self, v):
         """The Number in the lower half of a word: what is added to it is so modulo 2^32."""
         name = self.domain.opaque_of.get(v[0]) if type(v) is tuple else None
