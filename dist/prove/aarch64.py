@@ -30,6 +30,7 @@ class Aarch64(Machine):
     kept, kept_vectors = X[18:30] + ["sp"], dict.fromkeys(range(8, 16), 8)  # x18 is the system's on some
     scratch = X[:18]
     red_zone, mark = 0, r"hint\s#0x22"
+    jumps = r"b(?:\.\w+)?|cbn?z|tbn?z"
     conditional, padding = r"b\.|cbn?z|tbn?z|adcs?\s|sbcs?\s|csinc\s.*, c[cs]\b", "nop|udf"
 
     def enter(self, arguments):

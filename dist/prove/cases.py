@@ -12,10 +12,10 @@ from x86_64 import X86_64
 
 # A statement (a method of KeyedAes, KeyedGcm or KeyedSiv), what its arguments are, and lists of these. Keys of 16 bytes take `few` with each
 # build; `full` with the builds but `_v1` and those for Windows, which are compiled from what these are; `first` with x86_64/aes.s and
-# x86_64/gcm.s alone; and all of them, and `more`, with each build and PROVE=all. Keys of 24 and 32 bytes take `other` with the builds that
-# take `full`: each call once, and the code that loops over round keys; with PROVE=all `few` and `full`, with each build. (Which builds there
-# are, PROVE says too: prove.py.) Without PROVE a row with every length has `short` in the place of `full`, if it says so, and for `_v3` in any
-# case: what code needs besides, so that all of it runs that has to (uncovered.py).
+# x86_64/gcm.s alone. With PROVE=all each build takes all of these, and the builds that take `full` else also take `more`. Keys of 24 and 32
+# bytes take `other` with the builds that take `full`: each call once, and the code that loops over round keys; with PROVE=all with each build,
+# and `few` and `full` with those. (Which builds there are, PROVE says too: prove.py.) Without PROVE a row with every length has `short` in the
+# place of `full`, if it says so, and for `_v3` in any case: what code needs besides, so that all of it runs that has to (uncovered.py).
 Row = collections.namedtuple("Row", "name what few full first more other short", defaults=[(), (), (), (), (), ()])
 ONCE = [()]  # no arguments
 
@@ -47,7 +47,7 @@ AES_ROWS = [
               (2 ** 32 - 20, 40), (2 ** 63 + 2 ** 36, 64)],
         more=[(0, 33, 5)], other=[(0, 33), (3, 33, NO_CARRY, "_to"), (3, 33, NO_CARRY, "_with")]),
     Row("any_cbc_encrypt", "every number of blocks", few=ONCE),
-    Row("any_cbc_decrypt", "64 n + r blocks for every n: r", full=[9], short=[9], more=[0, 1, 40, 63]),
+    Row("any_cbc_decrypt", "64 n + r blocks for every n: r", full=[9], short=[9], more=[0, 63]),
     Row("cbc_encrypt", "the number of blocks", full=[1, 2], other=[1]),
     Row("cbc_decrypt", "the number of blocks", few=[9], full=[0, 1, 3, 4, 8, 17], other=[1]),
     Row("any_wrap", "a key of every number of semiblocks", full=ONCE),
@@ -70,10 +70,10 @@ AES_ROWS = [
           more=[(13, 0, 16, 16), (9, 15, 255, 4, 6), (11, 9, 0, 6, 10), (8, 16, 33, 8, 6), (8, 16, 33, 8, 10)])
       for call, full, first in (("any_ccm_seal", (), [(8, 15, 33, 8), (8, 16, 33, 8, 6), (8, 16, 33, 8, 10)]),
                                 ("any_ccm_open", [(8, 15, 33, 8)], ()))),
-    *(Row(call, "the same", more=[(12, rest, 15 * rest, 12) for rest in range(17)]) for call in ("any_ccm_seal", "any_ccm_open")),
+    *(Row(call, "the same", more=[(12, rest, 15 * rest, 12) for rest in range(0, 17, 4)]) for call in ("any_ccm_seal", "any_ccm_open")),
     *(Row(call, "the lengths of nonce, additional data, text and tag", few=[(13, 8, 33, 8)],
           full=[(7, 0, 1, 4), (12, 14, 16, 16), (8, 15, 17, 6), (13, 33, 0, 14)],
-          more=[(nonce, 20, 40, tag) for nonce in modes.NONCES for tag in modes.CCM_TAGS],
+          more=[(nonce, 20, 40, tag) for tags in (modes.CCM_TAGS, modes.CCM_TAGS[::-1]) for nonce, tag in zip(modes.NONCES, tags)],
           other=[(7, 0, 1, 4)])
       for call in ("ccm_seal", "ccm_open")),
     *ROUNDS]
@@ -201,9 +201,9 @@ def riscv_gcm_rows(library, word):
 def taken(row, program, key_size, level):
     """The arguments with which a build takes a statement."""
     if key_size != 16:
-        return [*row.few, *row.full] if level == "all" else () if program.few else row.other
+        return [*row.few, *row.full] if level == "all" and not program.few else row.other if level == "all" or not program.few else ()
     if level == "all":
-        return dict.fromkeys([*row.few, *row.full, *row.first, *row.more])
+        return dict.fromkeys([*row.few, *row.full, *row.first, *(() if program.few else row.more)])
     is_first = program.machine is X86_64 and program.suffix == "_v2"
     is_short = not level and row.name.startswith("any_") and (row.short or program.suffix == "_v3")
     full = row.short if is_short else row.full
@@ -223,7 +223,10 @@ def statements(keyed, options, part, parts):
             what = name_of(row, values)
             if options.only in what and next(number) % parts == part:
                 yield what, getattr(keyed, row.name)(*values)
+    seen = set()
     for call in keyed.refused():
         refusals[call.name] += 1
-        if options.only in call.name + " refused" and next(number) % parts == part:
+        again = (call.name, call.status) in seen and keyed.key_size != 16  # with such keys one refusal of each call and status is enough
+        seen.add((call.name, call.status))
+        if not again and options.only in call.name + " refused" and next(number) % parts == part:
             yield "%s refused %d" % (call.name, refusals[call.name]), call

@@ -17,7 +17,7 @@ from unknowns import WRAPPED
 # in that; and the general state (see General).
 Visit = namedtuple("Visit", "mark first facts general", defaults=[None, None, None])
 # The unknown for the number of passes; the state; the facts of it that are guessed; by how many blocks a pass moves on; and what it was
-# made of: two Visits, and which guesses were wrong.
+# made of: two Visits, and which guesses were wrong: facts, and registers that were alike after the first passes.
 General = namedtuple("General", "name state guesses blocks made_of wrong")
 
 
@@ -218,7 +218,7 @@ def general_state(known, key, visit, now, wrong=frozenset()):
     g.forget_differences()
     g.done = generally(first.done, second.done, passes, g.most)
     for r, v in first.general.items():
-        general = generally(v, second.general[r], passes, g.most)
+        general = None if r in wrong else generally(v, second.general[r], passes, g.most)
         g.general[r] = tuple(g.any_byte() for _ in range(g.word)) if general is None else general
     g.vectors = [general_bytes(g, v, w, passes) for v, w in zip(first.vectors, second.vectors)]
     changed = [(v, w) for r, v in first.general.items() if is_number(v, w := second.general[r]) and is_int(w - v) and v != w]
@@ -251,15 +251,23 @@ def came_back(m, general):
     """After a pass from a general state: whether it is the same state with one more pass."""
     m.settle()
     m, one_more = moved_on(m, general.blocks), unknown(general.name) + 1
-    for guess in general.guesses:
-        if not m.implied(replaced(guess, general.name, one_more)):
-            raise Wrong(general, replaced(guess, general.name, 0))
+    wrong = {replaced(guess, general.name, 0) for guess in general.guesses if not m.implied(replaced(guess, general.name, one_more))}
+    wrong = wrong or {r for r in differences(m, general, one_more) if r in m.general}
+    if wrong:
+        raise Wrong(general, wrong)
     is_instance(m, general, one_more)
     raise Leads([])
 
 
 def is_instance(m, general, passes):
     """Whether a machine is in the general state, with this number of passes: then what is proved from there holds for it."""
+    wrong = differences(m, general, passes)
+    if wrong:
+        raise Unproved("a pass of a loop doesn't lead to the same state: " + ", ".join(wrong))
+
+
+def differences(m, general, passes):
+    """In what a machine isn't in that state."""
     want, any_ = general.state.copied(), m.domain.opaque(LOST)
     want.replace_unknown(general.name, passes)
 
@@ -276,9 +284,7 @@ def is_instance(m, general, passes):
     wrong += ["a fact"] * (not all(m.implied(f) for f in want.facts)) + ["a flag"] * any(f is not None for f in want.flags.values())
     wrong += ["what may be overwritten"] * (not m.stale <= want.stale) + ["the lowest place"] * (m.lowest < want.lowest)
     wrong += ["origins"] * (not m.origins.items() <= want.origins.items()) + ["answers"] * (not want.answers.items() <= m.answers.items())
-    wrong += ["what was asked of secrets"] * (m.asked_of_secrets() != want.asked_of_secrets())
-    if wrong:
-        raise Unproved("a pass of a loop doesn't lead to the same state: " + ", ".join(wrong))
+    return wrong + ["what was asked of secrets"] * (m.asked_of_secrets() != want.asked_of_secrets())
 
 
 def check_ends(ends, call):

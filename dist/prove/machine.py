@@ -23,6 +23,7 @@ Machine, in a file of its own (x86_64.py, aarch64.py, riscv.py), that says:
     red_zone               bytes below the stack pointer that a function may use
     stack_step             what the stack pointer has to be a multiple of where it is the base of an access
     mark                   how a line of objdump begins where an indirect call may arrive, if a processor looks for that
+    jumps                  how a line of objdump begins that is a jump to an address, and no call
     conditional, padding        how a line of objdump begins that is a conditional jump or adds a carry, or fills up space between others
     decode(text, following)     a line of objdump as an Instruction; `following` is the next address
     leave()                     after libc's function: goes on at the return address

@@ -30,7 +30,7 @@ class X86_64(Machine):
     kept = "rbx rsp rbp r12 r13 r14 r15".split()
     scratch = "rcx rdx rsi rdi r8 r9 r10 r11".split()
     red_zone, mark = 128, "endbr64"
-    conditional, padding = "j(?!mp)|adc|sbb", r"(data16 |cs )*nop|xchg +ax,ax"
+    jumps, conditional, padding = r"j\w+", "j(?!mp)|adc|sbb", r"(data16 |cs )*nop|xchg +ax,ax"
 
     def leave(self):
         self.go_to(popped(self))
