@@ -65,8 +65,8 @@ def is_windows(build):
 
 
 def takes_few(build):
-    """Whether it is proved at a few lengths, as its text is compiled from what others are (prove.py)."""
-    return suffix_of(build) == "_v1" or is_windows(build)
+    """Whether it is proved at a few lengths, but with PROVE=all: its text is compiled from what others are (cases.py)."""
+    return suffix_of(build) == "_v1" or is_windows(build) or issubclass(BUILDS[build], Riscv)
 
 
 # What the Makefile builds.

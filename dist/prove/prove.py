@@ -32,8 +32,7 @@ def say_what_ran(tasks, options):
     for text, own in texts.items():
         program = Program(own[0].path, own[0].machine, suffix_of(own[0].build))
         found = uncovered.of_text(program, *(set().union(*some) for some in zip(*((task.ran, task.went) for task in own))))
-        # Of the builds that take few lengths all cases run with PROVE=all. Of RISC-V the list of uncovered.py says nothing.
-        judged = not own[0].machine.relaxed and (options.level == "all" or not takes_few(own[0].build))
+        judged = options.level == "all" or not takes_few(own[0].build)  # of the builds that take few lengths all cases run with PROVE=all
         print("%s.s: %s%s" % (text, uncovered.summary(program, found), "" if judged else "; not judged here"))
         if options.lines:
             for name, one in found.items():
@@ -53,8 +52,7 @@ def without_case(text, program, tasks):
         if size == 24:  # AES-GCM-SIV has no such keys
             exports = {name for name in exports if not name.startswith("fotsgure_gcm_siv_")}
         without = exports - {"fotsgure_" + call for task in own for call in task.calls}
-        without = {name for name in without if (text, name) not in uncovered.WITHOUT_CASE}
-        if without and (size == 16 or not own[0].machine.relaxed):  # RISC-V takes few calls with others
+        if without:
             yield "no case of %s with keys of %d bytes" % (", ".join(sorted(without)), size)
 
 

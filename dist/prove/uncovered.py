@@ -21,10 +21,6 @@ UNCOVERED = [
     (".*/aes.*", r"key_wrap\.\w+\.\w+", 63, 4, "There are loops for copies that overlap, which the header excludes: only a few semiblocks "
      "are copied so."),
 ]
-# Exports without a case but refusals, and why: (a text, an export).
-WITHOUT_CASE = {
-    ("riscv64/aes_narrow", "fotsgure_aes_unwrap_padded"): "It judges the length and the padding by numbers of 64 bits, which aren't covered.",
-}
 
 
 def plain(name):
