@@ -174,7 +174,7 @@ def rows_of(library, machine):
 
 def left_out(library, word, name, values):
     if name.startswith("any_") and library != "aes":
-        return True
+        return word == 4 or library == "siv" or name not in ("any_seal", "any_open", "any_seal_next", "any_begin") or len(values) > 3
     if word == 4 and library == "aes":
         return re.search("any_.*(keystream|ccm)", name) or "_to" in values and name == "any_blocks" or name == "add_keystream" and values[0] >= 2 ** 36
     any_j_0 = any(type(v) is tuple and None in v for v in values)
