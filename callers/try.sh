@@ -18,8 +18,14 @@ try() { # WHAT COMMAND ..
         tail -n 12 "$work/log"
     fi
 }
-has() { command -v "$1" > /dev/null || { echo "skipped: $2 ($1 is not installed)"; return 1; }; } # PROGRAM WHAT
-try_by() { ! has "$1" "$2" || try "${@:2}"; } # PROGRAM WHAT COMMAND ..
+# Whether programs or a header are there. What needs them is named if not, with the packages of Debian that have them.
+has() { # PROGRAMS WHAT [PACKAGES]
+    local program
+    for program in $1; do command -v "$program" > /dev/null || skipped "$2" "$program" "${3:-}" || return; done
+}
+has_header() { echo "#include <$2>" | $1 -E - > /dev/null 2>&1 || skipped "$3" "$2" "${4:-}"; } # COMPILER HEADER WHAT [PACKAGES]
+skipped() { echo "skipped: $1 ($2 is not installed${3:+: apt-get install $3})" | tee -a "$work/parts" && return 1; }
+try_by() { ! has "$1" "$2" || try "${@:2}"; } # PROGRAMS WHAT COMMAND ..
 end() {
     echo "$passed passed, $failed failed"
     [[ $failed -eq 0 ]]

@@ -1,6 +1,5 @@
-"""What the measurements share: packages that must be there, the library of exports, verdicts and statuses (README.md)."""
+"""What the measurements share: packages that must be there, verdicts and statuses (README.md)."""
 import argparse
-import hashlib
 import os
 import pathlib
 import platform
@@ -8,11 +7,8 @@ import re
 import shutil
 import subprocess
 import sys
-import tempfile
 import textwrap
 import time
-
-import expand
 
 RIGHT, WRONG, BLIND, STOPPED, PARTIAL = range(5)
 HERE = pathlib.Path(__file__).resolve().parent
@@ -24,12 +20,9 @@ ROOM = pathlib.Path(os.environ.get("AES_EVIDENCE_ROOM") or pathlib.Path.home() /
 ROOM.mkdir(parents=True, exist_ok=True)
 BACKENDS = ("llvm", "rattle")
 BITS = ("128", "192", "256")
-# The library of exports, and the crates that it calls.
-EXPORTS = "evidence_exports"
-CRATES = "aes_planes aes_cipher aes_soft aes aes_permute aes_hybrid aes_rounds aes_ctr aes_kat cbc key_wrap cmac ccm gcm gcm_siv ctr_drbg"
-
 # Valgrind merges two branches to one place (guest-chase), and then reports at both what the first one tests.
-MEMCHECK = "valgrind --tool=memcheck --vex-guest-chase=no --error-limit=no --leak-check=no --expensive-definedness-checks=yes --num-callers=8"
+MEMCHECK = """valgrind --tool=memcheck --vex-guest-chase=no --error-limit=no --leak-check=no --expensive-definedness-checks=yes
+    --num-callers=8"""
 
 
 class Found:
@@ -68,46 +61,6 @@ def run(words, what, **how):
     return done.stdout
 
 
-def sources():
-    """A sum of all that decides what the library of exports is."""
-    total = hashlib.sha256(run(["rt", "version"], "rt version").encode())
-    found = (it for crate in CRATES.split() for part in ("src", "specs", "proofs") for it in (TOP / "crates" / crate / part).rglob("*"))
-    for it in (*sorted(it for it in found if it.is_file()), TOP / "crates.txt", *expand.sources()):
-        total.update(str(it.relative_to(TOP)).encode() + it.read_bytes())
-    return total.hexdigest()
-
-
-def add_exports(tree):
-    """Adds the library of exports to the crates of a copy of the repository."""
-    folder = tree / "crates" / EXPORTS / "src"
-    folder.mkdir(parents=True)
-    expand.write(folder)
-    with open(tree / "crates.txt", "a") as it:
-        it.write(f"{EXPORTS} staticlib: {CRATES}\n")
-
-
-def exports_library(compiler):
-    """The archive of the library of exports by one compiler: as it was built before of the same sources, or proved and built now, in a
-    copy of the repository, over the libraries that `rt ci` keeps on this machine, or else those that `rt lib` makes."""
-    need("rt", None)
-    made, total = ROOM / f"lib{EXPORTS}-{compiler}.a", sources()
-    stamp = made.with_suffix(".stamp")
-    if not (made.exists() and stamp.exists() and stamp.read_text() == total):
-        import toolchain
-        say(f"proving and building {EXPORTS} by {compiler}, over what is proved already")
-        start = time.time()
-        with tempfile.TemporaryDirectory() as room:
-            crates = toolchain.workspace(room, add_exports)
-            crate = next(it for it in crates if it.name == EXPORTS)
-            toolchain.given(crates, [crate])
-            flags = ["--backend", compiler, "--toolchain", f"{toolchain.KIT}/toolchain", "--incremental", f"{ROOM}/kept"]
-            run(toolchain.build_words(crate, *flags, "-o", f"{made}"), f"{EXPORTS} was not proved or not built", cwd=crate.folder)
-            os.chdir(TOP)
-        stamp.write_text(total)
-        say(f"built in {time.time() - start:.0f} seconds")
-    return made
-
-
 def exported(archive):
     """The names that an archive exports."""
     lines = run(["nm", archive], "nm").splitlines()
@@ -130,7 +83,7 @@ def conditions():
 
 
 def publish(heading, *parts):
-    """Writes a section of docs/MEASUREMENTS.md, by its heading with its marks: paragraphs, each a text, and tables, each a list of lines."""
+    """Writes a section of docs/MEASUREMENTS.md, by its heading with marks: paragraphs, each a text, and tables, each a list of lines."""
     before, *after = re.split(rf"^{re.escape(heading)}\n", MEASUREMENTS.read_text(), flags=re.M)
     if len(after) != 1:
         stop(f"{MEASUREMENTS} has the heading {heading} {len(after)} times")
@@ -222,6 +175,7 @@ def finish(found, options, text):
 
 def end(status, text):
     """The last line, and the status."""
-    said = ("as it should be", "NOT as it should be", "a planted fault was NOT found, so this shows nothing", "", "as it should be, with parts left out")
+    blind = "a planted fault was NOT found, so this shows nothing"
+    said = {RIGHT: "as it should be", WRONG: "NOT as it should be", BLIND: blind, PARTIAL: "as it should be, with parts left out"}
     say(f"VERDICT: {said[status]}: {text}")
     sys.exit(status)

@@ -1,24 +1,10 @@
-"""Reads edits, finds the functions whose bodies they change, in files as `rt fmt` lays them out, and judges what the prover says of one."""
+"""Reads edits, and finds the functions whose bodies they change, in files as `rt fmt` lays them out."""
 import os
 import re
 
 FUNCTION = re.compile(r"^( *)(?:pub(?:\([^)]*\))? )?(const )?(?:unsafe )?(?:extern \"C\" )?fn (\w+)")
 BLOCK = re.compile(r"^( *)(?:pub(?:\([^)]*\))? )?(?:unsafe )?(impl|trait|mod)\b")
 USE = re.compile(r"(?:(?:pub |ghost )?use [^;]*; ?)+$")
-# How the gate says that it found nothing but missing names, and what the prover says of one.
-NAME_ALONE = "only because a proof file names what the edit took away"
-# It writes 'record `R`', and on the next line, which the log doesn't have, that R has no such field.
-MISSING = re.compile(r"has no field|is not in scope|has no `|is no name|was not admitted|error: `[^`]*`: record `")
-NOT_COVERED = re.compile(r"does not cover|is not made yet|has no proof")
-# The goal that a slice ends within what it is a slice of, whose line may also say that `search` found no proof; a law whose
-# proof is itself, or a definition that is.
-BOUND = re.compile(r"\(`slice_bounds-[^`]*`\)")
-CYCLE = re.compile(r"import cycle|expected a measure")
-# A goal that is left open at a place of the code, a law that doesn't hold of its members, and a written proof of a goal that
-# no longer fits it.
-PLACE = r"(?:\./)?\S+:\d+:\d+: "
-GOAL = re.compile(rf"^: note: {PLACE}(?:it is not proved that |the law does not hold|no proof of the law was found)")
-PROOF = re.compile(r"^: (?:\./)?(?:proofs|specs|src)/\S+:\d+:\d+: error: `")
 
 
 class Function:
@@ -189,18 +175,3 @@ def changed_by(path, text, old, new):
         return None
     of = [it for it in functions(path, text) if it.start <= line <= it.end and not it.is_const]
     return of[0] if of and (line > of[0].start or column > head >= 0) else None
-
-
-def why_no_value(said):
-    """Why a refusal says nothing of a contract, or None."""
-    if NAME_ALONE in said or PROOF.match(said) and MISSING.search(said):
-        return "is refused for a missing name, and not at a value"
-    if BOUND.search(said):
-        return "is refused at the bound of a slice, and not at a value"
-    if CYCLE.search(said):
-        return "is refused since a law or a definition cites itself, and not at a value"
-    if not said or NOT_COVERED.search(said):
-        return "is refused at no value, as where the prover does not cover the edited function"
-    if not (GOAL.match(said) or PROOF.match(said)):
-        return "is refused in words that are not known here"
-    return None

@@ -14,8 +14,8 @@ import sys
 import tempfile
 import types
 
-sys.dont_write_bytecode = True
-TOP = pathlib.Path(__file__).resolve().parent.parent
+from crates import TOP
+
 # The toolchain's command, which is in the folder bin of the kit, and its module, or None where there is none.
 COMMAND = os.path.realpath(shutil.which("rt") or "/no/rt")
 KIT = pathlib.Path(COMMAND).parent.parent

@@ -75,21 +75,14 @@ STEPS = ["cipher_round", "equiv_inv_cipher_round", "mix_columns", "inv_mix_colum
 for par, n, count in (("", 16, 4), ("_par", 128, 2)):
     for way, of in enumerate(STEPS[:count]):
         call(f"ev_hazmat{par}", ("u32", way), ("b", n), ("s", n), label=of)
-        for number, word in enumerate(WORDS):
-            call(f"ev_soft_hazmat{par}", ("u32", number), ("u32", way), ("b", n), ("s", n), label=f"{word} {of}")
 
-# Key schedules with no value around them, the calls that count S-box layers, the backends, key expansion, the ciphers round by round.
-BACKEND = ["encrypt_block", "encrypt_par_blocks", "decrypt_block", "decrypt_par_blocks"]
+# The schedule of planes with no value around it, key expansion, the calls that count S-box layers, the ciphers round by round.
 ROUNDS = ["AesEnc", "Aes enc", "as_encdec enc", "AesDec", "Aes dec", "as_dec", "as_encdec dec"]
 for size, (key, words, count) in SIZES.items():
-    call(f"ev_lanes_{size}", ("s", key), ("o", 16 * count))
-    call(f"ev_inverse_lanes_{size}", ("s", key), ("o", 16 * count))
     call(f"ev_planes_{size}", ("s", key), ("o", 2 * words))
     call(f"ev_expand_{size}", ("s", key), ("o", 16 * count))
     for n in (1, 9):
         call(f"ev_counted_{size}", ("s", key), blocks("b", n), label=str(n))
-    for way, of in enumerate(BACKEND):
-        call(f"ev_backend_{size}", ("s", key), ("u32", way), ("b", 128), label=of)
     for (way, of), (par, by) in itertools.product(enumerate(ROUNDS), enumerate(("blocks", "par"))):
         call(f"ev_rounds_{size}", ("s", 16 * count), ("u32", way), ("u32", par), ("b", 128), label=f"{of} {by}")
 
@@ -123,17 +116,13 @@ for wrap, it in itertools.product(WRAPS, ANSWERS):
 for n in TEXTS:
     call("ev_left_modes_256_stream_ctr_drbg", ("s", 32), bytes_of("o", n), label=str(n), returns=1, wanted=wanted_of(n))
 
-# Bytes that are blocks, and what a mode of operation does with a block.
+# Bytes that are blocks.
 for crate, direction in itertools.product(CRATES, ENDS):
     name = f"ev_{crate}_{direction}_bytes"
     for n in (*SLICES, 64, 65, 66):
         call(name, ("s", 16), bytes_of("b", 16 * n), label=f"{n} blocks", returns=1, wanted=wanted_of(n))
     # Bytes that end inside a block are refused, and nothing is written.
     call(name, ("s", 16), bytes_of("p", 33), label="33 bytes", returns=0, wanted="empty")
-call("ev_block_sum", ("s", 16), ("s", 16), ("o", 16))
-call("ev_block_equal", ("s", 16), ("s", 16), ("o", 1))
-call("ev_block_number", ("s", 16), ("o", 16))
-call("ev_block_halves", ("s", 16), ("o", 16))
 
 # Wipes.
 for (word, width), n in itertools.product((("u16", 2), ("u32", 4), ("u64", 8)), (0, 1, 88, 120)):
@@ -141,9 +130,7 @@ for (word, width), n in itertools.product((("u16", 2), ("u32", 4), ("u64", 8)), 
 # The calls after which the stack is searched.
 TAKEN = {"Block": ("b", 16), "[Block]": ("b", 144, 9), "[u8]": ("b", 16, 16)}
 for size, (key, _, _) in SIZES.items():
-    # It works no block: there is nothing to see but a leak.
-    call(f"ev_left_words_{size}_wide_wiped", ("s", key), ("p", 16), wanted="empty")
-    for of in ("not_wiped", "words_wiped", "wiped_wiped", "wiped_dropped"):
+    for of in ("not_wiped", "words_wiped"):
         call(f"ev_left_words_{size}_{of}", ("s", key), ("b", 16))
     for crate, (of, (_, takes)) in itertools.product(CRATES, LEFT.items()):
         call(f"ev_left_{crate}_{size}_{of}", ("s", key), TAKEN[takes])

@@ -81,11 +81,12 @@ def looked_at(archive, record, found):
     missed, idle = shared.explained(sorted(there | PLANTED), shared.rows_of(REASONS), speaks_of)
     if not (PLANTED.keys() <= new.keys() and PLANTED.keys() <= {*missed}):
         found.blind.append("a jump that nobody looked at")
-    wrong = [f"not in {LIST.name}: {', '.join(key)}: {new[key]} in place of {was.get(key, 0)}" for key in sorted(new.keys() - PLANTED.keys())]
+    wrong = [f"not in {LIST.name}: {', '.join(key)}: {new[key]} in place of {was.get(key, 0)}" for key in sorted(new) if key not in PLANTED]
     wrong += [f"{REASONS.name} doesn't explain: {', '.join(key)}" for key in missed if key not in PLANTED]
     found.wrong += wrong
     functions, gone = {it[0] for it in there}, sum(it not in there for it in was)
-    shared.say(f"jumps: {sum(there.values())} of {len(there)} kinds in {len(functions)} functions; wrong: {len(wrong)}, recorded and gone: {gone}")
+    counts = f"{sum(there.values())} of {len(there)} kinds in {len(functions)} functions"
+    shared.say(f"jumps: {counts}; wrong: {len(wrong)}, recorded and gone: {gone}")
     if idle:
         shared.say(f"lines of {REASONS.name} for nothing: {'; '.join(' '.join(it[:2]) for it in idle)}")
     found.summary.append(f"llvm, {sum(there.values()):,} conditional jumps in {len(functions)} functions, all explained")

@@ -5,12 +5,13 @@ import pathlib
 import re
 
 import expand
+import library
 import shared
 
 HERE = pathlib.Path(__file__).resolve().parent
 TOP = shared.TOP
 # The crates whose functions are given secrets. The program and its engine are another matter: see README.md.
-CRATES = [it for it in shared.CRATES.split() if it != "aes_kat"]
+CRATES = [it for it in library.CRATES if it != "aes_kat"]
 # What may stand before `fn`.
 KIND = r'(?:(?:final|const|unsafe|extern "C") )*'
 

@@ -1,12 +1,9 @@
 """The assembly of dist/ as the measurements need it: without what empties registers, and, for WebAssembly, with calls that report each
 branch and each address."""
 import re
-import sys
 
 import shared
-
-sys.path.append(str(shared.TOP / "tools" / "dist_parts"))
-import registers
+from dist_parts.registers import Registers
 
 # What WebAssembly reads and writes, by the type of what stands above the address, if something does.
 LOADS = re.compile(r"\t\w+\.load(?!\w*_lane)")
@@ -20,10 +17,11 @@ DECLARED = "".join(f"\t.functype\t{it} (i32) -> (i32)\n" for it in ("report_bran
 
 def planted(machine, text):
     """Assembly whose exports leave in registers what its compiler left there, and have names of their own."""
-    lines = "\n".join(registers.emptying(machine.folder, False, machine.ending != "_narrow")) + "\n"
-    if lines not in text:
-        shared.stop(f"the assembly for {machine.folder} doesn't empty registers as {registers.__file__} says")
-    return re.sub(r"\bfotsgure_", "planted_fotsgure_", text.replace(lines, ""))
+    registers = Registers(machine.folder, has_vectors=machine.ending != "_narrow")
+    left = registers.as_compiled(text)
+    if left == text:
+        shared.stop(f"the assembly for {machine.folder} doesn't empty registers as tools/dist_parts/registers.py says")
+    return re.sub(r"\bfotsgure_", "planted_fotsgure_", left)
 
 
 def function_reporting(lines):

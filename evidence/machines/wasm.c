@@ -1,5 +1,5 @@
-/* What assembly for WebAssembly reports its branches and addresses to (assembly.py), and how a call is made: on a stack of its own, with a line
- * after it as the plugin of qemu writes one, behind the word `seen`. This file itself reports nothing. */
+/* What assembly for WebAssembly reports its branches and addresses to (assembly.py), and how a call is made: on a stack of its own, with
+ * a line after it as the plugin of qemu writes one, behind the word `seen`. This file itself reports nothing. */
 #include <stdint.h>
 #include <stdio.h>
 #include <string.h>

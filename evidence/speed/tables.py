@@ -21,8 +21,8 @@ HEAD = ["peer", "how", "kind", "run", "key_bytes", "call", "amount", "ticks", "n
 DIGITS = {"ticks": 1, "nanoseconds": 1, "ratio_to_this_library": 3}
 CONSTANT_TIME, WITH_INSTRUCTIONS = "no AES instructions", "all instructions"
 OURS, FOR_AVX2, BOTH_KEYS = "this library", "for AVX2", "both keys"
-# The tables of docs/MEASUREMENTS.md, by a word of their heading: the columns beside this library, and the rows: what was timed, and over how
-# many blocks its time is told.
+# The tables of docs/MEASUREMENTS.md, by a word of their heading: the columns beside this library, and the rows: what was timed, and over
+# how many blocks its time is told.
 BLOCKS = {"a key, for both directions": (BOTH_KEYS, 1, 1)}
 BLOCKS |= {f"{n:,} block{'s' * (n > 1)} {it}ed": (it, n, 1) for n in (1, 2, 8, 64, 4096) for it in ("encrypt", "decrypt")}
 BLOCKS |= {f"counter mode, {it}": ("counter mode", n, 1) for it, n in (("64 bytes", 64), ("1,500 bytes", 1500), ("1 MiB", 1 << 20))}

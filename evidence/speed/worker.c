@@ -48,7 +48,9 @@ static uint8_t data[16 * MOST] __attribute__((aligned(64))), key[32], iv[16], ad
 
 static int can(int i, const struct what *it) {
     const struct engine *e = &engines[i];
-    return it->call == STREAM ? e->stream != 0 : it->call < GCM_KEY ? e->process != 0 : it->call == SEAL_SIV ? e->seal_siv != 0 : e->seal != 0;
+    if (it->call == STREAM) return e->stream != 0;
+    if (it->call < GCM_KEY) return e->process != 0;
+    return it->call == SEAL_SIV ? e->seal_siv != 0 : e->seal != 0;
 }
 static uint32_t turns_of(const struct what *it) {
     size_t blocks = blocks_of(it);

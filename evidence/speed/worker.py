@@ -13,7 +13,7 @@ COMPILE = ["cc", "-std=c11", "-D_GNU_SOURCE", "-O2", "-Wall", "-Wextra"]
 
 
 def suffixes(options, found):
-    """How the names of the assembly files end that are measured: of the build for every processor, and of that for AVX2, if it isn't left out or missing."""
+    """How the names of the assembly files end that are measured: for every processor, and for AVX2, if that isn't left out or missing."""
     if " avx2 " in pathlib.Path("/proc/cpuinfo").read_text():
         return [""] if "avx2" in options.without else ["", "_v3"]
     found.missing.append("avx2: this processor can't run it")

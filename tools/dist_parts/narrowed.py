@@ -67,8 +67,7 @@ def with_fronts(text, calls):
         if re.search(rf"^define (?!internal).*@{name}\(", text, re.M):
             text = re.sub(rf"@{name}\b", f"@{WIDE}{name}", text)
             text = re.sub(rf"^define (?!internal)(.*@{WIDE}{name}\()", r"define internal \1", text, flags=re.M)
-            words = (re.sub(r"\s+", " ", it).strip() for it in parameters.split(","))
-            fronts.append(front(result, name, [it for it in words if it != "void"]))
+            fronts.append(front(result, name, parameters))
     if left := re.findall(r"^define (?!internal).*?@([\w\":<>]+)\(", text, re.M):
         sys.exit(f"dist: the header doesn't declare {', '.join(left)}")
     return "\n".join([text, *fronts, ""])

@@ -1,11 +1,12 @@
 """Exports that leave nothing in the registers that a call may change, but their result.
 
-A compiler can be told so ("zero-call-used-regs"), but what it then empties is what the function itself uses, not what the functions use that
-it calls, or else the numbers of x87 too; and for RISC-V it does nothing. So the assembly of a library is changed, before each return of an
+A compiler can be told so ("zero-call-used-regs"), but what it then empties is what the function itself uses, not what the functions that
+it calls use, or else the numbers of x87 too; and for RISC-V it does nothing. So the assembly of a library is changed, before each return of an
 export: it zeros each vector register that the ABI doesn't keep for the caller, and the general registers, but for the result and for those
 that belong to the system. Functions that exports jump to do the same, since they return to the caller. On Cortex-M these lines stand behind
 a function, and its returns become jumps to them. A jump takes no more bytes than a return, so every branch of the function still reaches.
 """
+import dataclasses
 import re
 
 GENERAL = {
@@ -16,7 +17,11 @@ GENERAL = {
     "arm": ["r1", "r2", "r3", "r12"],
 }
 GENERAL |= {"thumb": GENERAL["arm"], "riscv32": GENERAL["riscv64"]}
+# How a general register is emptied.
+EACH = {"x86_64": "\txorl\t%{0}, %{0}", "windows_x86_64": "\txorl\t%{0}, %{0}", "aarch64": "\tmov\t{0}, xzr", "riscv64": "\tli\t{0}, 0",
+    "riscv32": "\tli\t{0}, 0", "arm": "\tmov\t{0}, #0", "thumb": "\tmovs\t{0}, #0"}
 LABEL = re.compile(r'("[^"]*"|\w+):')
+EXPORT = re.compile(r"(fotsgure_\w+):")
 # A jump to another function of the library, at the end of one.
 LEAP = re.compile(r'\t(?:jmp|b|tail)\t("[^"]*")')
 # (On 32-bit ARM also by what takes the address from the stack, with registers that are the caller's.)
@@ -25,40 +30,6 @@ RETURN = re.compile(r"\t(?:retq|ret|bx\tlr|pop(?:\.w)?\t\{.*\bpc\}|ldm.*\bpc\})$
 LEFT_TO_LIBC = re.compile(r"\t(?:jmpq\t\*\w|jr\tt1|br\tx16|(?:b|tail)\tmem)")
 # What Windows takes for the end of a function, in which nothing else may stand.
 ENDING = re.compile(r"\t(?:popq\t%|addq\t\$\d+, %rsp)")
-
-
-def vectors(folder, is_wide):
-    """The lines that empty vector registers. One of 128 bits that is written by an instruction of AVX is zero above; the low halves of v8
-    to v15 of ARM are the caller's."""
-    if folder.endswith("x86_64"):
-        count = 6 if folder == "windows_x86_64" else 16
-        each = "\tvpxor\t%xmm{0}, %xmm{0}, %xmm{0}" if is_wide else "\tpxor\t%xmm{0}, %xmm{0}"
-        return [each.format(n) for n in range(count)]
-    if folder == "aarch64":
-        whole = [f"\tmovi\tv{n}.2d, #0000000000000000" for n in (*range(8), *range(16, 32))]
-        return whole + [f"\tfmov\td{n}, d{n}" for n in range(8, 16)]
-    if folder == "riscv64":
-        return ["\tvsetvli\tt0, zero, e8, m8, ta, ma"] + [f"\tvmv.v.i\tv{n}, 0" for n in range(0, 32, 8)]
-    return []
-
-
-# How a general register is emptied. Cortex-M0 moves no number into r12.
-EACH = {"x86_64": "\txorl\t%{0}, %{0}", "windows_x86_64": "\txorl\t%{0}, %{0}", "aarch64": "\tmov\t{0}, xzr", "riscv64": "\tli\t{0}, 0",
-    "riscv32": "\tli\t{0}, 0", "arm": "\tmov\t{0}, #0", "thumb": "\tmovs\t{0}, #0"}
-
-
-def emptying(folder, is_wide, has_vectors=True):
-    """The lines that empty registers."""
-    general = [EACH[folder].format(it) for it in GENERAL[folder]]
-    if folder == "thumb":
-        general[-1] = "\tmov\tr12, r1"
-    return [*(vectors(folder, is_wide) if has_vectors else []), *general]
-
-
-def at_return(line, folder, is_wide, has_vectors):
-    """The lines before a return. On 32-bit ARM one that takes the address from the stack leaves in lr what was computed there."""
-    lines = emptying(folder, is_wide, has_vectors)
-    return [*lines, "\tmov\tlr, r1"] if re.search(r"\bpc\}", line) else lines
 
 
 def functions(lines):
@@ -70,36 +41,79 @@ def functions(lines):
         yield inside, line
 
 
-def emptied(folder, is_wide, text, has_vectors=True):
-    """The assembly of a library whose exports empty registers, those of vectors if it was compiled for them."""
-    lines, exports = text.split("\n"), set(re.findall(r"^(fotsgure_\w+):", text, re.M))
-    ending, more = exports, True
-    while more:
-        more = {found[1] for inside, line in functions(lines) if inside in ending for found in [LEAP.match(line)] if found} - ending
-        ending = ending | more
-    out, seen, behind = [], set(), {}
+def endings(lines):
+    """The functions that return to the caller of an export: the exports, and those that they jump to."""
+    found = {}
     for inside, line in functions(lines):
-        if inside in ending and (RETURN.match(line) or LEAP.match(line)):
-            seen.add(inside)
-        if inside in ending and LEFT_TO_LIBC.match(line):
-            raise SystemExit(f"dist: {inside} ends in a jump to libc")
-        at = len(out)
-        if folder == "thumb" and line.startswith(".Lfunc_end"):
-            for end, label in behind.items():
-                out += [f"{label}:", *at_return(end, folder, is_wide, has_vectors), end]
-            behind = {}
-        elif folder == "thumb" and inside in ending and RETURN.match(line):
-            line = "\tb\t" + behind.setdefault(line, f".Lreturn_{at}")
-        elif inside in ending and RETURN.match(line):
-            while folder == "windows_x86_64" and ENDING.match(out[at - 1]):
-                at -= 1
-            out[at:at] = at_return(line, folder, is_wide, has_vectors)
-        out.append(line)
-    if ending - seen:
-        raise SystemExit(f"dist: no return is seen in {', '.join(sorted(ending - seen))}")
-    return "\n".join(out)
+        if leap := LEAP.match(line):
+            found.setdefault(inside, set()).add(leap[1])
+    ending = more = {it[1] for it in map(EXPORT.match, lines) if it}
+    while more:
+        more = {to for it in more for to in found.get(it, ())} - ending
+        ending = ending | more
+    return ending
 
 
-def as_compiled(folder, is_wide, text):
-    """The assembly as it was."""
-    return text.replace("\n".join(emptying(folder, is_wide)) + "\n", "")
+@dataclasses.dataclass(frozen=True)
+class Registers:
+    """The registers of the machine that an assembly file's folder names; whether its code has instructions of AVX, and whether it was
+    compiled for vectors."""
+
+    folder: str
+    is_wide: bool = False
+    has_vectors: bool = True
+
+    def vectors(self):
+        """The lines that empty vector registers. One of 128 bits that is written by an instruction of AVX is zero above; the low halves of
+        v8 to v15 of ARM are the caller's."""
+        if self.folder.endswith("x86_64"):
+            count = 6 if self.folder == "windows_x86_64" else 16
+            each = "\tvpxor\t%xmm{0}, %xmm{0}, %xmm{0}" if self.is_wide else "\tpxor\t%xmm{0}, %xmm{0}"
+            return [each.format(n) for n in range(count)]
+        if self.folder == "aarch64":
+            whole = [f"\tmovi\tv{n}.2d, #0000000000000000" for n in (*range(8), *range(16, 32))]
+            return whole + [f"\tfmov\td{n}, d{n}" for n in range(8, 16)]
+        if self.folder == "riscv64":
+            return ["\tvsetvli\tt0, zero, e8, m8, ta, ma"] + [f"\tvmv.v.i\tv{n}, 0" for n in range(0, 32, 8)]
+        return []
+
+    def emptying(self):
+        """The lines that empty registers. Cortex-M0 moves no number into r12."""
+        general = [EACH[self.folder].format(it) for it in GENERAL[self.folder]]
+        if self.folder == "thumb":
+            general[-1] = "\tmov\tr12, r1"
+        return [*(self.vectors() if self.has_vectors else []), *general]
+
+    def at_return(self, line):
+        """The lines before a return. On 32-bit ARM one that takes the address from the stack leaves in lr what was computed there."""
+        return [*self.emptying(), *(["\tmov\tlr, r1"] if re.search(r"\bpc\}", line) else [])]
+
+    def emptied(self, text):
+        """The assembly of a library whose exports empty registers."""
+        lines = text.split("\n")
+        ending, seen, out, behind = endings(lines), set(), [], {}
+        for inside, line in functions(lines):
+            at = len(out)
+            if inside in ending and LEFT_TO_LIBC.match(line):
+                raise SystemExit(f"dist: {inside} ends in a jump to libc")
+            if inside in ending and (RETURN.match(line) or LEAP.match(line)):
+                seen.add(inside)
+            if self.folder == "thumb" and line.startswith(".Lfunc_end"):
+                for end, label in behind.items():
+                    out += [f"{label}:", *self.at_return(end), end]
+                behind = {}
+            elif inside in ending and RETURN.match(line):
+                if self.folder == "thumb":
+                    line = "\tb\t" + behind.setdefault(line, f".Lreturn_{at}")
+                else:
+                    while self.folder == "windows_x86_64" and ENDING.match(out[at - 1]):
+                        at -= 1
+                    out[at:at] = self.at_return(line)
+            out.append(line)
+        if ending - seen:
+            raise SystemExit(f"dist: no return is seen in {', '.join(sorted(ending - seen))}")
+        return "\n".join(out)
+
+    def as_compiled(self, text):
+        """The assembly as it was."""
+        return text.replace("\n".join(self.emptying()) + "\n", "")

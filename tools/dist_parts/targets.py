@@ -18,7 +18,7 @@ import pathlib
 import re
 import sys
 
-import narrowed
+from . import narrowed
 
 # The options that the kit's compiler gives to clang, but for those of a target.
 OPTIONS = """-mllvm -no-trap-after-noreturn -mllvm -trap-unreachable -mllvm -no-x86-call-frame-opt -mllvm -disable-machine-licm
@@ -47,61 +47,12 @@ define internal <16 x i8> @byte_shuffle(<16 x i8> %table, <16 x i8> %places) alw
   %result = call <16 x i8> @llvm.wasm.swizzle(<16 x i8> %table, <16 x i8> %places)
   ret <16 x i8> %result
 }"""
-
+# The two registers that memset may save, emptied.
 EMPTIES = 'call void asm sideeffect "xorl %edi, %edi; xorl %esi, %esi", "~{rdi},~{rsi},~{flags}"()'
-
-
-@dataclasses.dataclass(frozen=True)
-class Target:
-    """The folder of its assembly, what clang calls it, its options, what stands behind a library's name in the name of a file, how many bits
-    a pointer has, the definition of the byte shuffle, the suffix of its exports where they are chosen from, and whether its code is to be small."""
-
-    folder: str
-    triple: str
-    options: tuple
-    ending: str = ""
-    bits: int = 64
-    shuffle: str = ""
-    suffix: str = ""
-    is_small: bool = False
-
-    @property
-    def is_wasm(self):
-        return self.triple.startswith("wasm")
-
-    def small(self):
-        """The same target, with small code."""
-        options = (*self.options, "-O2", "-Xclang", "-fmerge-functions")
-        return dataclasses.replace(self, options=options, ending=f"{self.ending}_small", is_small=True)
-
-
-SECTIONS = ("-ffunction-sections", "-fdata-sections")
-THUMB = ("-mfloat-abi=soft", *SECTIONS)
-CORTEX_M0 = Target("thumb", "thumbv6m-unknown-none-gnueabi", ("-mcpu=cortex-m0", *THUMB), "_v6m", bits=32)
-CORTEX_M3 = Target("thumb", "thumbv7m-unknown-none-gnueabi", ("-mcpu=cortex-m3", *THUMB), "_v7m", bits=32)
-RISCV32 = Target("riscv32", "riscv32-unknown-elf", ("-march=rv32imc", "-mabi=ilp32", "-mcmodel=medany", *SECTIONS), bits=32)
-ARM = Target("arm", "armv7-unknown-linux-gnueabi", ("-march=armv7-a", "-mfloat-abi=soft", "-fPIC", *SECTIONS), bits=32)
-# Which are made of the module of a build, by its suffix. Those of _v1 and _w64 take no byte shuffle. _w64 keeps a key in words of 64 bits,
-# and so in a larger struct, which only 64-bit RISC-V has.
-MADE_OF = {
-    "_v2": (
-        Target("riscv64", "riscv64-unknown-linux-gnu", ("-march=rv64gcv", "-mabi=lp64d", "-fPIC", *SECTIONS), shuffle=BY_VRGATHER),
-        Target("windows_x86_64", "x86_64-pc-windows-gnu", ("-march=x86-64-v2",), suffix="_v2"),
-        Target("wasm32", "wasm32-unknown-unknown", ("-Os", "-mcpu=mvp", "-msimd128", "-mbulk-memory", *SECTIONS), bits=32, shuffle=BY_SWIZZLE),
-    ),
-    "_v3": (Target("windows_x86_64", "x86_64-pc-windows-gnu", ("-march=x86-64-v3",), "_v3", suffix="_v3"),),
-    "_v1": (
-        Target("windows_x86_64", "x86_64-pc-windows-gnu", ("-march=x86-64",), "_v1", suffix="_v1"),
-        ARM,
-        *(it for target in (CORTEX_M0, CORTEX_M3, RISCV32) for it in (target, target.small())),
-        Target("wasm32", "wasm32-unknown-unknown", ("-Os", "-mcpu=mvp", *SECTIONS), "_narrow", bits=32),
-    ),
-    "_w64": (Target("riscv64", "riscv64-unknown-linux-gnu", ("-march=rv64gc", "-mabi=lp64d", "-fPIC", *SECTIONS), "_narrow"),),
-    # Of GCM, in the place of what is made of _v1: on these processors the lower half of a product of two words always takes the same time.
-    "_products": (ARM, CORTEX_M3, CORTEX_M3.small()),
-}
-
-
+# What GNU's assembler doesn't know: the versions of RISC-V's extensions, and the second version of Windows' tables. (variant_cc is for
+# calls by way of the loader, and no export has it.) And what an assembly file doesn't say of itself: for which processor of ARM it
+# is, and how its callers pass floating-point numbers. The assembler is told the one, and no call has the other.
+LEFT_OUT = re.compile(r"^\t\.(?:attribute|variant_cc|seh_startepilogue|seh_endepilogue|eabi_attribute|cpu|fpu|arch)\b.*\n", re.M)
 # Functions that small code has once each, where the quick code has them in each caller: the circuits of the S-boxes, the column mixing of
 # each round of a period, the exchanges of bits, the steps of the key expansion, and those of counter mode.
 ONCE = r"""aes_planes::soft::(?:sbox::(?:inv_)?sub_bytes(?:_nots)?|mix_columns::(?:inv_)?mix_columns_[0-3]|word::transpose::transpose
@@ -145,30 +96,56 @@ def for_windows(text):
     return re.sub(r'^(define [^@]*@"[\w:]*::wipe_stack\b.*\nstart:\n)', rf"\1  {EMPTIES}\n", text, flags=re.M)
 
 
-def changed_for(target, text, calls):
-    """A module as it is compiled for a target; `calls` are those that the header declares."""
-    if target.suffix:
-        return for_windows(text)
-    text = with_shuffle(re.sub(r' "(?:target-cpu|target-features|tune-cpu)"="[^"]*"', "", text), target.shuffle)
-    if target.bits == 64:
-        return with_signs(text)
-    text = with_each_once(text) if target.is_small else text
-    text = narrowed.for_32(re.sub(r' "(?:probe-stack|stack-probe-size)"="[^"]*"', "", text), calls)
-    return re.sub(r'@"([^"]+)"', lambda name: "@" + re.sub(r"\W", "_", name[1]), text) if target.is_wasm else text
+@dataclasses.dataclass(frozen=True)
+class Target:
+    """The folder of its assembly, what clang calls it, its options, what stands behind a library's name in its assembly, the definition of
+    the byte shuffle, and whether its code is to be small."""
+
+    folder: str
+    triple: str
+    options: tuple
+    suffix: str = ""
+    shuffle: str = ""
+    is_small: bool = False
+
+    def small(self):
+        """The same target, with small code."""
+        options = (*self.options, "-O2", "-Xclang", "-fmerge-functions")
+        return dataclasses.replace(self, options=options, suffix=f"{self.suffix}_small", is_small=True)
+
+    def changed(self, text, calls):
+        """A module as it is compiled for the target; `calls` are those that the header declares."""
+        if self.folder == "windows_x86_64":
+            return for_windows(text)
+        text = with_shuffle(re.sub(r' "(?:target-cpu|target-features|tune-cpu)"="[^"]*"', "", text), self.shuffle)
+        if self.folder == "riscv64":
+            return with_signs(text)
+        text = with_each_once(text) if self.is_small else text
+        text = narrowed.for_32(re.sub(r' "(?:probe-stack|stack-probe-size)"="[^"]*"', "", text), calls)
+        return re.sub(r'@"([^"]+)"', lambda name: "@" + re.sub(r"\W", "_", name[1]), text) if self.folder == "wasm32" else text
+
+    def compiled(self, clang, module, calls):
+        """The assembly for the target, of a module in the file of that name; `clang` runs the kit's."""
+        own = ("-Wno-override-module", "-x", "ir", "-S")
+        changed, to = (pathlib.Path(f"{module}.{self.folder}{self.suffix}{it}") for it in (".ll", ".s"))
+        clang("--target=x86_64-unknown-linux-gnu", *own, "-emit-llvm", "-Xclang", "-disable-llvm-passes", module, "-o", changed)
+        text = re.sub(r"^target (?:datalayout|triple) = .*\n", "", changed.read_text(), flags=re.M)
+        changed.write_text(self.changed(text, calls))
+        clang(f"--target={self.triple}", *own, *OPTIONS, *self.options, changed, "-o", to)
+        return LEFT_OUT.sub("", to.read_text())
 
 
-# What GNU's assembler doesn't know: the versions of RISC-V's extensions, and the second version of Windows' tables. (variant_cc is for
-# calls by way of the loader, and no export has it.) And what an assembly file doesn't say of itself: for which processor of ARM it
-# is, and how its callers pass floating-point numbers. The assembler is told the one, and no call has the other.
-LEFT_OUT = re.compile(r"^\t\.(?:attribute|variant_cc|seh_startepilogue|seh_endepilogue|eabi_attribute|cpu|fpu|arch)\b.*\n", re.M)
-
-
-def made(clang, module, target, calls):
-    """The assembly for a target, of a module in the file of that name; `clang` runs the kit's."""
-    own = ("-Wno-override-module", "-x", "ir", "-S")
-    changed, to = (pathlib.Path(f"{module}.{target.folder}{target.ending}{it}") for it in (".ll", ".s"))
-    clang("--target=x86_64-unknown-linux-gnu", *own, "-emit-llvm", "-Xclang", "-disable-llvm-passes", module, "-o", changed)
-    text = re.sub(r"^target (?:datalayout|triple) = .*\n", "", changed.read_text(), flags=re.M)
-    changed.write_text(changed_for(target, text, calls))
-    clang(f"--target={target.triple}", *own, *OPTIONS, *target.options, changed, "-o", to)
-    return LEFT_OUT.sub("", to.read_text())
+SECTIONS = ("-ffunction-sections", "-fdata-sections")
+ON_RISCV64, ON_WINDOWS = ("riscv64", "riscv64-unknown-linux-gnu"), ("windows_x86_64", "x86_64-pc-windows-gnu")
+ON_WASM, THUMB = ("wasm32", "wasm32-unknown-unknown"), ("-mfloat-abi=soft", *SECTIONS)
+RISCV64 = Target(*ON_RISCV64, ("-march=rv64gcv", "-mabi=lp64d", "-fPIC", *SECTIONS), shuffle=BY_VRGATHER)
+RISCV64_NARROW = Target(*ON_RISCV64, ("-march=rv64gc", "-mabi=lp64d", "-fPIC", *SECTIONS), "_narrow")
+RISCV32 = Target("riscv32", "riscv32-unknown-elf", ("-march=rv32imc", "-mabi=ilp32", "-mcmodel=medany", *SECTIONS))
+ARM = Target("arm", "armv7-unknown-linux-gnueabi", ("-march=armv7-a", "-mfloat-abi=soft", "-fPIC", *SECTIONS))
+CORTEX_M0 = Target("thumb", "thumbv6m-unknown-none-gnueabi", ("-mcpu=cortex-m0", *THUMB), "_v6m")
+CORTEX_M3 = Target("thumb", "thumbv7m-unknown-none-gnueabi", ("-mcpu=cortex-m3", *THUMB), "_v7m")
+WINDOWS_V1 = Target(*ON_WINDOWS, ("-march=x86-64",), "_v1")
+WINDOWS_V2 = Target(*ON_WINDOWS, ("-march=x86-64-v2",), "_v2")
+WINDOWS_V3 = Target(*ON_WINDOWS, ("-march=x86-64-v3",), "_v3")
+WASM32 = Target(*ON_WASM, ("-Os", "-mcpu=mvp", "-msimd128", "-mbulk-memory", *SECTIONS), shuffle=BY_SWIZZLE)
+WASM32_NARROW = Target(*ON_WASM, ("-Os", "-mcpu=mvp", *SECTIONS), "_narrow")

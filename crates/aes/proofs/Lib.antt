@@ -1,3 +1,3 @@
--- The files of lemmas.
+-- The files of lemmas: the key expansion on blocks, and rounds whose mixing is undone.
 pub mod BlockExpansion
 pub mod SingleRounds

@@ -1,4 +1,4 @@
-//! A caller of cipher block chaining, over any block cipher.
+//! A chain of blocks that comes back, over any block cipher.
 
 ghost use Rattle.std.specs.Prelude.{◌≡◌};
 

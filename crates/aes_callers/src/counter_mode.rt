@@ -1,4 +1,4 @@
-//! Callers of counter mode.
+//! Messages in counter mode: there and back, in two parts, and from any position.
 
 ghost use Rattle.std.specs.Prelude.{◌≡◌, ◌↔◌, ◌+◌, ◌-◌, ◌^◌, ◌<◌, ◌++◌, length, IsErr, IfOk, OnOk};
 ghost use Rattle.std.specs.Prelude.{OnErr};

@@ -1,4 +1,4 @@
-//! Tests of `aes_callers`.
+//! Tests of the proved callers: blocks, closures, chains and counter mode.
 #![tactic(auto)]
 
 #[cfg(test)]

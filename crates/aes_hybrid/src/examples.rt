@@ -10,7 +10,9 @@ ghost use Rattle.aes_planes.specs.BigEndian.{bytes};
 ghost use Rattle.aes_planes.specs.Fips197 as fips;
 ghost use Rattle.aes_permute.specs.Keys.{encrypting, key_in_room, stored_keys, AreInverse};
 ghost use Rattle.aes_permute.specs.Keys.{AreZeroAfter};
-ghost use Rattle.aes_hybrid.specs.KeptKey.{IsKeptBothWays};
+ghost use Rattle.aes_hybrid.specs.KeptKey.{IsKeptBothWays, IsZeroAfter, IsZeroAfterBoth};
+ghost use Rattle.aes_hybrid.specs.declared.kept_key.KeptKey.{KeptKey};
+ghost use Rattle.aes_hybrid.specs.declared.kept_key.KeptBothWays.{KeptBothWays};
 
 use aes_planes::examples::key_expansion_128;
 
@@ -77,3 +79,13 @@ pub fn struct_example()
 {
     stored_example();
 }
+
+/// Of a struct that has nothing of another key behind its round keys, that room is zero: of a struct
+/// for both directions, in either one.
+pub fn zeros_after()
+    ensures alone { (kept : KeptKey) → IsZeroAfter kept → AreZeroAfter kept.length kept.round_keys }
+    ensures encrypting { (kept : KeptBothWays) → IsZeroAfterBoth kept
+        → AreZeroAfter kept.key.length kept.key.round_keys }
+    ensures decrypting { (kept : KeptBothWays) → IsZeroAfterBoth kept
+        → AreZeroAfter kept.key.length kept.decrypting }
+{}

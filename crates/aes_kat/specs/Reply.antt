@@ -1,4 +1,4 @@
--- The reply to one line.
+-- The reply to a line: what its command makes of its words, or the first fault.
 use Rattle.std.specs.Prelude.{ℕ, List, [], ◌∷◌, Bool, true, false, codes, Option, Some, None, Result, Ok, Err, length}
 use Rattle.std.specs.Prelude.{map, ◌*◌, ◌/◌, ◌%◌, ◌==◌, ◌&&◌, ◌||◌, nat_le, if◌then◌else◌}
 use Rattle.std.specs.Str.{bytes_eq}

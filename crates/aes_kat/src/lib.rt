@@ -13,6 +13,6 @@ mod replies;
 mod runs;
 mod split;
 
-pub use laws::parts_are_unique;
+pub use laws::{parts_are_unique, run_parts};
 pub use replies::reply;
 pub use runs::{Failed, run, run_in, status};

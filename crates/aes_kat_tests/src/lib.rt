@@ -1,4 +1,4 @@
-//! Tests of `aes_kat`, the engine of the program.
+//! Tests of the engine of the program: lines that are answered or at fault, failures, and long runs.
 #![tactic(auto)]
 
 #[cfg(test)]

@@ -5,10 +5,12 @@
 //! model in Python, from the standard and the layout: bit 8 r + 2 c + k of word 8 i + p is bit p of
 //! the byte in row r and column c of what is stored for round key i, for both k.
 
-ghost use Rattle.std.specs.Prelude.{◌≡◌, ◌∷◌, [], map};
+ghost use Rattle.std.specs.Prelude.{◌≡◌, ◌∷◌, [], map, replicate, slice_set};
 ghost use Rattle.aes_planes.specs.BigEndian.{bytes};
 ghost use Rattle.aes_planes.specs.Words.{word_bits};
 ghost use Rattle.aes_soft.specs.Stored.{full, words_for, IsSchedule};
+ghost use Rattle.aes_narrow.specs.KeptKey.{IsZeroAfter};
+ghost use Rattle.aes_narrow.specs.declared.kept_key.KeptKey.{KeptKey};
 
 use aes_planes::examples::key_expansion_128;
 
@@ -39,4 +41,30 @@ pub fn stored_example()
 /// keys.
 pub fn count_examples()
     ensures { map words_for (16 ∷ 24 ∷ 32 ∷ []) ≡ 88 ∷ 104 ∷ 120 ∷ [] }
+{}
+
+/// A bit that is left in a word after the round keys is found: in the first of these words and in the
+/// last. Keys of 32 bytes leave no word over.
+pub fn left_behind_examples()
+    ensures first_after_16 { ¬ IsZeroAfter (record {
+      length = 16;
+      round_keys = slice_set (replicate 120 0) 88 1;
+    }) }
+    ensures last_after_16 { ¬ IsZeroAfter (record {
+      length = 16;
+      round_keys = slice_set (replicate 120 0) 119 1;
+    }) }
+    ensures first_after_24 { ¬ IsZeroAfter (record {
+      length = 24;
+      round_keys = slice_set (replicate 120 0) 104 1;
+    }) }
+    ensures last_after_24 { ¬ IsZeroAfter (record {
+      length = 24;
+      round_keys = slice_set (replicate 120 0) 119 1;
+    }) }
+    ensures none_after_24 { IsZeroAfter (record {
+      length = 24;
+      round_keys = slice_set (replicate 120 0) 103 1;
+    }) }
+    ensures none_after_32 { IsZeroAfter (record { length = 32; round_keys = replicate 120 1 }) }
 {}

@@ -1,2 +1,2 @@
--- The files of lemmas.
+-- The file of lemmas: the round keys of EqInvCipher, on lists of blocks.
 pub mod InvertedKeys

@@ -1,4 +1,4 @@
-//! AES round by round.
+//! AES under any list of round keys that a caller gives, on the single rounds of `aes`.
 #![tactic(auto)]
 
 pub mod rounds;

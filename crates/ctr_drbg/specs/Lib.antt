@@ -1,2 +1,2 @@
--- The files of definitions.
+-- The file of definitions: the generator as the standard has it.
 pub mod CtrDrbg

@@ -1,4 +1,4 @@
-//! The errors of the generator.
+//! Why a seed or a request is refused.
 
 /// Why a generator isn't instantiated or reseeded.
 #[derive(Debug, Clone, Copy, PartialEq, Eq)]

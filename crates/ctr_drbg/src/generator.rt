@@ -1,4 +1,4 @@
-//! The generator.
+//! The generator that a caller keeps: made from a seed, reseeded, and asked for random bytes.
 
 ghost use Rattle.std.specs.Prelude.{◌≡◌, ◌≢◌, ◌↔◌, ◌⊎◌, ◌<◌, ◌≤◌, ◌+◌, ◌-◌, ◌^◌, length, take, drop};
 ghost use Rattle.std.specs.Prelude.{replicate, IsErr, IsErrOf, IfOk, OnOk, OnErr};

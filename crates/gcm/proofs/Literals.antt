@@ -1,3 +1,3 @@
--- GCM on literals, and the test cases.
+-- What examples compute with: definitions on literals, and what the test cases share.
 pub mod OnLiterals
 pub mod TestCases

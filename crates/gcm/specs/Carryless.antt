@@ -1,4 +1,4 @@
--- Products of numbers without carries.
+-- Products of numbers without carries, and the holes between bits that keep carries apart.
 use Rattle.std.specs.Prelude.{ℕ, zero, suc, ◌+◌, ◌*◌, ◌/◌, ◌%◌, ◌==◌, if◌then◌else◌}
 use Rattle.std.specs.Int.Bits.{bit_xor}
 

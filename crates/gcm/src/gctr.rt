@@ -1,4 +1,4 @@
-//! GCTR.
+//! Counter mode in which the last 32 bits of the counter wrap (GCTR, 6.5).
 
 ghost use Rattle.std.specs.Prelude.{◌≡◌, ◌+◌, ◌^◌, ◌≤◌, length};
 ghost use Rattle.std.specs.Int.{w128, from_be_bytes};

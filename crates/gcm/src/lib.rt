@@ -31,7 +31,7 @@ pub use field::next_v;
 pub use hash::{hash_string, hash_string_and};
 pub use hash_room::{BorrowedRoom, HashRoom, SubkeyRoom, WordsRoom};
 pub use holes::{WithHoles, product_with_holes};
-pub use laws::{text_twice, turns};
+pub use laws::{decrypted_parts, kept_parts, text_twice, turns};
 pub use message::{Message, Phase};
 pub use mode::{BorrowedGcm, Gcm, LONGEST_HASHED, LONGEST_TEXT, SHALLOW, is_short_tag, prepare};
 pub use multiples::{Multiples, Room, Table, TableRoom, put_multiples, put_one_table};

@@ -1,4 +1,4 @@
-//! Blocks as four words.
+//! A block as four words of 32 bits and back: so room keeps H where a processor multiplies words.
 
 ghost use Rattle.std.specs.Prelude.{◌≡◌};
 ghost use Rattle.gcm.specs.Multiples.{subkey_of_words};

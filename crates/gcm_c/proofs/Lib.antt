@@ -1,2 +1,2 @@
--- The files of lemmas.
+-- The file of lemmas: what holds under a struct's key.
 mod Carried

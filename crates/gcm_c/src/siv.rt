@@ -1,4 +1,4 @@
-//! Messages of AES-GCM-SIV.
+//! AES-GCM-SIV in place, and the keys of a message in room that is wiped.
 
 ghost use Rattle.std.specs.Prelude.{◌≡◌, ◌≢◌, ◌↔◌, ◌^◌, ◌<◌, ◌≤◌, ◌++◌, [], length, slice_index_or};
 ghost use Rattle.std.specs.Prelude.{IsTrue, false};

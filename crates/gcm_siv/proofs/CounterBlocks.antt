@@ -1,4 +1,4 @@
--- Counter blocks, one after the other.
+-- The first 32 bits of a counter block are counted on, from any block and by any number.
 use Rattle.std.proofs.Common.{◌≡◌, ℕ, ◌+◌, ◌%◌, ◌^◌, ◌<◌, List, [], ◌++◌, length, get_or, set, refl}
 use Rattle.std.proofs.Common.{sym, ap, drop, take, ◌∙◌, arith}
 use Rattle.std.proofs.lemmas.List.Edits.{fill_by_more}

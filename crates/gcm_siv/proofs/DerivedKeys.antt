@@ -1,4 +1,4 @@
--- The keys of a message.
+-- Keys from the first halves of encrypted blocks, four or six, are those that the RFC derives.
 use Rattle.std.proofs.Common.{◌≡◌, ℕ, ◌+◌, ◌/◌, ◌<◌, ◌==◌, if◌then◌else◌, List, [], ◌++◌, length}
 use Rattle.std.proofs.Common.{map, slice_index_or, inl, inr, ap, sym, ◌∙◌, arith, take, drop}
 use Rattle.std.proofs.lemmas.List.{append-nil, get_or-take, take-take}

@@ -1,4 +1,4 @@
--- POLYVAL of a message.
+-- POLYVAL of additional data, a text and their lengths, by products of GCM's field.
 use Rattle.std.proofs.Common.{◌≡◌, ℕ, ◌+◌, ◌/◌, ◌^◌, ◌<◌, List, ◌++◌, length, bit_xor, refl, ap}
 use Rattle.std.proofs.Common.{sym, ◌∙◌}
 use Rattle.std.specs.Int.{w128, from_le_bytes}

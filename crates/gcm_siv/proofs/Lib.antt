@@ -1,4 +1,4 @@
--- The files of lemmas.
+-- The files of lemmas: counter blocks, derived keys, POLYVAL by GCM's field, and messages.
 pub mod CounterBlocks
 pub mod DerivedKeys
 pub mod Field

@@ -1,4 +1,4 @@
--- Texts and tags.
+-- A text that is encrypted twice is the text; and a block whose last byte is written anew.
 use Rattle.std.proofs.Common.{◌≡◌, ℕ, List, [], ◌∷◌, ◌++◌, length, set, take, sym, ◌∙◌, arith}
 use Rattle.std.proofs.lemmas.List.{take_all, take_more_set}
 use Rattle.std.proofs.Math.ListN.{length-set}

@@ -1,4 +1,4 @@
-//! The errors of AES-GCM-SIV.
+//! Why a message is refused.
 
 /// More text than AES-GCM-SIV allows, or more additional data.
 #[derive(Debug, Clone, Copy, PartialEq, Eq)]

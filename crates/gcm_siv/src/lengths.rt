@@ -1,4 +1,4 @@
-//! How long messages may be.
+//! The longest text and additional data, and which messages are short enough for one table.
 
 ghost use Rattle.std.specs.Prelude.{◌↔◌, ◌+◌, ◌^◌, ◌≤◌, length, IsTrue};
 

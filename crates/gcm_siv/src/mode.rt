@@ -1,4 +1,4 @@
-//! Encryption and decryption.
+//! Messages under a key-generating key: each call derives the keys of its nonce, and wipes them.
 
 ghost use Rattle.std.specs.Prelude.{◌≡◌, ◌↔◌, ◌⊎◌, ℕ, List, [], ◌++◌, ◌^◌, ◌<◌, ◌≤◌, length};
 ghost use Rattle.std.specs.Prelude.{slice_index_or, false, IsTrue, IsOk, IsErr, IfOk, OnOk, OnErr};

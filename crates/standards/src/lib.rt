@@ -2,6 +2,7 @@
 #![tactic(auto)]
 
 pub mod blocks;
+pub mod bytes;
 pub mod chains;
 pub mod counter;
 pub mod examples;

@@ -1,4 +1,4 @@
--- Keys of the three sizes.
+-- The bytes of a key, whichever of the three sizes it has.
 use Rattle.std.specs.Prelude.{ℕ, List}
 use Rattle.aes_kat.specs.declared.keys.Key.{Key}
 use Rattle.aes_kat.specs.declared.keys.Key.TheVariants.{Bits128, Bits192, Bits256}

@@ -1,4 +1,4 @@
-//! The round keys of a key.
+//! KeyExpansion for users of these types: the round keys of a key of each size.
 
 ghost use Rattle.std.specs.Prelude.{◌≡◌};
 ghost use Rattle.aes_planes.specs.Fips197 as fips;

@@ -1,12 +1,9 @@
 //! The backends of every cipher: what closures on them leave. Those of the round by round ciphers take eight blocks at once.
 
-use super::every_cipher::try_every_cipher;
-use super::forms::CipherTrial;
+use super::every_cipher::{DirectionTrial, try_every_cipher};
 use aes::Block;
 use aes_callers::closures::{LeavesBackend, Mixed, Row, Twice};
-use aes_cipher::cipher::{
-    BlockCipherDecrypt, BlockCipherEncrypt, CipherIn, Decrypt, Direction, Encrypt,
-};
+use aes_cipher::cipher::{CipherIn, Direction};
 use standards::blocks::different_blocks;
 use std::test::Fail;
 
@@ -43,24 +40,11 @@ fn works_on_rows<D: Direction, C: CipherIn<D>>(cipher: &C) -> bool {
 // A closure that does nothing, one that works twice, and blocks in slices, by what single calls leave.
 struct Closures;
 
-// Whether a cipher passes in one direction.
-fn passes<D: Direction, C: CipherIn<D>>(cipher: &C) -> bool {
-    does_nothing::<D, C>(cipher)
-        && works_twice::<D, C>(cipher, different_blocks()[3])
-        && works_on_rows::<D, C>(cipher)
-}
-
-impl CipherTrial for Closures {
-    fn passes<B, E, D>(&self, both: &B, encrypts: &E, decrypts: &D) -> bool
-    where
-        B: BlockCipherEncrypt + BlockCipherDecrypt,
-        E: BlockCipherEncrypt,
-        D: BlockCipherDecrypt,
-    {
-        passes::<Encrypt, B>(both)
-            && passes::<Decrypt, B>(both)
-            && passes::<Encrypt, E>(encrypts)
-            && passes::<Decrypt, D>(decrypts)
+impl DirectionTrial for Closures {
+    fn passes<D: Direction, C: CipherIn<D>>(&self, cipher: &C) -> bool {
+        does_nothing::<D, C>(cipher)
+            && works_twice::<D, C>(cipher, different_blocks()[3])
+            && works_on_rows::<D, C>(cipher)
     }
 }
 

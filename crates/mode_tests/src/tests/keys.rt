@@ -7,31 +7,22 @@ use aes_cipher::cipher::{BlockCipherDecrypt, BlockCipherEncrypt, KeyInit};
 use aes_hybrid::BothWaysKeys;
 use aes_hybrid::widths::Narrow;
 use key_wrap::{InvalidCount, NotUnwrapped, Semiblock, unwrap, wrap};
-
-// The bytes 00 01 02 and so on, whose beginnings are the keys that wrap.
-const COUNTED: [u8; 32] = [
-    0x00, 0x01, 0x02, 0x03, 0x04, 0x05, 0x06, 0x07, 0x08, 0x09, 0x0a, 0x0b, 0x0c, 0x0d, 0x0e, 0x0f,
-    0x10, 0x11, 0x12, 0x13, 0x14, 0x15, 0x16, 0x17, 0x18, 0x19, 0x1a, 0x1b, 0x1c, 0x1d, 0x1e, 0x1f,
-];
+use standards::keys::{KEY_128, KEY_192, KEY_256};
 
 // The key that is wrapped; the shorter examples have its beginning.
-fn key_data() -> [Semiblock; 4] {
-    [
-        0x0011223344556677u64.to_be_bytes(),
-        0x8899aabbccddeeffu64.to_be_bytes(),
-        0x0001020304050607u64.to_be_bytes(),
-        0x08090a0b0c0d0e0fu64.to_be_bytes(),
-    ]
-}
+const KEY_DATA: [u64; 4] = [
+    0x0011223344556677,
+    0x8899aabbccddeeff,
+    0x0001020304050607,
+    0x08090a0b0c0d0e0f,
+];
 
-fn semiblocks(numbers: &[u64; 5]) -> [Semiblock; 5] {
-    [
-        numbers[0].to_be_bytes(),
-        numbers[1].to_be_bytes(),
-        numbers[2].to_be_bytes(),
-        numbers[3].to_be_bytes(),
-        numbers[4].to_be_bytes(),
-    ]
+pub(super) fn semiblocks<const N: usize>(numbers: &[u64; N]) -> [Semiblock; N] {
+    let mut halves = [[0; 8]; N];
+    for i in 0..N {
+        halves[i] = numbers[i].to_be_bytes();
+    }
+    halves
 }
 
 // Whether the first `count` semiblocks of the key are wrapped into those numbers, are unwrapped again, and are refused
@@ -43,7 +34,7 @@ fn wraps_by<C: BlockCipherEncrypt + BlockCipherDecrypt>(
 ) -> bool
     requires few { count ≤ 4 }
 {
-    let data = key_data();
+    let data = semiblocks(&KEY_DATA);
     let sealed = semiblocks(numbers);
     let mut output = [[0; 8]; 5];
     let mut back = [[0; 8]; 4];
@@ -81,10 +72,6 @@ fn wraps<K: KeySize>(key: &K::Key, count: usize, numbers: &[u64; 5]) -> bool
 // RFC 3394, 4.1 to 4.6.
 #[test]
 fn wraps_the_keys_of_the_standard(rt: HostRuntime) {
-    let mut key_16 = [0; 16];
-    key_16.copy_from_slice(&COUNTED[..16]);
-    let mut key_24 = [0; 24];
-    key_24.copy_from_slice(&COUNTED[..24]);
     let row_1 = [
         0x1fa68b0a8112b447,
         0xaef34bd8fb5a7b82,
@@ -127,18 +114,18 @@ fn wraps_the_keys_of_the_standard(rt: HostRuntime) {
         0xcbc7f0e71a99f43b,
         0xfb988b9b7a02dd21,
     ];
-    assert!(rt; wraps::<Bits128>(&key_16, 2, &row_1));
-    assert!(rt; wraps::<Bits192>(&key_24, 2, &row_2));
-    assert!(rt; wraps::<Bits256>(&COUNTED, 2, &row_3));
-    assert!(rt; wraps::<Bits192>(&key_24, 3, &row_4));
-    assert!(rt; wraps::<Bits256>(&COUNTED, 3, &row_5));
-    assert!(rt; wraps::<Bits256>(&COUNTED, 4, &row_6));
+    assert!(rt; wraps::<Bits128>(&KEY_128, 2, &row_1));
+    assert!(rt; wraps::<Bits192>(&KEY_192, 2, &row_2));
+    assert!(rt; wraps::<Bits256>(&KEY_256, 2, &row_3));
+    assert!(rt; wraps::<Bits192>(&KEY_192, 3, &row_4));
+    assert!(rt; wraps::<Bits256>(&KEY_256, 3, &row_5));
+    assert!(rt; wraps::<Bits256>(&KEY_256, 4, &row_6));
 }
 
 #[test]
 fn refuses_other_counts(rt: HostRuntime) {
-    let cipher = AesCipher::<BothWaysKeys<Bits256, Narrow>, BothWays>::new(&COUNTED);
-    let data = key_data();
+    let cipher = AesCipher::<BothWaysKeys<Bits256, Narrow>, BothWays>::new(&KEY_256);
+    let data = semiblocks(&KEY_DATA);
     let mut output = [[6; 8]; 5];
     assert!(rt; wrap(&cipher, &data[..1], &mut output[..2]) == Err(InvalidCount));
     assert!(rt; wrap(&cipher, &data[..2], &mut output[..2]) == Err(InvalidCount));

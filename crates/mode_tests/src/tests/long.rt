@@ -11,7 +11,8 @@ use cmac::tag;
 use ctr_drbg::CtrDrbg;
 use gcm::Gcm;
 use gcm_siv::GcmSiv;
-use key_wrap::{Semiblock, wrap, wrap_padded};
+use key_wrap::{wrap, wrap_padded};
+use standards::bytes::counted;
 
 // The expected values are those of OpenSSL 4.0.0, by the Python package `cryptography`, and for the generator those of OpenSSL
 // 3.0.22, its CTR-DRBG without a derivation function. NIST's own vectors have inputs of 0 or 48 bytes alone.
@@ -19,44 +20,9 @@ use key_wrap::{Semiblock, wrap, wrap_padded};
 // How many bytes a message has: several batches, and a last block that isn't whole.
 const LENGTH: usize = 5001;
 
-// The bytes 0 to 250, again and again. Key, nonce and message begin with them.
-fn counted<const N: usize>() -> [u8; N] {
-    let mut bytes = [0; N];
-    for i in 0..N {
-        bytes[i] = (i % 251) as u8;
-    }
-    bytes
-}
-
+// A CMAC, as a number. Its key begins with the counted bytes, as every key, nonce and message here.
 fn digest(bytes: &[u8]) -> u128 {
     u128::from_be_bytes(tag(&<Aes256Enc>::new(&counted()), bytes))
-}
-
-// The digest of a chain's blocks.
-fn digest_of_blocks(blocks: &[Block; 313]) -> u128 {
-    let mut joined = [0; 5008];
-    for i in 0..5008 {
-        joined[i] = blocks[i / 16][i % 16];
-    }
-    digest(&joined)
-}
-
-// The digest of 513 semiblocks.
-fn digest_of_513(sealed: &[Semiblock; 513]) -> u128 {
-    let mut joined = [0; 4104];
-    for i in 0..4104 {
-        joined[i] = sealed[i / 8][i % 8];
-    }
-    digest(&joined)
-}
-
-// The digest of 514 semiblocks.
-fn digest_of_514(sealed: &[Semiblock; 514]) -> u128 {
-    let mut joined = [0; 4112];
-    for i in 0..4112 {
-        joined[i] = sealed[i / 8][i % 8];
-    }
-    digest(&joined)
 }
 
 // Whether a message in a mode becomes one of that digest and that tag, and comes back.
@@ -117,18 +83,18 @@ fn chains_and_keys(rt: HostRuntime) {
         previous: counted(),
     };
     chain.encrypt_blocks(&cipher, &mut blocks);
-    assert!(rt; digest_of_blocks(&blocks) == 0x19ca43570b6929f7f04c86b5b158eebd);
+    assert!(rt; digest(blocks.as_flattened()) == 0x19ca43570b6929f7f04c86b5b158eebd);
     let mut key = [[0; 8]; 512];
     for i in 0..4096 {
         key[i / 8][i % 8] = bytes[i];
     }
     let mut sealed = [[0; 8]; 513];
     assert!(rt; wrap(&cipher, &key, &mut sealed).is_ok());
-    assert!(rt; digest_of_513(&sealed) == 0xe7f794d470902244a237527bd715be3c);
+    assert!(rt; digest(sealed.as_flattened()) == 0xe7f794d470902244a237527bd715be3c);
     let long: [u8; 4099] = counted();
     let mut padded = [[0; 8]; 514];
     assert!(rt; wrap_padded(&cipher, &long, &mut padded).is_ok());
-    assert!(rt; digest_of_514(&padded) == 0x5108fecacb677a1e75568ee480a44f46);
+    assert!(rt; digest(padded.as_flattened()) == 0x5108fecacb677a1e75568ee480a44f46);
 }
 
 // The longest requests, with a personalization string of 20 bytes and additional inputs of 5 and 47.

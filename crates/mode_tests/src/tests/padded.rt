@@ -3,12 +3,13 @@
 
 ghost use Rattle.std.specs.Prelude.{◌≡◌};
 
+use super::keys::semiblocks;
 use aes_cipher::aes::{AesCipher, Bits128, Bits192, Bits256, BothWays};
 use aes_cipher::blocks::{block_of_number, halves_of_block};
 use aes_cipher::cipher::{BlockCipherDecrypt, BlockCipherEncrypt, KeyInit};
 use aes_hybrid::BothWaysKeys;
 use aes_hybrid::widths::Narrow;
-use key_wrap::{InvalidCount, NotUnwrapped, Semiblock, unwrap_padded, wrap_padded};
+use key_wrap::{InvalidCount, NotUnwrapped, unwrap_padded, wrap_padded};
 
 // A key that wraps, a key of so many bytes with its padding, and what it becomes, in numbers of 64 bits.
 #[derive(Clone, Copy)]
@@ -282,19 +283,9 @@ const BLOCKS: [Block; 11] = [
 ];
 
 fn key_of(numbers: &[u64; 4]) -> [u8; 32] {
-    let mut bytes = [0; 32];
-    for i in 0..4 {
-        bytes[8 * i..8 * i + 8].copy_from_slice(&numbers[i].to_be_bytes());
-    }
-    bytes
-}
-
-fn semiblocks<const N: usize>(numbers: &[u64; N]) -> [Semiblock; N] {
-    let mut halves = [[0; 8]; N];
-    for i in 0..N {
-        halves[i] = numbers[i].to_be_bytes();
-    }
-    halves
+    let mut key = [0; 32];
+    key.copy_from_slice(semiblocks(numbers).as_flattened());
+    key
 }
 
 // Whether an example's key is wrapped as it says, is unwrapped again, and is refused after a change

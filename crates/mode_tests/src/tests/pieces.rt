@@ -8,16 +8,8 @@ use aes_hybrid::Aes128Enc;
 use gcm::{
     BorrowedGcm, Counter, Gcm, InvalidMessage, InvalidPiece, Message, NotAccepted, OutOfTurn,
 };
+use standards::bytes::counted;
 use std::test::Fail;
-
-// The bytes 0, 7, 14 and so on, modulo 256: a nonce, additional data, or a text.
-fn bytes() -> [u8; 100] {
-    let mut bytes = [0; 100];
-    for i in 0..100 {
-        bytes[i] = (7 * i % 256) as u8;
-    }
-    bytes
-}
 
 // Where a piece of `size` bytes ends that begins at `from`, or where the message ends.
 fn end_of(from: usize, size: usize, length: usize) -> usize
@@ -124,7 +116,7 @@ pub(crate) fn agrees<const N: usize>(
 
 #[test]
 fn agrees_however_cut(rt: HostRuntime) {
-    let bytes = bytes();
+    let bytes: [u8; 100] = counted();
     let mode = Gcm::new(<Aes128Enc>::new(&[3; 16]));
     for size in 1..40 {
         assert!(rt; agrees(&mode.borrowed(), &bytes[..12], &bytes[..20], &bytes, size));
@@ -136,7 +128,7 @@ fn agrees_however_cut(rt: HostRuntime) {
 // SP 800-38D, 5.2.1.2: of 4, 8 and 12 to 15 bytes, each the first ones of the tag of 16.
 #[test]
 fn accepts_short_tags_of_the_fixed_length(rt: HostRuntime) {
-    let bytes = bytes();
+    let bytes: [u8; 100] = counted();
     let keys = Gcm::new(<Aes128Enc>::new(&[3; 16]));
     let mode = keys.borrowed();
     let mut room = Wiped::zeroed();
@@ -166,7 +158,7 @@ fn begins_under_the_next_nonce(rt: HostRuntime) {
         next: [0, 0, 0, 7, 0xff, 0xff, 0xff, 0xff, 0xff, 0xff, 0xff, 0xff],
     };
     let used = counter.next;
-    let mut text = bytes();
+    let mut text: [u8; 100] = counted();
     let mut whole = text;
     assert!(rt; !counter.is_over());
     assert!(rt; mode.begin_next(message, &mut counter) == used);

@@ -1,4 +1,4 @@
--- What is left to show of `expansion::summed_columns`.
+-- Four sums of words, one after another, are the sums of the columns up to each.
 use Rattle.aes.proofs.BlockExpansion.{summed_is}
 use Rattle.aes.proofs.expansion.summed_columns.Goals as goal
 

@@ -1,4 +1,4 @@
--- What holds in the loop of `chaining_value::chaining_value`.
+-- After i blocks the value is that of a chain of i blocks.
 use Rattle.std.proofs.Common.{◌≡◌}
 use Rattle.aes_callers.specs.ChainingValue.{value_after}
 use Rattle.aes_callers.proofs.chaining_value.chaining_value.Given as goal

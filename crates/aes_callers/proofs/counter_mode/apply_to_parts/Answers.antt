@@ -1,4 +1,4 @@
--- What is left to show of `counter_mode::apply_to_parts`.
+-- The keystream of the second part goes on where that of the first ends, as one over both.
 use Rattle.std.proofs.Common.{◌≡◌, ◌∙◌, ◌+◌, ◌++◌, [], ◌∷◌, length, sym, ap, append-nil}
 use Rattle.aes_ctr.specs.CounterMode.{keystream_byte, plus_stream, pieces_plus_stream}
 use Rattle.aes_callers.proofs.counter_mode.apply_to_parts.Goals as goal

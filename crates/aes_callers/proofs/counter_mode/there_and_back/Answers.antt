@@ -1,4 +1,4 @@
--- What is left to show of `counter_mode::there_and_back`.
+-- Sender and receiver have one keystream, which summed twice gives the message back.
 use Rattle.std.proofs.Common.{◌≡◌, ◌∙◌, ap}
 use Rattle.aes_planes.specs.Fips197 as fips
 use Rattle.aes_ctr.specs.CounterMode.{keystream_byte, plus_stream}

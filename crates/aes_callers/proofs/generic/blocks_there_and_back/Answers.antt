@@ -1,4 +1,4 @@
--- What is left to show of `generic::blocks_there_and_back`.
+-- Each block comes back, since InvCipher undoes Cipher on lists of blocks.
 use Rattle.std.proofs.Common.{◌∙◌, ap, map}
 use Rattle.aes_planes.specs.Fips197.{inv_cipher_with}
 use Rattle.aes_callers.proofs.generic.blocks_there_and_back.Goals as goal

@@ -1,4 +1,4 @@
--- What holds in the loop of `batches::copy_first`.
+-- The first k elements are copied, and those behind them are as they were.
 use Rattle.std.proofs.Common.{◌≡◌, ◌≤◌, length, take, drop}
 use Rattle.aes_hybrid.proofs.batches.copy_first.Given as goal
 

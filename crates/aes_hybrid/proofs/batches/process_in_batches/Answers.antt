@@ -1,4 +1,4 @@
--- What is left to show of `batches::process_in_batches`.
+-- The front is processed in whole batches, and the end behind it by another call: together they are the whole slice.
 use Rattle.std.proofs.Common.{ℕ, ◌-◌, ◌%◌, length, refl, ◌∙◌, arith}
 use Rattle.aes_cipher.proofs.SliceRuns.{end_finished}
 use Rattle.aes_soft.proofs.Slices.{front_finished}

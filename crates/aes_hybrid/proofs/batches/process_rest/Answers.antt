@@ -1,4 +1,4 @@
--- What is left to show of `batches::process_rest`.
+-- A batch that more blocks fill up: its first ones are the processed blocks of the slice.
 use Rattle.std.proofs.Common.{ℕ, ◌-◌, [], length, get_or, replicate, arith}
 use Rattle.std.proofs.lemmas.List.{length-replicate}
 use Rattle.aes_hybrid.proofs.Fronts.{first_processed}

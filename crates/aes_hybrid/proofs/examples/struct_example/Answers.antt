@@ -1,4 +1,4 @@
--- What is left to show of `examples::struct_example`.
+-- The stored round keys of A.1 are a schedule, and those of the other direction their inverse.
 use Rattle.std.proofs.Common.{ℕ, List, inl, refl}
 use Rattle.aes_planes.specs.BigEndian.{bytes}
 use Rattle.aes_planes.proofs.Standard.States.{bytes_by_test}

@@ -1,4 +1,4 @@
--- What is left to show of `plane_keys::store_planes`.
+-- Each round key comes to its eight words: the first as it is, those between out of the tower basis, and the last.
 use Rattle.std.proofs.Common.{◌≡◌, inl, inr, ℕ, ◌*◌, ap, sym, ◌∙◌, arith}
 use Rattle.std.proofs.lemmas.Bool.{cases_lt}
 use Rattle.aes_soft.proofs.WordsInPlace.{kept}

@@ -1,4 +1,4 @@
--- What holds in the loops of `plane_keys::store_planes`.
+-- The words of the first i round keys are written, each with its round key in every slot.
 use Rattle.std.proofs.Common.{◌≡◌, ◌*◌, ◌-◌, ◌<◌, ℕ, length}
 use Rattle.aes_soft.specs.Stored.{full, stored_key}
 use Rattle.aes_soft.proofs.WordsInPlace.{HoldsAt}

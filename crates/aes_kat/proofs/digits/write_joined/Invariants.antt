@@ -1,4 +1,4 @@
--- What holds in the loops of `digits::write_joined`.
+-- The digits of the blocks so far are written, 32 of each.
 use Rattle.std.proofs.Common.{◌≡◌, ◌*◌, take}
 use Rattle.std.specs.List.{flat_map}
 use Rattle.hex.specs.Hex.{encode_lower}

@@ -1,4 +1,4 @@
--- What is left to show of `examples::round_replies`.
+-- The reply of a round of EqInvCipher: its substitution is computed by itself, and then the other steps.
 use Rattle.std.proofs.Common.{◌≡◌, List, ℕ, refl, ap}
 use Rattle.hex.specs.Hex.{encode_lower}
 use Rattle.aes_planes.specs.BigEndian.{bytes}

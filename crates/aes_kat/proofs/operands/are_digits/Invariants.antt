@@ -1,4 +1,4 @@
--- What holds in the loop of `operands::are_digits`.
+-- `right` says whether the first i bytes of the word are digits.
 use Rattle.std.proofs.Common.{◌≡◌, take}
 use Rattle.std.specs.List.{list_all}
 use Rattle.hex.specs.Hex.{is_hex_digit}

@@ -1,4 +1,4 @@
--- What is left to show of `runs::feed`.
+-- If a write fails, a beginning of the answers was written.
 use Rattle.aes_kat.proofs.Progress.{OnErr-from, StopsWithin-written}
 use Rattle.aes_kat.proofs.runs.feed.Goals as goal
 

@@ -1,4 +1,4 @@
--- What is left to show of `runs::finish`.
+-- The last line is answered; or a write or a flush fails after a beginning of its answer.
 use Rattle.std.proofs.KnownBytes.{Appends-kept}
 use Rattle.aes_kat.proofs.Progress.{OnErr-from, AppendsBeginning-whole, only_gathered}
 use Rattle.aes_kat.proofs.runs.finish.Goals as goal

@@ -1,4 +1,4 @@
--- What is left to show of `runs::gather`.
+-- A whole line in the chunk is answered, and the next line begins empty.
 use Rattle.std.proofs.Common.{◌==◌, ◌≡◌, false, ◌∙◌}
 use Rattle.std.proofs.lemmas.List.Elements.{All-nil}
 use Rattle.aes_kat.proofs.Progress.{Gathers-line}

@@ -1,4 +1,4 @@
--- What holds in the loops of `runs::gather`.
+-- What was gathered answers the whole lines so far; the line that has begun has no line end.
 use Rattle.std.proofs.Common.{◌++◌, length}
 use Rattle.aes_kat.specs.Lines.{Lacks}
 use Rattle.aes_kat.specs.Private.Progress.{Gathers}

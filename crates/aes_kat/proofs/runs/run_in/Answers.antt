@@ -1,4 +1,4 @@
--- What is left to show of `runs::run_in`.
+-- A run answers all of its input, or fails after a beginning of the answers.
 use Rattle.std.proofs.Common.{◌++◌, take, arith}
 use Rattle.std.proofs.KnownBytes.{Consumes-trans}
 use Rattle.aes_kat.specs.Answers.{answers_to, AppendsBeginning}

@@ -1,4 +1,4 @@
--- What holds in the loops of `split::split_once`.
+-- The bytes so far have no separator.
 use Rattle.std.proofs.Common.{take}
 use Rattle.aes_kat.specs.Lines.{Lacks}
 use Rattle.aes_kat.proofs.split.split_once.Given as goal

@@ -1,4 +1,4 @@
--- What holds in the loops of `blocks::batch_of_few`.
+-- The first k blocks of the batch are those of the slice.
 use Rattle.std.proofs.Common.{◌≡◌, length, take}
 use Rattle.aes_narrow.proofs.blocks.batch_of_few.Given as goal
 

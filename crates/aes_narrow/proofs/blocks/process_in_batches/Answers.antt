@@ -1,4 +1,4 @@
--- What is left to show of `blocks::process_in_batches`.
+-- One run of blocks more is processed.
 use Rattle.std.proofs.Common.{arith}
 use Rattle.aes_narrow.proofs.Few.{next_run}
 use Rattle.aes_narrow.proofs.blocks.process_in_batches.Goals as goal

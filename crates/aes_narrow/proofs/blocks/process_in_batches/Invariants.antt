@@ -1,4 +1,4 @@
--- What holds in the loops of `blocks::process_in_batches`.
+-- The first blocks of the slice are processed, and the others as they were.
 use Rattle.std.proofs.Common.{◌-◌, length}
 use Rattle.aes_planes.specs.Fips197.{key_expansion}
 use Rattle.aes_soft.specs.Stored.{key_of_planes}

@@ -1,4 +1,4 @@
--- What holds in the loops of `blocks::put_few`.
+-- The first k blocks of the slice are those of the batch.
 use Rattle.std.proofs.Common.{◌≡◌, length, take}
 use Rattle.aes_narrow.proofs.blocks.put_few.Given as goal
 

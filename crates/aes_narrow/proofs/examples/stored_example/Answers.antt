@@ -1,4 +1,4 @@
--- What is left to show of `examples::stored_example`.
+-- The words of the key of A.1, compared with its eleven round keys one by one.
 use Rattle.std.proofs.Common.{List, Bool, map, refl, sym, subst}
 use Rattle.aes_planes.specs.Words.{word_bits}
 use Rattle.aes_narrow.specs.declared.examples.TheConstants.{WORDS}

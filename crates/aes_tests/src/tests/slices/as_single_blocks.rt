@@ -1,11 +1,7 @@
 //! Slices of blocks, in every form and by every cipher, against the calls on single blocks.
 
-use crate::tests::every_cipher::try_every_cipher;
-use crate::tests::forms::CipherTrial;
-use aes_cipher::cipher::{
-    Block, BlockCipherDecrypt, BlockCipherEncrypt, CipherIn, Decrypt, Direction, Encrypt,
-    NotEqualError,
-};
+use crate::tests::every_cipher::{DirectionTrial, try_every_cipher};
+use aes_cipher::cipher::{Block, CipherIn, Direction, NotEqualError};
 use standards::blocks::different_blocks;
 use std::test::Fail;
 
@@ -53,22 +49,9 @@ fn refuses_unequal_lengths<D: Direction, C: CipherIn<D>>(cipher: &C) -> bool {
 // Slices of 0 to 24 blocks, and slices of unequal lengths.
 struct Slices;
 
-// Whether a cipher passes both in one direction.
-fn passes<D: Direction, C: CipherIn<D>>(cipher: &C) -> bool {
-    processes_slices::<D, C>(cipher) && refuses_unequal_lengths::<D, C>(cipher)
-}
-
-impl CipherTrial for Slices {
-    fn passes<B, E, D>(&self, both: &B, encrypts: &E, decrypts: &D) -> bool
-    where
-        B: BlockCipherEncrypt + BlockCipherDecrypt,
-        E: BlockCipherEncrypt,
-        D: BlockCipherDecrypt,
-    {
-        passes::<Encrypt, B>(both)
-            && passes::<Decrypt, B>(both)
-            && passes::<Encrypt, E>(encrypts)
-            && passes::<Decrypt, D>(decrypts)
+impl DirectionTrial for Slices {
+    fn passes<D: Direction, C: CipherIn<D>>(&self, cipher: &C) -> bool {
+        processes_slices::<D, C>(cipher) && refuses_unequal_lengths::<D, C>(cipher)
     }
 }
 

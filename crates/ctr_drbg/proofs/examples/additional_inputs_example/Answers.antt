@@ -1,4 +1,4 @@
--- What is left to show of `examples::additional_inputs_example`.
+-- Both requests by the blocks that they encrypt: the update before the output, the output, and the one after it.
 use Rattle.std.proofs.Common.{◌≡◌, ℕ, List, ◌∙◌, ap, take}
 use Rattle.aes_planes.specs.BigEndian.{bytes}
 use Rattle.aes_planes.specs.Fips197.{build, build_from}

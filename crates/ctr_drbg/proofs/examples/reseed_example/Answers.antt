@@ -1,4 +1,4 @@
--- What is left to show of `examples::reseed_example`.
+-- The reseed by the three blocks that it encrypts.
 use Rattle.std.proofs.Common.{ℕ, List, ap}
 use Rattle.aes_planes.specs.BigEndian.{bytes}
 use Rattle.aes_planes.specs.Fips197.{build, build_from}

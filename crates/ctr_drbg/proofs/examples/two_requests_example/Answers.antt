@@ -1,4 +1,4 @@
--- What is left to show of `examples::two_requests_example`.
+-- The instantiation and both requests by the blocks that they encrypt.
 use Rattle.std.proofs.Common.{ap, take, replicate}
 use Rattle.aes_planes.specs.BigEndian.{bytes}
 use Rattle.aes_planes.specs.Fips197.{build, build_from}

@@ -1,4 +1,4 @@
--- What is left to show of `output::add_output`.
+-- Counter mode from V + 1 on adds the output blocks of Key and V.
 use Rattle.ctr_drbg.proofs.Keystream.{output_plus}
 use Rattle.ctr_drbg.proofs.output.add_output.Goals as goal
 

@@ -1,4 +1,4 @@
--- What is left to show of `output::moved_on`.
+-- V plus a number of blocks is V after as many turns, also where it wraps.
 use Rattle.std.proofs.Common.{◌≡◌, ◌∙◌, ◌+◌, ◌/◌, ap, arith}
 use Rattle.ctr_drbg.specs.CtrDrbg.{v_after, turns}
 use Rattle.ctr_drbg.proofs.Keystream.{v_after_any}

@@ -1,4 +1,4 @@
--- What is left to show of `output::put_output`.
+-- Output that is added to zeros is the output.
 use Rattle.std.proofs.Common.{◌≡◌, ◌∙◌, ap, replicate, length}
 use Rattle.ctr_drbg.specs.CtrDrbg.{exclusive_or, output}
 use Rattle.ctr_drbg.proofs.Keystream.{output_plus_zeros}

@@ -1,4 +1,4 @@
--- What holds in the loop of `seeds::add_padded`.
+-- The first i bytes of the string are added to the seed.
 use Rattle.std.proofs.Common.{◌≡◌, take}
 use Rattle.ctr_drbg.specs.CtrDrbg.{exclusive_or}
 use Rattle.ctr_drbg.proofs.seeds.add_padded.Given as goal

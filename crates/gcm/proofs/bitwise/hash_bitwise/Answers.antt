@@ -1,4 +1,4 @@
--- What is left to show of `bitwise::hash_bitwise`.
+-- The hash of whole blocks, in GCM's own words: from any value on, and from 0.
 use Rattle.std.proofs.Common.{ℕ, ◌/◌, ◌∙◌, ap, length, List}
 use Rattle.gcm.specs.Gcm.{hashed, ghash}
 use Rattle.gcm.proofs.Messages.Hashing.{hashed_is}

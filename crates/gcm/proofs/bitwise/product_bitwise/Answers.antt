@@ -1,4 +1,4 @@
--- What is left to show of `bitwise::product_bitwise`.
+-- One bit of the block more: V goes on by a step, and Z by V if the bit is 1.
 use Rattle.std.proofs.Common.{◌≡◌, ℕ, suc, ◌+◌, ◌*◌, ◌%◌, ◌∙◌, ap, arith, refl}
 use Rattle.gcm.specs.Gcm.{next_v, v_at, z_at, product}
 use Rattle.gcm.proofs.Products.BitByBit.{shifted, one_more}

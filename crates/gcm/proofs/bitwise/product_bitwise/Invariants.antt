@@ -1,4 +1,4 @@
--- What holds in the loop of `bitwise::product_bitwise`.
+-- After i bits: what is left of the block, Z_i, and V_i.
 use Rattle.std.proofs.Common.{◌≡◌, ◌*◌, ◌%◌, ◌^◌}
 use Rattle.gcm.specs.Gcm.{v_at, z_at}
 use Rattle.gcm.proofs.bitwise.product_bitwise.Given as goal

@@ -1,4 +1,4 @@
--- What is left to show of `examples::block_rules`.
+-- A block more is hashed by one step of the definition.
 use Rattle.std.proofs.Common.{refl}
 use Rattle.gcm.specs.Gcm.{hashed}
 use Rattle.gcm.proofs.examples.block_rules.Goals as goal

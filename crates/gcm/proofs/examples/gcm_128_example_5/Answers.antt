@@ -1,4 +1,4 @@
--- What is left to show of `examples::gcm_128_example_5`.
+-- Text and tag of case 5, whose nonce has 8 bytes, by the blocks that are encrypted.
 use Rattle.std.proofs.Common.{List, ℕ, ◌++◌}
 use Rattle.aes_planes.specs.BigEndian.{bytes}
 use Rattle.gcm.proofs.Literals.OnLiterals.{gcm_on_literals, tag_by}

@@ -1,4 +1,4 @@
--- What is left to show of `examples::length_examples`.
+-- The length in bits follows from the length in bytes alone, with no string at hand.
 use Rattle.std.proofs.Common.{◌*◌, ap}
 use Rattle.std.specs.Int.{w64, to_be_bytes}
 use Rattle.gcm.proofs.Literals.OnLiterals.{gcm_on_literals}

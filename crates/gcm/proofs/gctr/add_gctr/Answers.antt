@@ -1,4 +1,4 @@
--- What is left to show of `gctr::add_gctr`.
+-- The counter's last 32 bits wrap once at most: the keystream before that and behind it are one.
 use Rattle.std.proofs.Common.{ℕ, ◌+◌, ◌∙◌, List, length, ap, sym, arith}
 use Rattle.std.specs.Int.{w128, from_be_bytes}
 use Rattle.aes_ctr.specs.CounterMode.{plus_stream}

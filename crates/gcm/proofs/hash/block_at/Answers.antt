@@ -1,4 +1,4 @@
--- What is left to show of `hash::block_at`.
+-- Sixteen bytes of the string, as the number that the order of bytes makes of them.
 use Rattle.std.proofs.Common.{ℕ, ◌+◌, ◌-◌, ◌*◌, ◌∙◌, ap, arith, drop, length-take}
 use Rattle.std.proofs.lemmas.List.{take_all}
 use Rattle.std.specs.List.{slice_range}

@@ -1,4 +1,4 @@
--- What is left to show of `hash::hash_rest_and`.
+-- The last bytes by how many there are, and the closing block behind them.
 use Rattle.std.proofs.Common.{◌≡◌, ℕ, suc, ◌+◌, ◌*◌, ◌∙◌, List, ap, refl, arith, length, bit_xor}
 use Rattle.std.specs.Int.{w128, from_be_bytes}
 use Rattle.std.specs.List.{slice_range}

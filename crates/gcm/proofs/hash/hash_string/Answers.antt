@@ -1,4 +1,4 @@
--- What is left to show of `hash::hash_string`.
+-- Three blocks at a time, and then the rest, are the whole string.
 use Rattle.std.specs.Int.{w128, from_be_bytes}
 use Rattle.gcm.proofs.hash.hash_string.Goals as goal
 

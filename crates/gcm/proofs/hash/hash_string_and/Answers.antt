@@ -1,4 +1,4 @@
--- What is left to show of `hash::hash_string_and`.
+-- Three blocks at a time, the rest and the closing block are the whole string and that block.
 use Rattle.std.specs.Int.{w128, from_be_bytes}
 use Rattle.gcm.proofs.hash.hash_string_and.Goals as goal
 

@@ -1,4 +1,4 @@
--- What is left to show of `hash::hash_threes`.
+-- Three blocks more: the sum of their products with H^3, H^2 and H is three steps of GHASH.
 use Rattle.std.proofs.Common.{◌≡◌, ℕ, suc, ◌+◌, ◌*◌, ◌/◌, ◌∙◌, ap, arith, length, bit_xor, List}
 use Rattle.std.proofs.Common.{refl}
 use Rattle.std.specs.Int.{w128, from_be_bytes}

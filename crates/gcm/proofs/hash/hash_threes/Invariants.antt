@@ -1,4 +1,4 @@
--- What holds in the loops of `hash::hash_threes`.
+-- The first 3 i blocks are hashed.
 use Rattle.std.proofs.Common.{◌≡◌, ◌*◌}
 use Rattle.std.specs.Int.{w128, from_be_bytes}
 use Rattle.gcm.specs.Hashed.{hashed_as}

@@ -1,4 +1,4 @@
--- What is left to show of `hash_room::hash_piece`.
+-- A piece that doesn't fill the block that has begun, and one that fills it and goes on behind it.
 use Rattle.std.proofs.Common.{◌≡◌, ℕ, ◌+◌, ◌-◌, ◌*◌, ◌/◌, ◌≤◌, ◌∙◌, List, ◌++◌, ap, arith, bit_xor}
 use Rattle.std.proofs.Common.{length, length-take, length-drop, subst, sym, take, drop}
 use Rattle.std.proofs.lemmas.List.{take-append-drop, take_all}

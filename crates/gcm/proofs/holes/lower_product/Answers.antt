@@ -1,4 +1,4 @@
--- What is left to show of `holes::lower_product`.
+-- Sixteen products of every fourth bit, summed by their place modulo 4, are the lower half.
 use Rattle.std.proofs.Common.{ℕ, ◌*◌, ◌^◌, ◌∙◌, arith, bit_and, bit_xor, refl}
 use Rattle.gcm.specs.Carryless.{holes}
 use Rattle.gcm.specs.Multiples.{sum_of}

@@ -1,4 +1,4 @@
--- What is left to show of `holes::product_of_numbers`.
+-- 128 bits by Karatsuba's three products of 64 bits.
 use Rattle.std.proofs.Common.{ℕ, ◌∙◌, arith, bit_xor, refl}
 use Rattle.gcm.proofs.WithoutCarries.Carryless.{karatsuba, columns}
 use Rattle.gcm.proofs.holes.product_of_numbers.Goals as goal

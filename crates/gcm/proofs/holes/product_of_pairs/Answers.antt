@@ -1,4 +1,4 @@
--- What is left to show of `holes::product_of_pairs`.
+-- 64 bits by Karatsuba's three products of 32 bits.
 use Rattle.std.proofs.Common.{◌≡◌, ℕ, ◌*◌, ◌%◌, ◌^◌, ◌<◌, ◌∙◌, arith, bit_xor, refl}
 use Rattle.std.proofs.lemmas.Nat.{xor_lt}
 use Rattle.gcm.proofs.WithoutCarries.Carryless.{karatsuba}

@@ -1,4 +1,4 @@
--- What is left to show of `holes::product_of_words`.
+-- The upper half comes from the product of the words with their bits reversed.
 use Rattle.std.proofs.Common.{◌≡◌, ℕ, ◌*◌, ◌/◌, ◌%◌, ◌^◌, ◌∙◌, ap, arith, bit_xor}
 use Rattle.gcm.specs.Carryless.{carryless}
 use Rattle.gcm.proofs.WithoutCarries.Mirrored.{both_halves}

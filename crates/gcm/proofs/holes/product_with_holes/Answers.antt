@@ -1,4 +1,4 @@
--- What is left to show of `holes::product_with_holes`.
+-- The product of the numbers, doubled and reduced, is the product of the blocks.
 use Rattle.std.proofs.Common.{arith}
 use Rattle.gcm.specs.Multiples.{folded}
 use Rattle.gcm.proofs.WithoutCarries.Carryless.{reduced_product, spread}

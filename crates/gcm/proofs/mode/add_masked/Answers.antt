@@ -1,4 +1,4 @@
--- What is left to show of `mode::add_masked`.
+-- The sum of the mask and a value's bytes is GCTR of that one block.
 use Rattle.std.proofs.Common.{◌∙◌, ap, arith}
 use Rattle.gcm.specs.Gcm.{gctr}
 use Rattle.gcm.proofs.Messages.Counting.{one_block}

@@ -1,4 +1,4 @@
--- What is left to show of `mode::put_mask`.
+-- The mask is the cipher of J_0, read as a number and written again.
 use Rattle.std.proofs.Common.{◌∙◌, ap, sym}
 use Rattle.std.specs.Int.{w128, to_be_bytes}
 use Rattle.aes_planes.specs.Fips197.{cipher_with}

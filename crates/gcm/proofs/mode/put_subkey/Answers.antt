@@ -1,4 +1,4 @@
--- What is left to show of `mode::put_subkey`.
+-- H is the cipher of the block of zeros.
 use Rattle.std.proofs.Common.{◌∙◌, ap, [], slice_index_or}
 use Rattle.std.specs.Int.{w128, from_be_bytes}
 use Rattle.aes_planes.specs.Fips197.{cipher_with}

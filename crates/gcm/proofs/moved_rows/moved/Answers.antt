@@ -1,4 +1,4 @@
--- What is left to show of `moved_rows::moved`.
+-- A byte of a moved row: four bits of its own byte and four of the byte before it.
 use Rattle.std.proofs.Common.{rules}
 use Rattle.gcm.proofs.Tables.MovedRows.{lane_of_half}
 use Rattle.gcm.proofs.moved_rows.moved.Goals as goal

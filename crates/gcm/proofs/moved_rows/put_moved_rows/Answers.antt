@@ -1,4 +1,4 @@
--- What is left to show of `moved_rows::put_moved_rows`.
+-- Two rows more, the first ones with what falls out of the last; their look-ups are in the tables.
 use Rattle.std.proofs.Common.{rules, ◌≡◌, ◌+◌, ◌-◌, ◌*◌, ◌∙◌, ap, sym, subst, arith, length-set, List}
 use Rattle.std.proofs.Common.{ℕ, [], get_or}
 use Rattle.aes_planes.proofs.Lists.{build_is}

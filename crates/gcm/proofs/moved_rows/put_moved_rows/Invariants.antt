@@ -1,4 +1,4 @@
--- What holds in the loop of `moved_rows::put_moved_rows`.
+-- The first 2 r rows are those of the multiples by four powers of x more.
 use Rattle.std.proofs.Common.{◌≡◌, ℕ, ◌*◌, ◌<◌, [], length, get_or}
 use Rattle.gcm.specs.Gcm.{v_at}
 use Rattle.gcm.specs.Multiples.{multiples_row, row_at}

@@ -1,4 +1,4 @@
--- What is left to show of `multiples::bytes_of_bit`.
+-- Each nibble's look-up is inside the block, or at a place that gives 0.
 use Rattle.std.proofs.Common.{◌∙◌}
 use Rattle.gcm.proofs.Tables.Nibbles.{indices, looked_bit}
 use Rattle.gcm.proofs.multiples.bytes_of_bit.Goals as goal

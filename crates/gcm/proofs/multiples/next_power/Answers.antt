@@ -1,4 +1,4 @@
--- What is left to show of `multiples::next_power`.
+-- A power times the block of the table is the next power.
 use Rattle.std.proofs.Common.{◌∙◌, ap}
 use Rattle.gcm.specs.Gcm.{product}
 use Rattle.gcm.specs.Multiples.{subkey_in}

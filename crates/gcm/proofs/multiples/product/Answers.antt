@@ -1,4 +1,4 @@
--- What is left to show of `multiples::product`.
+-- All sixteen rows, shifted and summed, are the product with the block of the table.
 use Rattle.std.proofs.Common.{◌∙◌, ap}
 use Rattle.std.specs.Int.{w128, from_be_bytes}
 use Rattle.gcm.specs.Multiples.{subkey_in, row_number, rows_after}

@@ -1,4 +1,4 @@
--- What is left to show of `multiples::put_multiples`.
+-- H^2 and H^3 come from the table of H, and each has a table behind it.
 use Rattle.std.proofs.Common.{arith}
 use Rattle.gcm.proofs.Tables.Rows.{is_table, written, has_multiples, room_block}
 use Rattle.gcm.proofs.multiples.put_multiples.Goals as goal

@@ -1,4 +1,4 @@
--- What is left to show of `multiples::put_one_table`.
+-- What was written is a table, and its block is H.
 use Rattle.std.proofs.Common.{arith}
 use Rattle.gcm.proofs.Tables.Rows.{is_table, table_block}
 use Rattle.gcm.proofs.multiples.put_one_table.Goals as goal

@@ -1,4 +1,4 @@
--- What is left to show of `multiples::reduced`.
+-- What fell out, folded back in, is the number modulo the polynomial.
 use Rattle.std.proofs.Common.{◌∙◌, ap, bit_xor}
 use Rattle.std.specs.Int.{w128, from_be_bytes}
 use Rattle.gcm.specs.Multiples.{reduced, folded}

@@ -1,4 +1,4 @@
--- What is left to show of `multiples::reduced_halves`.
+-- The upper halves, eight bytes further on, are summed with the lower ones and reduced.
 use Rattle.std.proofs.Common.{◌≡◌, ◌∙◌, ◌+◌, ◌*◌, ◌/◌, ◌%◌, ◌^◌, ap, take, drop, bit_xor}
 use Rattle.std.specs.Int.{w128, from_be_bytes}
 use Rattle.gcm.specs.Multiples.{reduced}

@@ -1,4 +1,4 @@
--- What is left to show of `multiples::shifted_sum`.
+-- One row more in each half, and at the end both halves as one number.
 use Rattle.std.proofs.Common.{◌∙◌, arith}
 use Rattle.gcm.proofs.Tables.RowSums.{halves_none, halves_next, both_halves}
 use Rattle.gcm.proofs.multiples.shifted_sum.Goals as goal

@@ -1,4 +1,4 @@
--- What holds in the loop of `multiples::shifted_sum`.
+-- Each half has the sum of its last k rows, each shifted by its place.
 use Rattle.gcm.proofs.Tables.RowSums.{SummedInHalves}
 use Rattle.gcm.proofs.multiples.shifted_sum.Given as goal
 

@@ -1,4 +1,4 @@
--- What is left to show of `numbers::sum`.
+-- The sum of two vectors is that of the numbers that they write.
 use Rattle.std.proofs.Common.{rules}
 use Rattle.gcm.proofs.Tables.Rows.{number_summed}
 use Rattle.gcm.proofs.numbers.sum.Goals as goal

@@ -1,4 +1,4 @@
--- What is left to show of `row_pairs::after_eight_zeros`.
+-- A block moved on by eight bytes, as a number.
 use Rattle.std.proofs.Common.{rules}
 use Rattle.gcm.proofs.Tables.RowPairs.{eight_zeros}
 use Rattle.gcm.proofs.row_pairs.after_eight_zeros.Goals as goal

@@ -1,4 +1,4 @@
--- What is left to show of `row_pairs::after_last_eight`.
+-- A block moved on by eight bytes behind the end of another, as a number.
 use Rattle.std.proofs.Common.{rules}
 use Rattle.gcm.proofs.Tables.RowPairs.{eight_lasts}
 use Rattle.gcm.proofs.row_pairs.after_last_eight.Goals as goal

@@ -1,4 +1,4 @@
--- What is left to show of `row_pairs::after_lasts`.
+-- Each half moved on by a byte, behind the last byte of another vector's half.
 use Rattle.std.proofs.Common.{rules}
 use Rattle.gcm.proofs.Tables.RowPairs.{lasts_lower, lasts_upper}
 use Rattle.gcm.proofs.row_pairs.after_lasts.Goals as goal

@@ -1,4 +1,4 @@
--- What is left to show of `row_pairs::after_zeros`.
+-- Each half moved on by a byte, behind a byte 0.
 use Rattle.std.proofs.Common.{rules}
 use Rattle.gcm.proofs.Tables.RowPairs.{zeros_lower, zeros_upper}
 use Rattle.gcm.proofs.row_pairs.after_zeros.Goals as goal

@@ -1,4 +1,4 @@
--- What is left to show of `row_pairs::high_nibbles_twice`.
+-- The high nibbles stand in both halves, and each is a place of a table of sixteen bytes.
 use Rattle.std.proofs.Common.{rules, ap, ◌∙◌, ◌/◌, ◌^◌, replicate}
 use lib.Lanes.{zip2}
 use Rattle.gcm.proofs.Tables.RowPairs.{high_twice, high_indices}

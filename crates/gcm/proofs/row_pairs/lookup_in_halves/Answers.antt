@@ -1,4 +1,4 @@
--- What is left to show of `row_pairs::lookup_in_halves`.
+-- A look-up in each half's own table.
 use Rattle.std.proofs.Common.{ap, subst, ◌∙◌, w8, rules}
 use Rattle.std.proofs.lemmas.Simd.{swz_l}
 use Rattle.aes_permute.specs.Lookup.{AreIndices}

@@ -1,4 +1,4 @@
--- What is left to show of `row_pairs::low_nibbles_twice`.
+-- The low nibbles stand in both halves, and each is a place of a table of sixteen bytes.
 use Rattle.std.proofs.Common.{rules, ap, ◌∙◌, replicate, bit_and}
 use lib.Lanes.{zip2}
 use Rattle.gcm.proofs.Tables.RowPairs.{low_twice, low_indices}

@@ -1,4 +1,4 @@
--- What is left to show of `singly::hash_on_singly`.
+-- Blocks in GCM's order are hashed as the standard says.
 use Rattle.std.proofs.Common.{ℕ, ◌/◌, ◌∙◌, List, length}
 use Rattle.aes_cipher.specs.Blocks.{padded}
 use Rattle.gcm.proofs.Messages.Hashing.{hashed_is}

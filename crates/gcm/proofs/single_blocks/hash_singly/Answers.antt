@@ -1,4 +1,4 @@
--- What is left to show of `singly::hash_singly`.
+-- Whole blocks alone, or with a last one that zeros fill.
 use Rattle.std.proofs.Common.{◌≡◌, ℕ, ◌-◌, ◌*◌, ◌/◌, ◌%◌, ◌∙◌, ap, arith, length, List, refl}
 use Rattle.std.specs.List.{slice_range}
 use Rattle.gcm.proofs.Messages.Hashing.{hashed_as_whole, hashed_as_with_rest}

@@ -1,4 +1,4 @@
--- What is left to show of `singly::hash_whole`.
+-- No block yet, and one block more.
 use Rattle.std.proofs.Common.{refl}
 use Rattle.gcm.specs.Hashed.{hashed_as}
 use Rattle.gcm.proofs.single_blocks.hash_whole.Goals as goal

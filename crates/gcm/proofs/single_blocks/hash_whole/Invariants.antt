@@ -1,4 +1,4 @@
--- What holds in the loop of `singly::hash_whole`.
+-- The first i blocks are hashed.
 use Rattle.std.proofs.Common.{◌≡◌}
 use Rattle.gcm.specs.Hashed.{hashed_as}
 use Rattle.gcm.proofs.single_blocks.hash_whole.Given as goal

@@ -1,4 +1,4 @@
--- What is left to show of `opening::fotsgure_gcm_accept_short`.
+-- Under the key that the struct keeps, a message with an accepted short tag may be decrypted.
 use Rattle.std.proofs.Common.{[], length}
 use Rattle.gcm.specs.Pieces.{IsVerifying, IsDecrypting}
 use Rattle.gcm_c.proofs.Carried.{carried}

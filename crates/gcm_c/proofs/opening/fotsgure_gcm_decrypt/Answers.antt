@@ -1,4 +1,4 @@
--- What is left to show of `opening::fotsgure_gcm_decrypt`.
+-- Under the key that the struct keeps, one more piece was decrypted.
 use Rattle.std.proofs.Common.{◌++◌}
 use Rattle.gcm.specs.Pieces.{IsDecrypting}
 use Rattle.gcm_c.proofs.Carried.{carried}

@@ -1,4 +1,4 @@
--- What is left to show of `opening::fotsgure_gcm_decrypt_unverified`.
+-- Under the key that the struct keeps, one more piece was hashed and decrypted.
 use Rattle.std.proofs.Common.{◌++◌}
 use Rattle.gcm.specs.Pieces.{IsVerifying, IsInText}
 use Rattle.gcm.specs.declared.message.Phase.TheVariants.{Verifying}

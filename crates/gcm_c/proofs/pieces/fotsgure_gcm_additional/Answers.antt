@@ -1,4 +1,4 @@
--- What is left to show of `pieces::fotsgure_gcm_additional`.
+-- Under the key that the struct keeps, one more piece of additional data was hashed.
 use Rattle.std.proofs.Common.{◌++◌}
 use Rattle.gcm.specs.Pieces.{IsBegun}
 use Rattle.gcm_c.proofs.Carried.{carried}

@@ -1,4 +1,4 @@
--- What is left to show of `sealing::fotsgure_gcm_encrypt`.
+-- Under the key that the struct keeps, one more piece was encrypted and hashed.
 use Rattle.std.proofs.Common.{◌++◌}
 use Rattle.gcm.specs.Pieces.{IsEncrypting, IsInText}
 use Rattle.gcm.specs.declared.message.Phase.TheVariants.{Encrypting}

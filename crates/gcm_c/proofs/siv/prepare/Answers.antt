@@ -1,4 +1,4 @@
--- What is left to show of `siv::prepare`.
+-- Both derived keys are those of the nonce under the struct's key.
 use Rattle.std.proofs.Common.{◌∙◌, ◌+◌, ◌/◌, ◌^◌, ◌<◌, ap, sym, length, subst, take}
 use Rattle.std.specs.Int.{w128, from_le_bytes}
 use Rattle.aes_planes.specs.Fips197.{key_expansion}

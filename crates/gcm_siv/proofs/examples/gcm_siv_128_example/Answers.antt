@@ -1,4 +1,4 @@
--- What is left to show of `examples::gcm_siv_128_example`.
+-- Tag and text of the message of eight bytes, by the blocks that are encrypted.
 use Rattle.std.proofs.Common.{◌≡◌, ℕ, List, [], ◌∷◌, ◌++◌, take, slice_index_or, ap, sym, ◌∙◌}
 use Rattle.std.proofs.Common.{arith}
 use Rattle.std.specs.Int.{w128, from_le_bytes}

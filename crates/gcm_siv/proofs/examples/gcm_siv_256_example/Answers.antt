@@ -1,4 +1,4 @@
--- What is left to show of `examples::gcm_siv_256_example`.
+-- Tag and text of the message of twenty bytes, by the blocks that are encrypted.
 use Rattle.std.proofs.Common.{◌≡◌, ℕ, List, [], ◌∷◌, slice_index_or, ap, sym, ◌∙◌, arith}
 use Rattle.std.specs.Int.{w128, from_le_bytes}
 use Rattle.aes_planes.specs.BigEndian.{bytes}

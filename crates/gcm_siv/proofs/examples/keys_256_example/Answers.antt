@@ -1,4 +1,4 @@
--- What is left to show of `examples::keys_256_example`.
+-- Both derived keys, by the halves of six encrypted blocks.
 use Rattle.std.proofs.Common.{◌++◌, take}
 use Rattle.gcm_siv.proofs.OnLiterals.{siv_on_literals}
 use Rattle.gcm_siv.proofs.examples.keys_256_example.Goals as goal

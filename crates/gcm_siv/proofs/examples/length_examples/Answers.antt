@@ -1,4 +1,4 @@
--- What is left to show of `examples::length_examples`.
+-- The block of lengths follows from the lengths alone, with no strings at hand.
 use Rattle.std.proofs.Common.{◌*◌, ◌++◌}
 use Rattle.std.specs.Int.{w64, to_le_bytes}
 use Rattle.aes_planes.specs.BigEndian.{bytes}

@@ -1,4 +1,4 @@
--- What is left to show of `examples::polyval_rules`.
+-- A block more is hashed by one step of the definition.
 use Rattle.std.proofs.Common.{refl}
 use Rattle.gcm_siv.specs.GcmSiv.{summed}
 use Rattle.gcm_siv.proofs.examples.polyval_rules.Goals as goal

@@ -1,4 +1,4 @@
--- What is left to show of `hash::hash_by`.
+-- POLYVAL by GCM's products, block by block: with H times x^-1, and bytes in the other order.
 use Rattle.std.proofs.Common.{ℕ, List, ◌/◌, ◌∙◌, ap, bit_xor, length}
 use Rattle.std.specs.Int.{w128, from_le_bytes}
 use Rattle.aes_cipher.specs.Blocks.{padded}

@@ -1,4 +1,4 @@
--- What is left to show of `message::apply`.
+-- Counter mode from the tag's counter block on is the text's encryption.
 use Rattle.std.proofs.Common.{◌∙◌, ap}
 use Rattle.gcm_siv.specs.GcmSiv.{counter_mode, text_under}
 use Rattle.gcm_siv.proofs.message.apply.Goals as goal

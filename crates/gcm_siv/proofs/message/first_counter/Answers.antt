@@ -1,4 +1,4 @@
--- What is left to show of `message::first_counter`.
+-- The tag with the highest bit of its last byte set.
 use Rattle.std.proofs.Common.{rules, ◌+◌, ◌%◌, slice_index}
 use Rattle.gcm_siv.specs.GcmSiv.{first_counter}
 use Rattle.gcm_siv.proofs.Messages.{last_set}

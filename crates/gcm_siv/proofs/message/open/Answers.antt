@@ -1,4 +1,4 @@
--- What is left to show of `message::open`.
+-- A refused text was decrypted and encrypted again, so that it is as it came.
 use Rattle.std.proofs.Common.{◌∙◌, ap}
 use Rattle.gcm_siv.specs.GcmSiv.{text_under}
 use Rattle.gcm_siv.proofs.Messages.{under_twice}

@@ -1,4 +1,4 @@
--- What is left to show of `message::put_tag`.
+-- The cipher of the hash, summed with the nonce and with its last bit cleared, is the tag.
 use Rattle.std.proofs.Common.{◌∙◌, ◌%◌, [], ◌∷◌, ◌++◌, ap, replicate, slice_index, take}
 use Rattle.aes_planes.specs.Fips197.{add_round_key, cipher_with}
 use Rattle.gcm_siv.specs.GcmSiv.{tag_input, tag_under}

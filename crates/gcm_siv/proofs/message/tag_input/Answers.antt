@@ -1,4 +1,4 @@
--- What is left to show of `message::tag_input`.
+-- The sum of hash and nonce, with the highest bit of its last byte cleared.
 use Rattle.std.proofs.Common.{rules, ◌∙◌, ◌%◌, [], ◌∷◌, ◌++◌, ap, replicate, slice_index, take}
 use Rattle.aes_planes.specs.Fips197.{add_round_key}
 use Rattle.gcm_siv.proofs.Messages.{last_set}

@@ -2,22 +2,15 @@
 
 use super::{CounterTrial, mode_from, passes};
 use aes_cipher::cipher::BlockCipherEncrypt;
+use standards::bytes::counted;
 use standards::counter::IV;
-
-// Bytes that differ from their neighbours.
-fn fill(bytes: &mut [u8]) {
-    for i in 0..bytes.len() {
-        bytes[i] = (i % 251) as u8;
-    }
-}
 
 // Every length up to 400 bytes, cut at every place.
 struct EveryCut;
 
 impl CounterTrial for EveryCut {
     fn passes<C: BlockCipherEncrypt>(&self, cipher: &C) -> bool {
-        let mut plain = [0; 400];
-        fill(&mut plain);
+        let plain = counted::<400>();
         let mut right = true;
         for len in 0..=400 {
             let mut once = plain;

@@ -1,4 +1,4 @@
--- What is left to show of `expansion::BlockKeysFourWords::substituted`.
+-- Of the round keys between, for keys of 32 bytes: their first word is substituted alone.
 use Rattle.aes.proofs.BlockExpansion.{substituted_is}
 use Rattle.aes.proofs.expansion.BlockKeysFourWords.substituted.Goals as goal
 

@@ -1,4 +1,4 @@
--- What holds in the loops of `closures::one_way::process_all`.
+-- Of two loops, over batches and over single blocks: to finish what is left gives every block processed.
 use Rattle.std.proofs.Common.{length, ◌-◌, ◌≡◌, ◌≤◌, map}
 use Rattle.aes_cipher.proofs.SliceRuns.{finished}
 use Rattle.aes_callers.proofs.closures.one_way.process_all.Given as goal

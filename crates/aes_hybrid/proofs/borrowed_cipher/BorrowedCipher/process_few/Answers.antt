@@ -1,4 +1,4 @@
--- What is left to show of `borrowed_cipher::BorrowedCipher::process_few`.
+-- All rounds under the stored round keys of a direction are its cipher, on each block of a slice.
 use Rattle.std.proofs.Common.{map, ap, ◌∙◌, arith}
 use Rattle.std.proofs.lemmas.Grind.{common_steps}
 use Rattle.aes_planes.specs.Fips197.{key_expansion}

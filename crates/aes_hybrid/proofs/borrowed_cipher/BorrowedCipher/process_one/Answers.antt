@@ -1,4 +1,4 @@
--- What is left to show of `borrowed_cipher::BorrowedCipher::process_one`.
+-- All rounds under the stored round keys of a direction are its cipher, on one block.
 use Rattle.std.proofs.Common.{ap, ◌∙◌, arith}
 use Rattle.std.proofs.lemmas.Grind.{common_steps}
 use Rattle.aes_planes.specs.Fips197.{key_expansion}

@@ -1,4 +1,4 @@
--- What is left to show of `stored_keys::EncryptionKeysStoredKeys::has_key`.
+-- The key that the blocks are read as has as many bytes as the type says.
 use Rattle.std.proofs.Common.{◌+◌, ◌/◌, ap, sym, ◌∙◌, length}
 use Rattle.aes_permute.specs.Keys.{stored_keys}
 use Rattle.aes_permute.proofs.KeyOfLanes.{stored_size}

@@ -1,4 +1,4 @@
--- What is left to show of `command_names::Command::named`.
+-- A command with another name isn't the first of that name.
 use Rattle.std.proofs.Common.{◌≡◌, ◌<◌, ◌+◌, ℕ, List, false, refl, sym, ap, ◌∙◌, length, get_or}
 use Rattle.std.proofs.Common.{drop}
 use Rattle.std.proofs.lemmas.List.{drop_more}

@@ -1,4 +1,4 @@
--- What holds in the loops of `command_names::Command::named`.
+-- A search from this command on finds what one from the first command on finds.
 use Rattle.std.proofs.Common.{◌≡◌, drop}
 use Rattle.aes_kat.specs.Reply.{command_of, commands, first_named}
 use Rattle.aes_kat.proofs.command_names.Command.named.Given as goal

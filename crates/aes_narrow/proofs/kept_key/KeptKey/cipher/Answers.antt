@@ -1,4 +1,4 @@
--- What is left to show of `kept_key::KeptKey::cipher`.
+-- The key that the words are read as has as many bytes as the struct says.
 use Rattle.std.proofs.Common.{◌≤◌, ◌∙◌, ap, arith, length}
 use Rattle.aes_narrow.specs.KeptWord.{kept_bits, kept_blocks}
 use Rattle.aes_narrow.proofs.KeyLength.{sized_key}

@@ -1,4 +1,4 @@
--- What holds in the loop of `rounds::all_rounds::add_round_key`.
+-- To add the round key to the blocks that are left gives every block with it.
 use Rattle.std.proofs.Common.{◌≡◌, map}
 use Rattle.aes_cipher.proofs.SliceRuns.{finished}
 use Rattle.aes_planes.specs.Fips197 as fips

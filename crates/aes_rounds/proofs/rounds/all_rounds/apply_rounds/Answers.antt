@@ -1,4 +1,4 @@
--- What is left to show of `rounds::all_rounds::apply_rounds`.
+-- The loop begins with the first round key added, and each turn is one round more.
 use Rattle.std.proofs.Common.{◌≡◌, ℕ, ◌+◌, ◌-◌, List, map, ap, ◌∙◌, arith}
 use Rattle.aes_planes.specs.Fips197 as fips
 use Rattle.aes_planes.proofs.Planes.Held.{map-map, map-same}

@@ -1,4 +1,4 @@
--- What holds in the loops of `rounds::all_rounds::apply_rounds`.
+-- Every block has gone through the rounds before this one.
 use Rattle.std.proofs.Common.{◌≡◌, ◌-◌, map}
 use Rattle.aes_planes.specs.Rounds.{rounds_after}
 use Rattle.aes_rounds.proofs.rounds.all_rounds.apply_rounds.Given as goal

@@ -1,4 +1,4 @@
--- What is left to show of `rounds::all_rounds::last_step`.
+-- A round under the zero key, with its mixing undone, is the last step.
 use Rattle.std.proofs.Common.{List, ℕ, map, replicate, ap, ◌∙◌}
 use Rattle.aes_planes.specs.Fips197 as fips
 use Rattle.aes_planes.proofs.Planes.Held.{map-map, map-same}

@@ -1,4 +1,4 @@
--- What holds in the loop of `rounds::all_rounds::round`.
+-- To apply the round to the blocks that are left gives every block after it.
 use Rattle.std.proofs.Common.{◌≡◌, ℕ, List, map}
 use Rattle.aes_cipher.proofs.SliceRuns.{finished}
 use Rattle.aes_planes.specs.Fips197 as fips

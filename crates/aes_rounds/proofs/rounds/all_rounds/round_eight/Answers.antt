@@ -1,4 +1,4 @@
--- What is left to show of `rounds::all_rounds::round_eight`.
+-- Eight blocks under eight copies of one round key.
 use Rattle.std.proofs.Common.{◌∙◌}
 use Rattle.aes_planes.specs.Fips197 as fips
 use Rattle.aes_planes.proofs.Planes.Held.{zip_with-replicate}

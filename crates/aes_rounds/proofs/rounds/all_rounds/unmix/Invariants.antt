@@ -1,4 +1,4 @@
--- What holds in the loop of `rounds::all_rounds::unmix`.
+-- To undo the mixing of the blocks that are left gives every block unmixed.
 use Rattle.std.proofs.Common.{◌≡◌, map}
 use Rattle.aes_cipher.proofs.SliceRuns.{finished}
 use Rattle.aes_rounds.proofs.rounds.all_rounds.unmix.Given as goal

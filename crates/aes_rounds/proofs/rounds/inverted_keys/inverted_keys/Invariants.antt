@@ -1,4 +1,4 @@
--- What holds in the loops of `rounds::inverted_keys::inverted_keys`.
+-- The first i round keys are those of EqInvCipher.
 use Rattle.std.proofs.Common.{◌≡◌, ◌<◌, ℕ, length, slice_index_or, []}
 use Rattle.aes_planes.specs.Fips197 as fips
 use Rattle.aes_rounds.proofs.rounds.inverted_keys.inverted_keys.Given as goal

@@ -1,4 +1,4 @@
--- What is left to show of `generator::CtrDrbg::answer`.
+-- A request's steps, one after the other, leave the working state that the standard says.
 use Rattle.std.proofs.Common.{◌≡◌, ◌∙◌, ◌+◌, ap, length, rules}
 use Rattle.ctr_drbg.proofs.States.{generated_by}
 use Rattle.ctr_drbg.proofs.generator.CtrDrbg.answer.Goals as goal

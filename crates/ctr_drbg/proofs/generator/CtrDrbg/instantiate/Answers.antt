@@ -1,4 +1,4 @@
--- What is left to show of `generator::CtrDrbg::instantiate`.
+-- A reseed of Key and V of zeros is an instantiation.
 use Rattle.std.proofs.Common.{[], ap, slice_index_or}
 use Rattle.ctr_drbg.proofs.States.{instantiated_by}
 use Rattle.ctr_drbg.proofs.generator.CtrDrbg.instantiate.Goals as goal

@@ -1,4 +1,4 @@
--- What is left to show of `generator::CtrDrbg::put_output`.
+-- V has moved on by as many turns as the output needs.
 use Rattle.std.proofs.Common.{◌≡◌, ◌∙◌, [], length, rules, slice_index_or}
 use Rattle.ctr_drbg.specs.CtrDrbg.{v_after, turns}
 use Rattle.ctr_drbg.proofs.generator.CtrDrbg.put_output.Goals as goal

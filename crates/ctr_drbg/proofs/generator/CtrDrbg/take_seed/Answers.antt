@@ -1,4 +1,4 @@
--- What is left to show of `generator::CtrDrbg::take_seed`.
+-- An update by the seed, with the counter set to 1, is a reseed.
 use Rattle.std.proofs.Common.{rules}
 use Rattle.ctr_drbg.proofs.States.{reseeded_by}
 use Rattle.ctr_drbg.proofs.generator.CtrDrbg.take_seed.Goals as goal

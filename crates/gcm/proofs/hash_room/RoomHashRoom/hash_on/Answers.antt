@@ -1,4 +1,4 @@
--- What is left to show of `hash_room::RoomHashRoom::hash_on`.
+-- Room with multiples of H, H^2 and H^3 hashes bytes in GCM's order.
 use Rattle.std.proofs.Common.{ℕ, ◌/◌, ◌∙◌, List, length}
 use Rattle.std.specs.Int.{w128, from_be_bytes}
 use Rattle.aes_cipher.specs.Blocks.{padded}

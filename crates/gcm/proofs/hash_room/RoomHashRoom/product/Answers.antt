@@ -1,4 +1,4 @@
--- What is left to show of `hash_room::RoomHashRoom::product`.
+-- A product by the multiples of H that the room has.
 use Rattle.std.proofs.Common.{◌∙◌}
 use Rattle.gcm.specs.Gcm.{product}
 use Rattle.gcm.proofs.hash_room.RoomHashRoom.product.Goals as goal

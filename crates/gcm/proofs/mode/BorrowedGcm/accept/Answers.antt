@@ -1,4 +1,4 @@
--- What is left to show of `mode::BorrowedGcm::accept`.
+-- A tag is accepted exactly if it is that of what has come.
 use Rattle.gcm.specs.declared.message.Phase.TheVariants.{Additional, Verifying}
 use Rattle.std.proofs.Common.{◌≢◌, ◌∙◌, sym, refl}
 use Rattle.gcm.proofs.mode.BorrowedGcm.accept.Goals as goal

@@ -1,4 +1,4 @@
--- What is left to show of `mode::BorrowedGcm::accept_short`.
+-- A tag is accepted exactly if its length is allowed and it is the first bytes of that of what has come.
 use Rattle.gcm.specs.declared.message.Phase.TheVariants.{Additional, Verifying}
 use Rattle.std.proofs.Common.{◌≢◌, ◌∙◌, sym, refl}
 use Rattle.gcm.proofs.mode.BorrowedGcm.accept_short.Goals as goal

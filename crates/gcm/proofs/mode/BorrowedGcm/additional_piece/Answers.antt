@@ -1,4 +1,4 @@
--- What is left to show of `mode::BorrowedGcm::additional_piece`.
+-- After one more piece of additional data the message has begun with all of it.
 use Rattle.std.proofs.Common.{◌≡◌, ℕ, ◌∙◌, ◌++◌, List, ap, arith, length-append, subst, sym}
 use Rattle.std.specs.Int.{w128, from_be_bytes}
 use Rattle.gcm.specs.Gcm.{hash_subkey}

@@ -1,4 +1,4 @@
--- What is left to show of `mode::BorrowedGcm::apply`.
+-- GCTR from its second block on is the text's, since the first one masks the tag.
 use Rattle.std.proofs.Common.{◌∙◌}
 use Rattle.aes_ctr.specs.CounterMode.{plus_stream}
 use Rattle.gcm.specs.Gcm.{text, pre_counter, gctr_byte, hash_subkey}

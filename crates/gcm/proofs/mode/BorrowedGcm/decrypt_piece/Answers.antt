@@ -1,4 +1,4 @@
--- What is left to show of `mode::BorrowedGcm::decrypt_piece`.
+-- A piece goes on where those before it end, so that together they are the text's decryption.
 use Rattle.std.proofs.Common.{ℕ, ◌+◌, ◌∙◌, List, ap, arith}
 use Rattle.std.specs.Int.{w128, from_be_bytes}
 use Rattle.aes_ctr.specs.CounterMode.{plus_stream}

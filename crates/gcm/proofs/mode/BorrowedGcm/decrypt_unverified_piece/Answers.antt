@@ -1,4 +1,4 @@
--- What is left to show of `mode::BorrowedGcm::decrypt_unverified_piece`.
+-- A piece is hashed as it came, and decrypted from where those before it end.
 use Rattle.std.proofs.Common.{ℕ, ◌+◌, ◌∙◌, List, ap, arith}
 use Rattle.std.specs.Int.{w128, from_be_bytes}
 use Rattle.aes_ctr.specs.CounterMode.{plus_stream}

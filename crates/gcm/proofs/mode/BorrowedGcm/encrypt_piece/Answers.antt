@@ -1,4 +1,4 @@
--- What is left to show of `mode::BorrowedGcm::encrypt_piece`.
+-- A piece is encrypted from where those before it end, and then hashed.
 use Rattle.std.proofs.Common.{ℕ, ◌+◌, ◌∙◌, ◌++◌, List, ap, arith, length}
 use Rattle.std.specs.Int.{w128, from_be_bytes}
 use Rattle.aes_ctr.specs.CounterMode.{plus_stream}

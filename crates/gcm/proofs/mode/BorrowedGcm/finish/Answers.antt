@@ -1,4 +1,4 @@
--- What is left to show of `mode::BorrowedGcm::finish`.
+-- The tag of what was encrypted, also if no text came.
 use Rattle.gcm.specs.declared.message.Phase.TheVariants.{Additional, Encrypting}
 use Rattle.std.proofs.Common.{◌≢◌}
 use Rattle.gcm.proofs.mode.BorrowedGcm.finish.Goals as goal

@@ -1,4 +1,4 @@
--- What is left to show of `mode::BorrowedGcm::hash_rest`.
+-- Zeros behind the block that isn't whole close the additional data, or the text.
 use Rattle.std.proofs.Common.{◌≡◌, ℕ, ◌/◌, ◌%◌, ◌∙◌, List, ap, arith, length, sym, take}
 use Rattle.std.specs.Int.{w128, from_be_bytes}
 use Rattle.aes_cipher.specs.Blocks.{padded}

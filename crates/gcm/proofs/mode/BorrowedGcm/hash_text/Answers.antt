@@ -1,4 +1,4 @@
--- What is left to show of `mode::BorrowedGcm::hash_text`.
+-- After one more piece the message has all of its text hashed.
 use Rattle.std.proofs.Common.{◌≡◌, ℕ, ◌∙◌, ◌++◌, List, ap, arith, length-append, subst, sym}
 use Rattle.std.specs.Int.{w128, from_be_bytes}
 use Rattle.gcm.specs.Gcm.{hash_subkey}

@@ -1,4 +1,4 @@
--- What is left to show of `mode::BorrowedGcm::is_tag_so_far`.
+-- The comparison with the tag that was written is one with the standard's.
 use Rattle.std.proofs.Common.{◌∙◌, sym}
 use Rattle.gcm.proofs.Messages.Hashing.{one_block_of}
 use Rattle.gcm.proofs.mode.BorrowedGcm.is_tag_so_far.Goals as goal

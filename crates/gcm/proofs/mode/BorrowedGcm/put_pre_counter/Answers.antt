@@ -1,4 +1,4 @@
--- What is left to show of `mode::BorrowedGcm::put_pre_counter`.
+-- J_0 of a nonce of 12 bytes, and of any other length by its hash.
 use Rattle.std.proofs.Common.{ℕ, List, ◌++◌, ◌∙◌, ap, sym, bit_xor, replicate}
 use Rattle.std.specs.Int.{w128, from_be_bytes}
 use Rattle.gcm.specs.Gcm.{bit_length, hash_subkey, pre_counter, product}

@@ -1,4 +1,4 @@
--- What is left to show of `mode::BorrowedGcm::put_tag`.
+-- The hash of a whole message under the mask of J_0 is its tag.
 use Rattle.std.proofs.Common.{◌∙◌, ap}
 use Rattle.std.specs.Int.{w128, to_be_bytes, from_be_bytes}
 use Rattle.gcm.specs.Gcm.{tag, hash, hash_subkey, gctr}

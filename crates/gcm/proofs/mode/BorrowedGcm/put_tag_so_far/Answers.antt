@@ -1,4 +1,4 @@
--- What is left to show of `mode::BorrowedGcm::put_tag_so_far`.
+-- The hash of what came in pieces, with the lengths that were counted, under the mask of J_0.
 use Rattle.std.proofs.Common.{◌≡◌, ℕ, ◌*◌, ◌/◌, ◌∙◌, ◌++◌, inl, inr, ap, arith, bit_xor, length}
 use Rattle.std.specs.Int.{w64, w128, to_be_bytes, from_be_bytes}
 use Rattle.aes_cipher.specs.Blocks.{padded}

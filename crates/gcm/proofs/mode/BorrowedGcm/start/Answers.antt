@@ -1,4 +1,4 @@
--- What is left to show of `mode::BorrowedGcm::start`.
+-- A message has begun with no additional data.
 use Rattle.std.proofs.Common.{arith, refl}
 use Rattle.gcm.specs.Gcm.{hashed}
 use Rattle.gcm.proofs.mode.BorrowedGcm.start.Goals as goal

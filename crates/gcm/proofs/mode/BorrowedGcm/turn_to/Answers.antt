@@ -1,4 +1,4 @@
--- What is left to show of `mode::BorrowedGcm::turn_to`.
+-- The first piece of text closes the additional data, and every later one finds the message in its text.
 use Rattle.std.proofs.Common.{◌≡◌, ◌∙◌, inl, inr, ap, arith, length, sym, rules}
 use Rattle.std.specs.Int.{w128, from_be_bytes}
 use Rattle.gcm.specs.Gcm.{hash_subkey}

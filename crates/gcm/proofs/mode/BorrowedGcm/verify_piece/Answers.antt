@@ -1,4 +1,4 @@
--- What is left to show of `mode::BorrowedGcm::verify_piece`.
+-- A piece is hashed as it came.
 use Rattle.gcm.specs.declared.message.Phase.TheVariants.{Verifying}
 use Rattle.gcm.proofs.mode.BorrowedGcm.verify_piece.Goals as goal
 

@@ -1,4 +1,4 @@
--- What is left to show of `multiples::BothProductRows::at`.
+-- The sum of two rows is the row of the sum.
 use Rattle.gcm.proofs.Tables.RowSums.{rows_summed}
 use Rattle.gcm.proofs.multiples.BothProductRows.at.Goals as goal
 

@@ -1,4 +1,4 @@
--- What is left to show of `multiples::ByTableProductRows::at`.
+-- Rows r and 8 + r of a product, looked up by the nibbles of its other factor.
 use Rattle.std.proofs.Common.{List, ℕ, sym}
 use Rattle.gcm.proofs.Tables.RowPairs.{rows_in_halves}
 use Rattle.gcm.proofs.Tables.RowSums.{rows_found}

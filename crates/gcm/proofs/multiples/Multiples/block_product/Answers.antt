@@ -1,4 +1,4 @@
--- What is left to show of `multiples::Multiples::block_product`.
+-- A product by the first of the three tables, which is that of H.
 use Rattle.std.proofs.Common.{◌∙◌, ap, refl}
 use Rattle.std.specs.Int.{w128, from_be_bytes}
 use Rattle.gcm.specs.Gcm.{product}

@@ -1,4 +1,4 @@
--- What is left to show of `multiples::Multiples::tables`.
+-- Which part of the room is the table of H, of H^2 and of H^3.
 use Rattle.std.proofs.Common.{◌∙◌, ap, sym, take, drop}
 use Rattle.gcm.specs.Gcm.{product}
 use Rattle.gcm.proofs.Tables.Rows.{first_in, second_in, third_in, room_below}

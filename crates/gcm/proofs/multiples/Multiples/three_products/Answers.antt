@@ -1,4 +1,4 @@
--- What is left to show of `multiples::Multiples::three_products`.
+-- The rows of three products, summed before they are shifted, are those of the sum.
 use Rattle.std.proofs.Common.{ℕ, ◌∙◌, bit_xor}
 use Rattle.std.specs.Int.{w128, from_be_bytes}
 use Rattle.gcm.specs.Multiples.{row_number, rows_after}

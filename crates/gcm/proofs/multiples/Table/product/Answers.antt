@@ -1,4 +1,4 @@
--- What is left to show of `multiples::Table::product`.
+-- A product by the block that contracts see in the table.
 use Rattle.std.proofs.Common.{◌∙◌, ap}
 use Rattle.std.specs.Int.{w128, from_be_bytes}
 use Rattle.gcm.specs.Gcm.{product}

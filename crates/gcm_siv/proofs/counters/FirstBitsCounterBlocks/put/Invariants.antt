@@ -1,4 +1,4 @@
--- What holds in the loop of `counters::FirstBitsCounterBlocks::put`.
+-- The counter is that of block i, and the blocks before it are written.
 use Rattle.std.proofs.Common.{◌≡◌, ℕ, ◌+◌, ◌<◌, [], get_or}
 use Rattle.gcm_siv.specs.GcmSiv.{counter, counter_block}
 use Rattle.gcm_siv.proofs.counters.FirstBitsCounterBlocks.put.Given as goal

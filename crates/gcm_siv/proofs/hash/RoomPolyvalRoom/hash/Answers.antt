@@ -1,4 +1,4 @@
--- What is left to show of `hash::RoomPolyvalRoom::hash`.
+-- POLYVAL by GCM's products, three blocks at a time: with H times x^-1, and bytes in the other order.
 use Rattle.std.proofs.Common.{ℕ, List, ◌/◌, ◌∙◌, ap, bit_xor, length}
 use Rattle.std.specs.Int.{w128, from_le_bytes, to_le_bytes}
 use Rattle.aes_cipher.specs.Blocks.{padded}

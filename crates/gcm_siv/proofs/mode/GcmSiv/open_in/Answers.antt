@@ -1,4 +1,4 @@
--- What is left to show of `mode::GcmSiv::open_in`.
+-- Under the derived keys a tag is judged, and a text decrypted, as under the key and the nonce.
 use Rattle.std.proofs.Common.{◌∙◌, ℕ, ap, sym}
 use Rattle.std.specs.Int.{w128, from_le_bytes}
 use Rattle.gcm_siv.specs.GcmSiv.{authentication_key, tag, tag_under, text, text_under}

@@ -1,4 +1,4 @@
--- What is left to show of `mode::GcmSiv::prepare`.
+-- Both derived keys are those of the nonce under the key of the cipher.
 use Rattle.std.proofs.Common.{◌≡◌, ◌∙◌, ◌+◌, ◌/◌, ◌^◌, ◌<◌, ap, length, subst, sym, take}
 use Rattle.std.specs.Int.{w128, from_le_bytes}
 use Rattle.aes_planes.specs.Fips197.{key_expansion}

@@ -1,4 +1,4 @@
--- What is left to show of `mode::GcmSiv::seal_in`.
+-- Under the derived keys tag and text are those of the key and the nonce.
 use Rattle.std.proofs.Common.{◌∙◌, ℕ, ap}
 use Rattle.std.specs.Int.{w128, from_le_bytes}
 use Rattle.gcm_siv.specs.GcmSiv.{authentication_key, tag, tag_under, text, text_under}

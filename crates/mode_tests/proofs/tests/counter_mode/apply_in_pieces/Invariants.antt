@@ -1,4 +1,4 @@
--- What holds in the loop of `tests::counter_mode::apply_in_pieces`.
+-- A piece begins inside the bytes.
 use Rattle.std.proofs.Common.{◌≤◌, length}
 use Rattle.mode_tests.proofs.tests.counter_mode.apply_in_pieces.Given as goal
 

@@ -1,4 +1,4 @@
--- What holds in the loop of `tests::counter_mode::two_keys::encrypt_each`.
+-- To encrypt the blocks that are left gives every block encrypted.
 use Rattle.std.proofs.Common.{◌≡◌, [], ◌∷◌, map}
 use Rattle.aes_planes.specs.Fips197.{cipher_with}
 use Rattle.aes_cipher.proofs.SliceRuns.{finished}

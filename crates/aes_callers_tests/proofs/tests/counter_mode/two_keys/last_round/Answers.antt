@@ -1,4 +1,4 @@
--- What is left to show of `tests::counter_mode::two_keys::last_round`.
+-- InvMixColumns takes MixColumns out of a round under the zero key, which leaves the last round.
 use Rattle.std.proofs.Common.{◌∙◌, ap}
 use Rattle.aes_planes.specs.Fips197 as fips
 use Rattle.aes.proofs.SingleRounds.{mixing_undone}

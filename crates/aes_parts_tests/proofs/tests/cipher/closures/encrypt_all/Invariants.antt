@@ -1,4 +1,4 @@
--- What holds in the loops of `tests::cipher::closures::encrypt_all`.
+-- Of two loops, over batches and over single blocks: to finish what is left gives every block encrypted.
 use Rattle.std.proofs.Common.{length, ◌-◌, ◌≡◌, ◌≤◌, map}
 use Rattle.aes_planes.specs.Fips197.{cipher_with}
 use Rattle.aes_cipher.proofs.SliceRuns.{finished}

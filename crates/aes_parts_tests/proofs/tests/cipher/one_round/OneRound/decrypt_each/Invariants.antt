@@ -1,4 +1,4 @@
--- What holds in the loop of `tests::cipher::one_round::OneRound::decrypt_each`.
+-- To decrypt the blocks that are left gives every block decrypted.
 use Rattle.std.proofs.Common.{◌≡◌, [], ◌∷◌, map}
 use Rattle.aes_planes.specs.Fips197.{inv_cipher_with}
 use Rattle.aes_cipher.proofs.SliceRuns.{finished}

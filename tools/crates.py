@@ -1,0 +1,31 @@
+"""The crates of this repository as crates.txt lists them, and sums of what they are made of: for all that needs no toolchain."""
+import hashlib
+import pathlib
+import re
+
+TOP = pathlib.Path(__file__).resolve().parent.parent
+# Each crate with its sentence and the words behind its name.
+LINES = re.findall(r"^# (.*)\n(\w+)(?: staticlib)?:(.*)$", (TOP / "crates.txt").read_text(encoding="utf-8"), re.M)
+SENTENCES = {name: sentence for sentence, name, _ in LINES}
+# Each crate with those that it names. (One may be of the toolchain's own library, and isn't here.)
+NAMED = {name: [it for it in words.split() if it in SENTENCES] for _, name, words in LINES}
+
+
+def below(crate):
+    """The crates that a crate depends on, each after those that it depends on itself."""
+    return list(dict.fromkeys(it for name in NAMED[crate] for it in [*below(name), name]))
+
+
+def sum_of(content):
+    return hashlib.sha256(content).hexdigest()
+
+
+def listed_sums(files):
+    """Files with their sums, a line for each, as sha256sum prints them."""
+    return "".join(f"{sum_of(it.read_bytes())}  {it.relative_to(TOP)}\n" for it in files)
+
+
+def sum_of_sources(crate):
+    """One sum of all that a crate is made of: that of its files' sums."""
+    files = (it for part in ("src", "specs", "proofs") for it in (TOP / "crates" / crate / part).rglob("*") if it.is_file())
+    return sum_of(listed_sums(sorted(files)).encode())
