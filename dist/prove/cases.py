@@ -12,11 +12,12 @@ from riscv import Riscv
 from x86_64 import X86_64
 
 # A statement (a method of KeyedAes, KeyedGcm or KeyedSiv), what its arguments are, and lists of these. Keys of 16 bytes take `few` with each
-# build, and `full` with those for x86-64 and ARM, but not with `_v1` and those for Windows, which are compiled from what these are. With
-# PROVE=builds x86_64/aes.s and x86_64/gcm.s also take `first`. With PROVE=all those that take `full` take all of these, and the others `full`.
-# Without PROVE a row with every length has `short` in the place of `full`, if it says so, and for `_v3` in any case: what code needs, so that all of it runs that has
-# to (uncovered.py). Keys of 24 and 32 bytes take `other` with the builds that take `full`: each call once, and the code that loops over round
-# keys; with PROVE=all with each build, and `few` and `full` with those. (Which builds there are, PROVE says too: prove.py.)
+# build, and `full` with the builds that takes_few (linking.py) doesn't name: those that it names are compiled from what the others are. With
+# PROVE=builds x86_64/aes.s and x86_64/gcm.s also take `first`. With PROVE=all the builds that take `full` take the whole row, and the others
+# `full`. Without PROVE a row with every length has `short` in the place of `full`, if it isn't None, and with `_v3` in any case: what has to
+# run, so that uncovered.py is content. Keys of 24 and 32 bytes take `other` with the builds that take `full`: each call once, and the code
+# that loops over round keys. With PROVE=all these take `few` and `full`, and the other builds `other`. (Which builds there are, PROVE says
+# too: prove.py.)
 Row = collections.namedtuple("Row", "name what few full first more other short", defaults=[(), (), (), (), (), None])
 ONCE = [()]  # no arguments
 
@@ -65,7 +66,8 @@ AES_ROWS = [
     Row("any_cmac_verify", "the same, also of what is refused: r and the tag's length", few=[(1, 16)], first=[(1, 11)],
         more=[(4, tag) for tag in modes.CMAC_TAGS]),
     Row("cmac", "the number of bytes", full=[0, 1, 16], other=[1]),
-    Row("cmac_verify", "the number of bytes and the tag's length, also of what is refused", full=[(0, tag) for tag in modes.CMAC_TAGS], other=[(0, 4)]),
+    Row("cmac_verify", "the number of bytes and the tag's length, also of what is refused", full=[(0, tag) for tag in modes.CMAC_TAGS],
+        other=[(0, 4)]),
     *(Row(call, "16 a + b bytes of additional data, none if b is 0, and 256 n + r of text for every a and n: the lengths of nonce, b, r, tag; "
           "the encoded length of additional data takes 2 bytes, or 6 or 10 if it says so", full=full, first=first,
           more=[(13, 0, 16, 16), (9, 15, 255, 4, 6), (11, 9, 0, 6, 10), (8, 16, 33, 8, 6), (8, 16, 33, 8, 10)])
@@ -80,12 +82,13 @@ AES_ROWS = [
     *ROUNDS]
 
 OF_SHORT_WORDS = [
-    Row("add_keystream", "the same, and how many words of 32 bits above the lowest one carry too", few=[(5, 40, 2, "", 1)], full=[(5, 40, 2, "", 2)])]
+    Row("add_keystream", "the same, and how many words of 32 bits above the lowest one carry too", few=[(5, 40, 2, "", 1)],
+        full=[(5, 40, 2, "", 2)])]
 
 # Nonces of other lengths than 12: of so many bytes, where J_0 ends in these bytes; or any J_0 of which the counter doesn't wrap in the text.
 CARRIED = 7, 0, 255, 255
 NONCES = gcm.UNKNOWN, (1, 2 ** 32 - 1, CARRIED), (60, 2 ** 32 - 2, CARRIED)
-CARRIES = [2 ** k - 1 for k in (64, 72, 80, 88)] + [2 ** 96 - 2]  # of the counter of `_next`; None: any without a carry
+CARRIES = [*map(gcm.CarryTo, (3, 2, 1, 0)), 2 ** 96 - 2]  # of the counter of `_next`; None: any without a carry
 MANY = 2 ** 35  # bytes, so that counts and positions don't fit into 32 bits
 WRAPS = 8, 2 ** 32 - 3, CARRIED  # the counter wraps in the text
 TAGS = 4, 8, 12, 13, 14, 15
@@ -116,9 +119,10 @@ GCM_ROWS = [
         full=[(0, 0), (13, 0), (0, 0, (), "_to"), (3, 20, gcm.UNKNOWN)], more=[(3, 20, nonce) for nonce in NONCES[1:]],
         other=[(13, 33), (0, 0, (), "_to")]),
     Row("begin", "the nonce", few=[(), *((nonce,) for nonce in NONCES)], other=[()]),
-    Row("seal_next", "the lengths of additional data and text, and the counter", few=[(3, 1, None)],
+    Row("seal_next", "the lengths of additional data and text, and the counter: if a carry comes to a byte, this one is any, those behind it are "
+        "255, and those before it 0", few=[(3, 1, None)],
         full=[(3, 1, counter) for counter in CARRIES], other=[(3, 1, None)]),
-    Row("begin_next", "the counter", few=[None], full=CARRIES, other=[None]),
+    Row("begin_next", "the counter, as above", few=[None], full=CARRIES, other=[None]),
     Row("additional", "how many bytes came before, and how many come", few=[(3, 13)],
         full=[(3, 100), (0, 0), (0, 5), (32, 48), (2 ** 32 - 3, 13), (MANY, 7)], other=[(3, 13)]),
     Row("piece", "the call; " + STATE + "; the number of bytes", few=[(call, gcm.ADDITIONAL, 5, 0, 3) for call in PHASES],
@@ -169,14 +173,16 @@ def rows_of(library, machine):
     if not issubclass(machine, Riscv):
         return rows
     kept = lambda row, some: [v for v in some or () if not left_out(library, machine.word, row.name, v if isinstance(v, tuple) else (v,))]
-    return [Row(row.name, row.what, *(kept(row, some) for some in row[2:])) for row in rows] + OF_SHORT_WORDS * (library == "aes" and machine.word == 4)
+    short_words = OF_SHORT_WORDS if library == "aes" and machine.word == 4 else []
+    return [Row(row.name, row.what, *(kept(row, some) for some in row[2:])) for row in rows] + short_words
 
 
 def left_out(library, word, name, values):
     if name.startswith("any_") and library != "aes":
         return word == 4 or library == "siv" or name not in ("any_seal", "any_open", "any_seal_next", "any_begin") or len(values) > 3
     if word == 4 and library == "aes":
-        return re.search("any_.*(keystream|ccm)", name) or "_to" in values and name == "any_blocks" or name == "add_keystream" and values[0] >= 2 ** 36
+        is_late = name == "add_keystream" and values[0] >= 2 ** 36
+        return is_late or re.search("any_.*(keystream|ccm)", name) or "_to" in values and name == "any_blocks"
     any_j_0 = any(type(v) is tuple and None in v for v in values)
     return word == 4 and library == "gcm" and (any_j_0 and name in ("seal", "open") or None in values and name.endswith("_next"))
 

@@ -249,7 +249,9 @@ FAULTS = {
          r"cmpq\t$0, 16(\2)\n\tje\t77f\n\t\g<1>77:\n", "gcm_decrypt refused 8"),
         ("more decrypted than was verified", exported("gcm_decrypt"), r"\tcmovbq\t.*\n", "", "gcm_decrypt refused 14"),
         ("a nonce again after 2^72", exported("gcm_seal_next"), r"incl\t%e([abcd])x", r"incb\t%\1l",
-         "seal_next 3 1 4722366482869645213695"),
+         "seal_next 3 1 carry to byte 3"),
+        ("a nonce again at 6 * 2^64", exported("gcm_seal_next"), r"incl\t%e([abcd])x", r"movl\t%e\1x, %r11d\n\tincl\t%e\1x\n\tcmpl\t$5, %r11d\n"
+         r"\tsete\t%r11b\n\tmovzbl\t%r11b, %r11d\n\tsubl\t%r11d, %e\1x\n\txorl\t%r11d, %r11d", "seal_next 3 1 carry to byte 3"),
         ("a bit of the key in a flag after a message under the counter's next nonce", exported("gcm_seal_next"),
          r"(# %join\.3\.i\n)([\s\S]*?)\taddq\t\$24, %rsp\n([\s\S]*?)\txorl\t%r11d, %r11d\n\tretq\n", r"\1\tmovq\t%rdi, 16(%rsp)\n\2"
          r"\tmovq\t16(%rsp), %r11\n\taddq\t$24, %rsp\n\3\ttestb\t$1, 4(%r11)\n\tmovl\t$0, %r11d\n\tretq\n", "seal_next 3 1 None"),

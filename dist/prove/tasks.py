@@ -79,8 +79,8 @@ class Task:
             if what in self.beside() and not PROCESSORS[self.machine].missing():
                 self.compared |= set(prove(SEED).used)
             self.proved += 1
-        except Unproved as e:
-            text = "NOT PROVED: %s" % e
+        except Exception as e:  # also a fault of this program, which doesn't end the others
+            text = "NOT PROVED: %s" % (e if isinstance(e, Unproved) else repr(e))
             self.failed += 1
         if self.options.lines or text.startswith("NOT"):
             print("%s, %s: %s; %.1f s" % (self.name, what, text, time.process_time() - start), flush=True)
