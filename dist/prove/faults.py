@@ -209,6 +209,8 @@ FAULTS = {
         ("the bytes of a tag moved by one", exported("aes_cmac"), r"(\tmovaps\t\(%rsp\), (%xmm\d+)\n)", r"\1\tpsrldq\t$1, \2\n", "cmac 1"),
         ("another constant for subkeys", CMAC_TAG, r"andl\t\$135, ", "andl\t$134, ", "cmac 16"),
         ("the last byte of a tag not compared", CMAC_COMPARE, r"(\tcallq\t\*memcpy.*\n)", r"\tdecq\t%rdx\n\1", "cmac_verify 0 4"),
+        ("four bytes compared of a tag of five", CMAC_COMPARE, r"(\tcallq\t\*memcpy.*\n)",
+         r"\txorl\t%eax, %eax\n\tcmpq\t$5, %rdx\n\tsete\t%al\n\tsubq\t%rax, %rdx\n\1", "cmac_verify 0 5"),
         ("a text under the counter block of the tag", CCM_SEAL, r"movl\t\$16, %edx(\n(?:\t.*\n){0,8}" + CCM_STREAM + ")",
          r"movl\t$0, %edx\1", "ccm_seal 7 0 1 4"),
         ("a refused text of CCM not encrypted again", CCM_OPEN, "(%s" % call("aes_cipher::blocks::difference") + r"[\s\S]*?)" + CCM_STREAM, r"\1",
