@@ -81,8 +81,10 @@ AES_ROWS = [
       for call in ("ccm_seal", "ccm_open")),
     *ROUNDS]
 
-OF_SHORT_WORDS = [
-    Row("add_keystream", "the same, and how many words of 32 bits above the lowest one carry too", few=[(5, 40, 2, "", 1)],
+OF_SHORT_WORDS = [  # where calls of every length aren't proved (left_out)
+    Row("blocks", "as above", few=[(way, n, "_to") for way in DIRECTIONS for n in (1, 2)]),
+    Row("cmac", "as above", few=[17]), Row("cmac_verify", "as above", few=[(17, 16)]),
+    Row("add_keystream", "as above, and how many words of 32 bits above the lowest one carry too", few=[(5, 40, 2, "", 1)],
         full=[(5, 40, 2, "", 2)])]
 
 # Nonces of other lengths than 12: of so many bytes, where J_0 ends in these bytes; or any J_0 of which the counter doesn't wrap in the text.
@@ -182,7 +184,7 @@ def left_out(library, word, name, values):
         return word == 4 or library == "siv" or name not in ("any_seal", "any_open", "any_seal_next", "any_begin") or len(values) > 3
     if word == 4 and library == "aes":
         is_late = name == "add_keystream" and values[0] >= 2 ** 36
-        return is_late or re.search("any_.*(keystream|ccm)", name) or "_to" in values and name == "any_blocks"
+        return is_late or re.search("any_.*(keystream|wrap|cmac|ccm)", name) or "_to" in values and name == "any_blocks"
     any_j_0 = any(type(v) is tuple and None in v for v in values)
     return word == 4 and library == "gcm" and (any_j_0 and name in ("seal", "open") or None in values and name.endswith("_next"))
 

@@ -32,7 +32,7 @@ Keys of 16 bytes have each refusal, and other keys one for each call and status.
 RISCV = """
 ## RISC-V
 
-`riscv32/aes.s` also takes this row. Below it are the entries of *each* and *most* that RISC-V leaves out.
+`riscv32/aes.s` also takes these rows. Below them are the entries of *each* and *most* that RISC-V leaves out.
 """
 TITLES = {"aes": "fotsgure_aes.h", "gcm": "fotsgure_gcm.h", "siv": "fotsgure_gcm.h: AES-GCM-SIV"}
 COLUMNS = "few", "full", "short", "first", "other", "more"
