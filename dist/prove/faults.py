@@ -378,6 +378,8 @@ UNREACHED = {
     "x86_64/aes": [
         ("jumps that never go", WIPE, ENTRY, r"\1\txorl\t%eax, %eax\n\ttestl\t%eax, %eax\n" + MORE_THAN_LISTED * r"\tjne\t77f\n77:\n", "wipe"),
         ("an instruction that never runs", WIPE, ENTRY, r"\1\tjmp\t77f\n\tmovb\t$1, (%rdi)\n77:\n", "wipe"),
+        ("nothing wiped where the code's address has a byte", function("aes_cipher::zeroize::zeroize_words"), ENTRY, r"\1\tleaq\t0(%rip), %rax\n"
+         r"\tshrq\t$36, %rax\n\tandl\t$255, %eax\n\tcmpl\t$0x55, %eax\n\tjne\t77f\n\tmovq\t$0, (%rdi)\n\tretq\n77:\n", "blocks encrypt 17"),
         ("carries that never come", WIPE, ENTRY, r"\1\txorl\t%eax, %eax\n" + MORE_THAN_LISTED * r"\tadcq\t$0, %rax\n", "wipe"),
     ],
 }
