@@ -18,6 +18,8 @@ class Access:
         """A write of 4 bytes clears the rest of the register, one of 1 or 2 leaves it."""
         if isinstance(o, Memory):
             self.store(self.address(o), self.to_bytes(v, o.size), o.align)
+        elif o.name in self.reserved:
+            raise Unproved("changes %s" % o.name)
         elif o.size == self.word:
             self.general[o.name] = v
         else:

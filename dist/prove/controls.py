@@ -12,6 +12,7 @@ import uncovered
 from bits import Unproved
 from cases import LIBRARIES, statements
 from faults import FAULTS, UNREACHED
+from lines import refuse_lines
 from linking import BUILDS, assembled, source, takes_few
 from long_faults import LONG_FAULTS
 from native import NEVER_ALONE, compare_all
@@ -60,7 +61,8 @@ def faults(options, build):
 
     def prove(case):
         keyed.program = assembled(build, out + ".s", out)
-        return keyed.proved(cases[case]) if cases[case] else type(keyed)(keyed.program, 16).set_key()
+        keyed.proved(cases[case]) if cases[case] else type(keyed)(keyed.program, 16).set_key()
+        refuse_lines(out + ".s", BUILDS[build])
 
     def cover(case, function):
         prove(case)

@@ -5,11 +5,12 @@ from collections import namedtuple
 
 from bits import Unproved
 
-Section = namedtuple("Section", "name kind flags address content entry link info")
+Section = namedtuple("Section", "name kind flags address content size entry link info")
 Symbol = namedtuple("Symbol", "name binding kind visibility section value")
 Relocation = namedtuple("Relocation", "offset kind symbol addend")
 
-CONTENT, SYMBOLS, RELOCATIONS, NO_BITS, DYNAMIC_SYMBOLS, GROUP = 1, 2, 4, 8, 11, 17  # kinds of sections
+# Kinds of sections.
+CONTENT, SYMBOLS, STRINGS, RELOCATIONS, NOTE, NO_BITS, DYNAMIC_SYMBOLS, RISCV_ATTRIBUTES = 1, 2, 3, 4, 7, 8, 11, 0x70000003
 WRITTEN, LOADED, MERGED, FLAGS = 1, 2, 16, 7  # flags of sections; FLAGS: whether they are written, loaded and run
 LOCAL, GLOBAL = 0, 1  # of symbols
 DEFAULT, HIDDEN = 0, 2
@@ -27,7 +28,7 @@ class Elf:
         headers = [struct.unpack_from("<10I" if self.narrow else "<IIQQQQIIQQ", self.raw, table + k * size) for k in range(count)]
         name = lambda header: self.text(headers[names][4] + header[0])
         content = lambda header: b"" if header[1] == NO_BITS else self.raw[header[4]:header[4] + header[5]]
-        self.sections = [Section(name(h), *h[1:4], content(h), h[9], *h[6:8]) for h in headers]
+        self.sections = [Section(name(h), *h[1:4], content(h), h[5], h[9], *h[6:8]) for h in headers]
         self.offsets = [header[4] for header in headers]
 
     def text(self, at):
@@ -138,7 +139,7 @@ class Comparison:
 
     def lies(self, elf, symbol, address, behind=0):
         """Says that so many bytes behind a symbol of an object are here in the library. (Of a section that is merged each entry has a place
-        of its own.)"""
+        of its own, and a label no more than one: lines.py.)"""
         section, at = elf.sections[symbol.section], symbol.value + behind
         if section.flags & MERGED:
             if self.library.bytes_at(address, section.entry) != section.content[at:at + section.entry]:

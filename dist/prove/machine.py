@@ -42,9 +42,10 @@ from unknowns import Unknowns
 
 
 class Machine(Arithmetic, Unknowns, Bytewise, Access):
-    pushed, kept_vectors, shadow, stack_step, also_called, mark = (), {}, 0, 1, (), ""
+    pushed, kept_vectors, shadow, stack_step, also_called, mark, to_mark = (), {}, 0, 1, (), "", "(?!)"
+    reserved = ()  # registers that may not change, as a signal's handler or the system may use them at any time
     word, most, flag_names = 8, WORD, "czso"
-    start, strict, relaxed = 0x123456700000, False, False
+    start, strict, relaxed, comment, avx512 = 0x123456700000, False, False, "#", b""
 
     def __init__(self, domain, program, regions, entry, arguments):
         """regions: {name: Region}, among them "stack": what is below the return address. (`enter` adds what the caller has put there.)"""
@@ -92,8 +93,10 @@ class Machine(Arithmetic, Unknowns, Bytewise, Access):
 
     # Flags.
     def set_flags(self, **flags):
-        """Flags that aren't named become undefined."""
-        self.flags = dict.fromkeys(self.flag_names)
+        """Flags that aren't named become undefined. If one tells of a secret, so may they."""
+        all_named = len(flags) == len(self.flag_names)
+        secret = not all_named and any(map(self.is_secret, (*self.flags.values(), *flags.values())))
+        self.flags = dict.fromkeys(self.flag_names, SECRET if secret else None)
         self.flags.update(flags)
 
     def decide(self, flag):

@@ -11,7 +11,8 @@ import time
 import uncovered
 from domain import Domain
 from headers import header_cases, riscv_header_cases
-from linking import BUILDS, HERE, MACHINES, Built, built_cases, choice_cases, library_of, rust_cases, suffix_of, takes_few, text_of
+from linking import (BUILDS, HERE, MACHINES, Built, built_cases, choice_cases, library_of, line_cases, rust_cases, suffix_of, takes_few,
+                     text_of)
 from processors import PROCESSORS
 from program import Program
 from standards import pinned
@@ -138,7 +139,7 @@ def main():
     all_built = libraries_of(options)
     headers = itertools.chain(header_cases(options.dist), riscv_header_cases(options.dist, options.builds))
     proved, failed = said(itertools.chain(headers, *map(built_cases, all_built), *(
-        choice_cases(built, options.dist, options.out) for built in all_built), rust_cases(options.dist, options.out, options.objects)))
+        choice_cases(built, options.dist, options.out) for built in all_built), line_cases(options.dist, options.builds), rust_cases(options.dist, options.out, options.objects)))
     with pool_of(options.jobs, max_tasks_per_child=1) as pool:
         for task in run_all(pool, options):
             print("%s: %d proved, %d failed, %.0f s" % (task.name, task.proved, task.failed, task.seconds), flush=True)

@@ -28,7 +28,7 @@ class Riscv(Machine):
     registers, stack_pointer, stack_step = NAMES, "sp", 1
     vector_count, vector_size = 0, 0
     arguments, result = A, "a0"
-    kept = ["sp", "gp", "tp", *S]
+    kept, reserved = ["sp", "gp", "tp", *S], ("gp", "tp")
     scratch = A + ["t%d" % n for n in range(7)]
     red_zone, strict, relaxed, flag_names = 0, True, True, ""
     jumps = r"(?:c\.)?(?:j|b[a-z]+)|jal(?=\tzero)"
