@@ -9,15 +9,17 @@ from collections import namedtuple
 
 from bits import LOST, Unproved
 from linear import is_number, refuted, replaced, terms, unknown, wrapped
-from operands import FARTHEST, Number, Pointer, is_int, is_pointer, lanes
+from operands import FARTHEST, SECRET, Number, Pointer, is_int, is_pointer, lanes
 from regions import Window
 from unknowns import WRAPPED
+
+FLAG = "a flag"  # a difference of two states
 
 # The last time at the head of a loop: how many comparisons were decided before it; the state after the first pass, with what was decided
 # in that; and the general state (see General).
 Visit = namedtuple("Visit", "mark first facts general", defaults=[None, None, None])
 # The unknown for the number of passes; the state; the facts of it that are guessed; by how many blocks a pass moves on; and what it was
-# made of: two Visits, and which guesses were wrong: facts, and registers that were alike after the first passes.
+# made of: two Visits, and which guesses were wrong: facts, registers that were alike after the first passes, and that no flag is secret.
 General = namedtuple("General", "name state guesses blocks made_of wrong")
 
 
@@ -233,7 +235,8 @@ def general_state(known, key, visit, now, wrong=frozenset()):
             if region.origin is None:
                 raise Unproved("two passes of a loop don't come as far in %s" % name_)
     g.stale, g.lowest = first.stale | second.stale, min(first.lowest, second.lowest)
-    g.set_flags()
+    secret = FLAG in wrong or any(state.is_secret(flag) for state in (first, second) for flag in state.flags.values())
+    g.flags = dict.fromkeys(g.flag_names, SECRET if secret else None)
     guesses = frozenset(start + passes * by for start, by in guessed(visit.facts, now.facts, wrong) if first.implied(start))
     g.facts = first.facts | guesses | {passes}
     g.forget_wrap()
@@ -252,7 +255,7 @@ def came_back(m, general):
     m.settle()
     m, one_more = moved_on(m, general.blocks), unknown(general.name) + 1
     wrong = {replaced(guess, general.name, 0) for guess in general.guesses if not m.implied(replaced(guess, general.name, one_more))}
-    wrong = wrong or {r for r in differences(m, general, one_more) if r in m.general}
+    wrong = wrong or {what for what in differences(m, general, one_more) if what in (*m.general, FLAG)}
     if wrong:
         raise Wrong(general, wrong)
     is_instance(m, general, one_more)
@@ -281,7 +284,8 @@ def differences(m, general, passes):
     wrong += [name for name, r, s in pairs if not same(of(r, name), of(s, name)) or window(r) != window(s)]
     alike = "first_block", "domain", "entered", "top", "done", "phase", "next_address", "counter"
     wrong += [what for what in alike if getattr(want, what) != getattr(m, what)]
-    wrong += ["a fact"] * (not all(m.implied(f) for f in want.facts)) + ["a flag"] * any(f is not None for f in want.flags.values())
+    wrong += ["a fact"] * (not all(m.implied(f) for f in want.facts))
+    wrong += [FLAG] * any(flag != SECRET and (flag is not None or m.is_secret(m.flags[f])) for f, flag in want.flags.items())
     wrong += ["what may be overwritten"] * (not m.stale <= want.stale) + ["the lowest place"] * (m.lowest < want.lowest)
     wrong += ["origins"] * (not m.origins.items() <= want.origins.items()) + ["answers"] * (not want.answers.items() <= m.answers.items())
     return wrong + ["what was asked of secrets"] * (m.asked_of_secrets() != want.asked_of_secrets())

@@ -138,8 +138,9 @@ def main():
     vectors = pinned(Domain())
     all_built = libraries_of(options)
     headers = itertools.chain(header_cases(options.dist), riscv_header_cases(options.dist, options.builds))
+    texts = line_cases(options.dist, options.builds), rust_cases(options.dist, options.out, options.objects)
     proved, failed = said(itertools.chain(headers, *map(built_cases, all_built), *(
-        choice_cases(built, options.dist, options.out) for built in all_built), line_cases(options.dist, options.builds), rust_cases(options.dist, options.out, options.objects)))
+        choice_cases(built, options.dist, options.out) for built in all_built), *texts))
     with pool_of(options.jobs, max_tasks_per_child=1) as pool:
         for task in run_all(pool, options):
             print("%s: %d proved, %d failed, %.0f s" % (task.name, task.proved, task.failed, task.seconds), flush=True)
