@@ -30,7 +30,7 @@ ROUNDS = [Row("a_round", "a round, or eight (`_par`); they need no key", few=SIN
 AES_ROWS = [
     Row("any_blocks", "16 n + r blocks for every n: the direction, r, into the same buffer or another (`_to`), or under a key (`_with`)",
         few=[(way, 7, to) for way in DIRECTIONS for to in ("", "_to")] + [(way, 1, "_with") for way in DIRECTIONS],
-        full=[(way, rest) for way in DIRECTIONS for rest in range(16) if rest != 7], short=[("encrypt", 14), ("decrypt", 15)],
+        full=[(way, rest) for way in DIRECTIONS for rest in range(16) if rest != 7], short=[("encrypt", 14), ("decrypt", 14), ("decrypt", 15)],
         first=[(way, rest, "_to") for way in DIRECTIONS for rest in (0, 1, 2, 14)],
         more=[(way, rest, to) for to in WAYS[1:] for way in DIRECTIONS for rest in range(16)]),
     Row("blocks", "the direction and the number of blocks", few=[("encrypt", 2), ("encrypt", 1, "_with")],
@@ -151,7 +151,7 @@ GCM_ROWS = [
            [(gcm.VERIFYING, 16, 7, gcm.UNKNOWN, n) for n in TAGS if n != 12])))]
 
 SIV_ROWS = [
-    Row("any_seal", WHOLE + "; both may have 2^36 bytes", full=[(33, 77), (16, 256)], short=(), first=[(13, 33, "_to")],
+    Row("any_seal", WHOLE + "; both may have 2^36 bytes", full=[(33, 77), (16, 256)], short=[(33, 77)], first=[(13, 33, "_to")],
         more=[(13, 33), (0, 0), (1, 1), (13, 81), (20, 145), (13, 225), (0, 450), (33, 48), (47, 767)]),
     Row("any_open", WHOLE + "; also of what is refused", full=[(13, 33, "_to"), (13, 225)], short=[(13, 225)],
         more=[(13, 33), (1, 1), (33, 77), (13, 81), (20, 145), (0, 450), (33, 48), (47, 767), (0, 0, "_to")]),
