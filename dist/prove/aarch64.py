@@ -27,9 +27,10 @@ class Aarch64(Machine):
     registers, stack_pointer, stack_step = X + ["sp"], "sp", 16
     vector_count, vector_size = 32, 16
     arguments, result = X[:8], "x0"
-    kept, kept_vectors = X[18:30] + ["sp"], dict.fromkeys(range(8, 16), 8)  # x18 is the system's on some
-    scratch = X[:18]
-    red_zone, mark = 0, r"hint\s#0x22"
+    kept, kept_vectors = X[18:30] + ["sp"], dict.fromkeys(range(8, 16), 8)
+    scratch, reserved = X[:18], ("x18",)  # the system's on some
+    red_zone, mark, comment = 0, r"hint\s#0x22", "//"
+    jumps = r"b(?:\.\w+)?|cbn?z|tbn?z"
     conditional, padding = r"b\.|cbn?z|tbn?z|adcs?\s|sbcs?\s|csinc\s.*, c[cs]\b", "nop|udf"
 
     def enter(self, arguments):

@@ -18,6 +18,8 @@ class Access:
         """A write of 4 bytes clears the rest of the register, one of 1 or 2 leaves it."""
         if isinstance(o, Memory):
             self.store(self.address(o), self.to_bytes(v, o.size), o.align)
+        elif o.name in self.reserved:
+            raise Unproved("changes %s" % o.name)
         elif o.size == self.word:
             self.general[o.name] = v
         else:
@@ -113,13 +115,26 @@ class Access:
             raise Unproved("an aligned access of %s, of which the alignment isn't known" % base)
         return region.content, offset
 
+    def in_head(self, address, size):
+        """How many bytes of an access lie in the head of a buffer, if others lie behind it."""
+        region = self.regions.get(address.base) if is_pointer(address) else None
+        head = region.head if isinstance(region, Window) and is_int(address.offset) else 0
+        return head - address.offset if head and address.offset < head < address.offset + size else 0
+
     def load(self, address, size, align=1):
+        inside = self.in_head(address, size)
+        if inside:
+            return self.load(address, inside, align) + self.load(self.offset(address, inside), size - inside)
         content, o = self.place(address, size, False, align)
         if self.stale and content is self.regions["stack"].content and not self.stale.isdisjoint(range(o, o + size)):
             raise Unproved("reads what may have been overwritten below the stack pointer")
         return list(content[o:o + size])
 
     def store(self, address, b, align=1):
+        inside = self.in_head(address, len(b))
+        if inside:
+            self.store(address, b[:inside], align)
+            return self.store(self.offset(address, inside), b[inside:])
         content, o = self.place(address, len(b), True, align)
         content[o:o + len(b)] = b
         if address.base != "stack":

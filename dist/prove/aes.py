@@ -198,7 +198,7 @@ class Keyed:
         return lambda m: [self.domain.moved(b, m.known(count) - 1 - m.first_block) for b in pattern]
 
     def of_any_count(self, name, state, content, want, count, size, plain, way="", choose=None, facts=(), **more):
-        facts, key = {unknown("n"), PTRDIFF_MAX - size, *facts}, [self.schedule()]
+        facts, key = {unknown("n"), self.most // 2 - size, *facts}, [self.schedule()]
         if way == "_with":
             key, more["later"] = [Buffer("key", self.key), self.key_size], lambda m: self.go_on(m, {})
         return Call(name + way, [*key, *state, *self.streams_of(way, "blocks", size, count, content, want, choose)], DONE,
@@ -258,7 +258,7 @@ class Keyed:
             k = m.done - m.first_block
             return self.found_in, [d.moved(b, k) for b in chained], [d.moved(b, k) for b in want]
         return self.of_any_count("aes_cbc_encrypt", [Buffer("cbc", chain, self.of_last(want, count))], content, want, count, count * 16,
-                                 content, steps=steps)
+                                 content, steps=steps, may_stay={"plain": 16} if self.program.machine.relaxed else None)
 
     def in_each_way(self, name, way, state, data_name, data, results, count, **more):
         """A call that changes data under the key of *aes or, with _with, under a key; or, with _to, that writes to another buffer. `state`
@@ -453,7 +453,10 @@ class Keyed:
         return self.once(name, lambda: [self.domain.fresh("%s, byte %d" % (name, i), DATA, *of_block) for i in range(8)])
 
     def highest_first(self, number, size):
-        return [self.domain.opaque((number, k)) for k in range(size)][::-1]
+        bytes_ = [self.domain.opaque((number, k)) for k in range(size)]
+        if self.program.machine.relaxed:  # where bytes are put together by shifts
+            self.domain.byte_ids.update((self.domain.bits(b), b) for b in bytes_)
+        return bytes_[::-1]
 
     def at_link(self, m, bytes_, k):
         """Block k, and the value before it, have the number of the block before them, so that none is left of what no pass needs."""

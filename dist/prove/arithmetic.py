@@ -72,8 +72,7 @@ class Arithmetic:
     # Sums and differences with their flags: (result, {flag: value}).
     def plus(self, x, y, carry, size):
         mask, top = (1 << 8 * size) - 1, 8 * size - 1
-        if self.counter and self.counter.words:
-            x, y = (self.counter.words.get(tuple(map(self.domain.plain, v)), v) if type(v) is tuple else v for v in (x, y))
+        x, y = self.counter_word(x), self.counter_word(y)
         if is_int(x, y):
             full = (x & mask) + (y & mask) + carry
             r = full & mask
@@ -108,8 +107,17 @@ class Arithmetic:
             if not is_int(fixed):
                 raise
             zero = self.differences(rest, -fixed - carry, size)
-            return self.verdict(0, zero, size), {"c": SECRET, "z": self.zero_flag(zero), "s": SECRET, "o": SECRET}
+            return self.only_zero(zero), {"c": SECRET, "z": self.zero_flag(zero), "s": SECRET, "o": SECRET}
         return self.unbits(bits), {"c": self.flag_of(out), "z": SECRET, "s": SECRET, "o": SECRET}
+
+    def counter_word(self, v):
+        """The word of a counter that has these bytes."""
+        words = self.counter and type(v) is tuple and self.counter.words
+        return words.get(tuple(map(self.domain.plain, v)), v) if words else v
+
+    def only_zero(self, differences):
+        """A value of which only is known whether it is 0."""
+        return self.verdict(0, differences, len(differences))
 
     def whole_number(self, v, size):
         """The number that is in the lower bytes of a word and has no more."""

@@ -117,9 +117,9 @@ def prove(domain, program, call, seed=None):
                 waiting += leads.args[0]
                 continue
             except lengths.Wrong as wrong:
-                general, guess = wrong.args
+                general, guesses = wrong.args
                 waiting, ends = ([x for x in some if general.name not in x.generals] for some in (waiting, ends))
-                waiting += [*known.forget(general), lengths.general_state(known, *general.made_of, general.wrong | {guess})]
+                waiting += [*known.forget(general), lengths.general_state(known, *general.made_of, general.wrong | guesses)]
                 continue
             check(m, call)
             nothing_secret(m, call)

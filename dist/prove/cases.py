@@ -1,6 +1,7 @@
 """Which cases there are: a table of statements, their arguments, and who takes them. The page CASES.md is made of it (tools/pages)."""
 import collections
 import itertools
+import re
 
 import aes
 import gcm
@@ -11,12 +12,13 @@ from riscv import Riscv
 from x86_64 import X86_64
 
 # A statement (a method of KeyedAes, KeyedGcm or KeyedSiv), what its arguments are, and lists of these. Keys of 16 bytes take `few` with each
-# build; `full` with the builds but `_v1` and those for Windows, which are compiled from what these are; `first` with x86_64/aes.s and
-# x86_64/gcm.s alone; and all of them, and `more`, with each build and PROVE=all. Keys of 24 and 32 bytes take `other` with the builds that
-# take `full`: each call once, and the code that loops over round keys; with PROVE=all `few` and `full`, with each build. (Which builds there
-# are, PROVE says too: prove.py.) Without PROVE a row with every length has `short` in the place of `full`, if it says so, and for `_v3` in any
-# case: what code needs besides, so that all of it runs that has to (uncovered.py).
-Row = collections.namedtuple("Row", "name what few full first more other short", defaults=[(), (), (), (), (), ()])
+# build, and `full` with the builds that takes_few (linking.py) doesn't name: those that it names are compiled from what the others are. With
+# PROVE=builds x86_64/aes.s and x86_64/gcm.s also take `first`. With PROVE=all the builds that take `full` take the whole row, and the others
+# `full`. Without PROVE a row with every length has `short` in the place of `full`, if it isn't None, and with `_v3` in any case: what has to
+# run, so that uncovered.py is content. Keys of 24 and 32 bytes take `other` with the builds that take `full`: each call once, and the code
+# that loops over round keys. With PROVE=all these take `few` and `full`, and the other builds `other`. (Which builds there are, PROVE says
+# too: prove.py.)
+Row = collections.namedtuple("Row", "name what few full first more other short", defaults=[(), (), (), (), (), None])
 ONCE = [()]  # no arguments
 
 WAYS, DIRECTIONS = ("", "_to", "_with"), ("encrypt", "decrypt")
@@ -28,15 +30,15 @@ ROUNDS = [Row("a_round", "a round, or eight (`_par`); they need no key", few=SIN
 AES_ROWS = [
     Row("any_blocks", "16 n + r blocks for every n: the direction, r, into the same buffer or another (`_to`), or under a key (`_with`)",
         few=[(way, 7, to) for way in DIRECTIONS for to in ("", "_to")] + [(way, 1, "_with") for way in DIRECTIONS],
-        full=[(way, rest) for way in DIRECTIONS for rest in range(16) if rest != 7], short=[("encrypt", 14), ("decrypt", 15)],
+        full=[(way, rest) for way in DIRECTIONS for rest in range(16) if rest != 7], short=[("encrypt", 14), ("decrypt", 14), ("decrypt", 15)],
         first=[(way, rest, "_to") for way in DIRECTIONS for rest in (0, 1, 2, 14)],
         more=[(way, rest, to) for to in WAYS[1:] for way in DIRECTIONS for rest in range(16)]),
     Row("blocks", "the direction and the number of blocks", few=[("encrypt", 2), ("encrypt", 1, "_with")],
         full=[("encrypt", n) for n in (0, 16, 17)],
         other=[(way, n, to) for way in DIRECTIONS for n, to in ((2, ""), (32, ""), (1, "_to"), (1, "_with"))]),
     Row("any_low_keystream", "at 16 k + s for every k, 128 n + r bytes for every n: s, r; for every initial counter block whose low half "
-        "doesn't carry", few=[(0, 0)], full=[(5, 122)], short=[(5, 122)], first=[(0, 0, "_with")], more=[(0, 33)]),
-    Row("any_keystream", "the same where the low half carries anywhere or nowhere", first=[(0, 0)],
+        "doesn't carry", few=[(5, 122)], first=[(0, 0, "_with")], more=[(0, 0), (0, 33)]),
+    Row("any_keystream", "the same where the low half carries anywhere or nowhere", full=[(0, 0)], short=[(0, 0)],
         more=[(0, 33), (5, 122), *((0, rest) for rest in range(9, 128, 18)), *((skip, 17 * skip % 128) for skip in range(1, 16, 2)), (3, 45, "_to")]),
     Row("add_keystream", "the position, the number of bytes, and before which block the low half of the counter carries, if anywhere",
         few=[(0, 33), (2 ** 64 - 21, 20), (5, 40, 2), (21, 40, 1), (16, 64, 1), (0, 16, BLOCK_BEHIND), (3, 33, NO_CARRY, "_to"),
@@ -47,7 +49,7 @@ AES_ROWS = [
               (2 ** 32 - 20, 40), (2 ** 63 + 2 ** 36, 64)],
         more=[(0, 33, 5)], other=[(0, 33), (3, 33, NO_CARRY, "_to"), (3, 33, NO_CARRY, "_with")]),
     Row("any_cbc_encrypt", "every number of blocks", few=ONCE),
-    Row("any_cbc_decrypt", "64 n + r blocks for every n: r", full=[9], short=[9], more=range(64)),
+    Row("any_cbc_decrypt", "64 n + r blocks for every n: r", full=[9], short=[9], more=[0, 63]),
     Row("cbc_encrypt", "the number of blocks", full=[1, 2], other=[1]),
     Row("cbc_decrypt", "the number of blocks", few=[9], full=[0, 1, 3, 4, 8, 17], other=[1]),
     Row("any_wrap", "a key of every number of semiblocks", full=ONCE),
@@ -64,24 +66,31 @@ AES_ROWS = [
     Row("any_cmac_verify", "the same, also of what is refused: r and the tag's length", few=[(1, 16)], first=[(1, 11)],
         more=[(4, tag) for tag in modes.CMAC_TAGS]),
     Row("cmac", "the number of bytes", full=[0, 1, 16], other=[1]),
-    Row("cmac_verify", "the number of bytes and the tag's length, also of what is refused", full=[(0, 4)], other=[(0, 4)]),
+    Row("cmac_verify", "the number of bytes and the tag's length, also of what is refused", full=[(0, tag) for tag in modes.CMAC_TAGS],
+        other=[(0, 4)]),
     *(Row(call, "16 a + b bytes of additional data, none if b is 0, and 256 n + r of text for every a and n: the lengths of nonce, b, r, tag; "
           "the encoded length of additional data takes 2 bytes, or 6 or 10 if it says so", full=full, first=first,
           more=[(13, 0, 16, 16), (9, 15, 255, 4, 6), (11, 9, 0, 6, 10), (8, 16, 33, 8, 6), (8, 16, 33, 8, 10)])
       for call, full, first in (("any_ccm_seal", (), [(8, 15, 33, 8), (8, 16, 33, 8, 6), (8, 16, 33, 8, 10)]),
-                                ("any_ccm_open", [(8, 15, 33, 8)], ()))),
-    *(Row(call, "the same", more=[(12, rest, 15 * rest, 12) for rest in range(17)]) for call in ("any_ccm_seal", "any_ccm_open")),
+                                ("any_ccm_open", [(12, 15, 33, 8)], ()))),
+    *(Row(call, "the same", more=[(12, rest, 15 * rest, 12) for rest in range(0, 17, 4)]) for call in ("any_ccm_seal", "any_ccm_open")),
     *(Row(call, "the lengths of nonce, additional data, text and tag", few=[(13, 8, 33, 8)],
-          full=[(7, 0, 1, 4), (12, 14, 16, 16), (8, 15, 17, 6), (13, 33, 0, 14)],
-          more=[(nonce, 20, 40, tag) for nonce in modes.NONCES for tag in modes.CCM_TAGS],
+          full=[(7, 0, 1, 4), (12, 14, 16, 16), (8, 15, 17, 6), (10, 33, 0, 14), (9, 0, 0, 10), (11, 0, 0, 12)],
+          more=[(nonce, 20, 40, tag) for tags in (modes.CCM_TAGS, modes.CCM_TAGS[::-1]) for nonce, tag in zip(modes.NONCES, tags)],
           other=[(7, 0, 1, 4)])
       for call in ("ccm_seal", "ccm_open")),
     *ROUNDS]
 
+OF_SHORT_WORDS = [  # where calls of every length aren't proved (left_out)
+    Row("blocks", "as above", few=[(way, n, "_to") for way in DIRECTIONS for n in (1, 2)]),
+    Row("cmac", "as above", few=[17]), Row("cmac_verify", "as above", few=[(17, 16)]),
+    Row("add_keystream", "as above, and how many words of 32 bits above the lowest one carry too", few=[(5, 40, 2, "", 1)],
+        full=[(5, 40, 2, "", 2)])]
+
 # Nonces of other lengths than 12: of so many bytes, where J_0 ends in these bytes; or any J_0 of which the counter doesn't wrap in the text.
 CARRIED = 7, 0, 255, 255
 NONCES = gcm.UNKNOWN, (1, 2 ** 32 - 1, CARRIED), (60, 2 ** 32 - 2, CARRIED)
-CARRIES = [2 ** k - 1 for k in (64, 72, 80, 88)] + [2 ** 96 - 2]  # of the counter of `_next`; None: any without a carry
+CARRIES = [*map(gcm.CarryTo, (3, 2, 1, 0)), 2 ** 96 - 2]  # of the counter of `_next`; None: any without a carry
 MANY = 2 ** 35  # bytes, so that counts and positions don't fit into 32 bits
 WRAPS = 8, 2 ** 32 - 3, CARRIED  # the counter wraps in the text
 TAGS = 4, 8, 12, 13, 14, 15
@@ -96,7 +105,7 @@ STATE = "the phase, and how many bytes of additional data and of text came befor
 GCM_ROWS = [
     Row("wipe_message", "", few=ONCE), Row("set_key_of", "", few=ONCE, other=ONCE),
     Row("set_key_of_none", "", few=ONCE),
-    Row("any_seal", WHOLE + NONCE, few=[(13, 33)], full=[(0, 129)], first=[(13, 33, "", 8)],
+    Row("any_seal", WHOLE + NONCE, few=[(13, 33)], full=[(0, 129)], short=(), first=[(13, 33, "", 8)],
         more=[(0, 0), (1, 16), (16, 225), (33, 48), (47, 767), (13, 33, "_to"), *OTHER_NONCES]),
     Row("any_open", WHOLE + NONCE + "; also of what is refused", full=[(13, 33)], first=[(13, 33, "_to")],
         more=[(0, 0), (0, 129), (1, 16), (16, 225), (33, 48), (47, 767), (13, 33, "", 8), *OTHER_NONCES]),
@@ -107,14 +116,15 @@ GCM_ROWS = [
     Row("seal", "the lengths of additional data and text, and a nonce of another length", few=[(13, 33), (13, 33, (), "_to")],
         full=[(0, 0), (1, 1), (13, 0), (49, 1), (0, 449, gcm.UNKNOWN), (0, 0, (), "_to"), *((5, 20, nonce) for nonce in NONCES)],
         more=[*((5, 40, nonce) for nonce in NONCES), *((5, n, (60, None)) for n in (0, 129, 300))],
-        other=[(13, 33), (0, 481, gcm.UNKNOWN), (0, 0, (), "_to")]),
+        other=[(13, 481), (0, 0, (), "_to")]),
     Row("open", "the same, also of what is refused", few=[(13, 33), (13, 33, (), "_to")],
         full=[(0, 0), (13, 0), (0, 0, (), "_to"), (3, 20, gcm.UNKNOWN)], more=[(3, 20, nonce) for nonce in NONCES[1:]],
         other=[(13, 33), (0, 0, (), "_to")]),
     Row("begin", "the nonce", few=[(), *((nonce,) for nonce in NONCES)], other=[()]),
-    Row("seal_next", "the lengths of additional data and text, and the counter", few=[(3, 1, None)],
+    Row("seal_next", "the lengths of additional data and text, and the counter: if a carry comes to a byte, this one is any, those behind it are "
+        "255, and those before it 0", few=[(3, 1, None)],
         full=[(3, 1, counter) for counter in CARRIES], other=[(3, 1, None)]),
-    Row("begin_next", "the counter", few=[None], full=CARRIES, other=[None]),
+    Row("begin_next", "the counter, as above", few=[None], full=CARRIES, other=[None]),
     Row("additional", "how many bytes came before, and how many come", few=[(3, 13)],
         full=[(3, 100), (0, 0), (0, 5), (32, 48), (2 ** 32 - 3, 13), (MANY, 7)], other=[(3, 13)]),
     Row("piece", "the call; " + STATE + "; the number of bytes", few=[(call, gcm.ADDITIONAL, 5, 0, 3) for call in PHASES],
@@ -149,30 +159,6 @@ SIV_ROWS = [
     Row("open", "the same, also of what is refused", few=[(1, 1), (13, 33, "_to")], full=[(13, 0)], other=[(1, 1), (13, 33, "_to")])]
 
 
-def riscv_rows(word):
-    """Of the library of blocks for RISC-V, with words of so many bytes: not what the README says isn't proved."""
-    narrow = word == 4
-    return [
-        Row("blocks", "the direction and the number of blocks",
-            few=[(way, n, to) for way in DIRECTIONS for n, to in ((0, ""), (1, ""), (2, ""), (17, ""), (1, "_to"), (2, "_to"), (1, "_with"))],
-            more=[(way, n) for way in DIRECTIONS for n in (3, 8)],
-            other=[(way, n, to) for way in DIRECTIONS for n, to in ((2, ""), (1, "_to"), (1, "_with"))]),
-        Row("add_keystream", "as above; and how many words above the lowest one carry too",
-            few=[(0, 33), (0, 1), (7, 40), (5, 40, 2), (21, 11, 1), (21, 40, 1), (2 ** 32 - 20, 40), (3, 33, NO_CARRY, "_to"),
-                 (21, 11, 1, "_with"), *[(5, 40, 2, "", 1)] * narrow], more=[(0, 0), (16, 64, 3), *[(5, 40, 2, "", 2)] * narrow]),
-        Row("cbc_encrypt", "the number of blocks", few=[0, 2]), Row("cbc_decrypt", "the number of blocks", few=[0, 1, 3], more=[9]),
-        Row("wrap", "the number of semiblocks", few=[2], more=[3]),
-        Row("unwrap", "the number of semiblocks, also of what is refused", few=[3], more=[4]),
-        Row("wrap_padded", "the number of bytes", few=[1, 9]),
-        Row("unwrap_padded", "the number of bytes, also of what is refused", few=[1, 9] * narrow),
-        Row("unwrap_padded_refused", "as above", few=[(1, 8)] * narrow),
-        Row("cmac", "the number of bytes", few=[0, 17]),
-        Row("cmac_verify", "the number of bytes and the tag's length, also of what is refused", few=[(17, 16), (0, 4)]),
-        *(Row(call, "the lengths of nonce, additional data, text and tag",
-              few=[(7, 0, 1, 4)], more=[(13, 8, 33, 8)] * narrow) for call in ("ccm_seal", "ccm_open")),
-        *ROUNDS]
-
-
 def common_rows(library, version):
     """Of each library: what AES-GCM-SIV has too comes first."""
     rows = [Row("wipe", "", few=ONCE), Row("set_key_refused", "every length of a key that is refused", few=ONCE)]
@@ -184,30 +170,35 @@ LIBRARIES = {"aes": (modes.KeyedAes, AES_ROWS), "gcm": (gcm.KeyedGcm, GCM_ROWS),
 
 
 def rows_of(library, machine):
+    """On RISC-V without what the README says isn't proved."""
+    rows = LIBRARIES[library][1]
     if not issubclass(machine, Riscv):
-        return LIBRARIES[library][1]
-    return riscv_rows(machine.word) if library == "aes" else riscv_gcm_rows(library, machine.word)
+        return rows
+    kept = lambda row, some: [v for v in some or () if not left_out(library, machine.word, row.name, v if isinstance(v, tuple) else (v,))]
+    short_words = OF_SHORT_WORDS if library == "aes" and machine.word == 4 else []
+    return [Row(row.name, row.what, *(kept(row, some) for some in row[2:])) for row in rows] + short_words
 
 
-def riscv_gcm_rows(library, word):
-    """Of the library with GCM for RISC-V: those of fixed lengths, without what the README says isn't proved."""
-    any_j_0 = lambda values: any(type(v) is tuple and None in v for v in values)
-    narrow = lambda row, values: any_j_0(values) if row.name in ("seal", "open") else None in values and row.name.endswith("_next")
-    left_out = lambda row, values: word == 4 and narrow(row, values)
-    kept = lambda row, some: [v for v in some if not left_out(row, v if isinstance(v, tuple) else (v,))]
-    return [Row(row.name, row.what, *(kept(row, some) for some in row[2:])) for row in LIBRARIES[library][1] if not row.name.startswith("any_")]
+def left_out(library, word, name, values):
+    if name.startswith("any_") and library != "aes":
+        return word == 4 or library == "siv" or name not in ("any_seal", "any_open", "any_seal_next", "any_begin") or len(values) > 3
+    if word == 4 and library == "aes":
+        is_late = name == "add_keystream" and values[0] >= 2 ** 36
+        return is_late or re.search("any_.*(keystream|wrap|cmac|ccm)", name) or "_to" in values and name == "any_blocks"
+    any_j_0 = any(type(v) is tuple and None in v for v in values)
+    return word == 4 and library == "gcm" and (any_j_0 and name in ("seal", "open") or None in values and name.endswith("_next"))
 
 
 def taken(row, program, key_size, level):
     """The arguments with which a build takes a statement."""
     if key_size != 16:
-        return [*row.few, *row.full] if level == "all" else () if program.few else row.other
+        return [*row.few, *row.full] if level == "all" and not program.few else row.other if level == "all" or not program.few else ()
     if level == "all":
-        return dict.fromkeys([*row.few, *row.full, *row.first, *row.more])
-    is_first = program.machine is X86_64 and program.suffix == "_v2"
-    is_short = not level and row.name.startswith("any_") and (row.short or program.suffix == "_v3")
-    full = row.short if is_short else row.full
-    return [*row.few, *(() if program.few else full), *(row.first if is_first else ())]
+        return dict.fromkeys([*row.few, *row.full, *(() if program.few else [*row.first, *row.more])])
+    is_first = level and program.machine is X86_64 and program.suffix == "_v2"
+    is_short = not level and row.name.startswith("any_") and (row.short is not None or program.suffix == "_v3")
+    full = row.short or () if is_short else row.full
+    return dict.fromkeys([*row.few, *(() if program.few else full), *(row.first if is_first else ())])
 
 
 def name_of(row, values):
@@ -223,7 +214,10 @@ def statements(keyed, options, part, parts):
             what = name_of(row, values)
             if options.only in what and next(number) % parts == part:
                 yield what, getattr(keyed, row.name)(*values)
+    seen = set()
     for call in keyed.refused():
         refusals[call.name] += 1
-        if options.only in call.name + " refused" and next(number) % parts == part:
+        again = (call.name, call.status) in seen and keyed.key_size != 16  # with such keys one refusal of each call and status is enough
+        seen.add((call.name, call.status))
+        if not again and options.only in call.name + " refused" and next(number) % parts == part:
             yield "%s refused %d" % (call.name, refusals[call.name]), call

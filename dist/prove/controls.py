@@ -1,9 +1,9 @@
 """The controls of the proof: faults that are planted in the assembly (faults.py), code that no case reaches, and wrong meanings of
 instructions. Each has to be refused. Run it as `make prove-controls` in dist.
 
-A fault is refused if the case that it names, one of those of `make prove`, is not proved any more. One for which a text has no place counts
-as missed. Whatever else goes wrong ends the controls: gcc, ld, a case that isn't there, or a planted instruction that isn't covered, unless
-that is the fault."""
+A fault is refused if the case that it names, one of those of PROVE=builds or, for Windows, `_v1` and RISC-V, of PROVE=all, is not proved any
+more. One for which a text has no place counts as missed. Whatever else goes wrong ends the controls: gcc, ld, a case that isn't there, or a
+planted instruction that isn't covered, unless that is the fault."""
 import argparse
 import re
 import sys
@@ -12,7 +12,8 @@ import uncovered
 from bits import Unproved
 from cases import LIBRARIES, statements
 from faults import FAULTS, UNREACHED
-from linking import BUILDS, assembled, source
+from lines import refuse_lines
+from linking import BUILDS, assembled, source, takes_few
 from long_faults import LONG_FAULTS
 from native import NEVER_ALONE, compare_all
 from processors import MEANINGS, PROCESSORS
@@ -34,7 +35,8 @@ def verdict(what, prove, reason=""):
 def edited(text, label, pattern, new):
     """The text with the first match of a pattern in what stands behind a label replaced, and its line; or None."""
     at = re.search(r"(?m)^" + label, text)
-    found = at and re.compile(pattern).search(text, at.end(), re.compile(r"\t?\.(?:size|seh_endproc)").search(text, at.end()).start())
+    end = at and re.compile(r"\t?\.(?:size|seh_endproc)|\Z").search(text, at.end())
+    found = at and re.compile(pattern).search(text, at.end(), end.start())
     if not found:
         return None, 0
     put = new(found) if callable(new) else found.expand(new)
@@ -53,12 +55,14 @@ def faults(options, build):
     text, out = open(source(options.dist, build)).read(), "%s/controls_%s" % (options.out, build.replace("/", "_"))
     keyed = LIBRARIES[build.split("/")[1][:3]][0](assembled(build, source(options.dist, build), out), 16)
     keyed.set_key()
-    cases = dict(statements(keyed, argparse.Namespace(dist=options.dist, level="builds", only=""), 0, 1), set_key=None)
+    level = "all" if takes_few(build) else "builds"
+    cases = dict(statements(keyed, argparse.Namespace(dist=options.dist, level=level, only=""), 0, 1), set_key=None)
     verdicts, unreached = [], UNREACHED.get(build, [])
 
     def prove(case):
         keyed.program = assembled(build, out + ".s", out)
-        return keyed.proved(cases[case]) if cases[case] else type(keyed)(keyed.program, 16).set_key()
+        keyed.proved(cases[case]) if cases[case] else type(keyed)(keyed.program, 16).set_key()
+        refuse_lines(out + ".s", BUILDS[build])
 
     def cover(case, function):
         prove(case)

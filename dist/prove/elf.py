@@ -5,11 +5,12 @@ from collections import namedtuple
 
 from bits import Unproved
 
-Section = namedtuple("Section", "name kind flags address content entry link info")
+Section = namedtuple("Section", "name kind flags address content size entry link info")
 Symbol = namedtuple("Symbol", "name binding kind visibility section value")
 Relocation = namedtuple("Relocation", "offset kind symbol addend")
 
-CONTENT, SYMBOLS, RELOCATIONS, NO_BITS, DYNAMIC_SYMBOLS, GROUP = 1, 2, 4, 8, 11, 17  # kinds of sections
+# Kinds of sections.
+CONTENT, SYMBOLS, STRINGS, RELOCATIONS, NOTE, NO_BITS, DYNAMIC_SYMBOLS, RISCV_ATTRIBUTES = 1, 2, 3, 4, 7, 8, 11, 0x70000003
 WRITTEN, LOADED, MERGED, FLAGS = 1, 2, 16, 7  # flags of sections; FLAGS: whether they are written, loaded and run
 LOCAL, GLOBAL = 0, 1  # of symbols
 DEFAULT, HIDDEN = 0, 2
@@ -21,13 +22,13 @@ class Elf:
         self.path = path
         with open(path, "rb") as file:
             self.raw = file.read()
-        self.narrow = self.raw[4] == 1  # of 32 bits
+        self.narrow, self.machine = self.raw[4] == 1, struct.unpack_from("<H", self.raw, 0x12)[0]  # narrow: of 32 bits
         table, = struct.unpack_from(*("<I", self.raw, 0x20) if self.narrow else ("<Q", self.raw, 0x28))
         size, count, names = struct.unpack_from("<HHH", self.raw, 0x2e if self.narrow else 0x3a)
         headers = [struct.unpack_from("<10I" if self.narrow else "<IIQQQQIIQQ", self.raw, table + k * size) for k in range(count)]
         name = lambda header: self.text(headers[names][4] + header[0])
         content = lambda header: b"" if header[1] == NO_BITS else self.raw[header[4]:header[4] + header[5]]
-        self.sections = [Section(name(h), *h[1:4], content(h), h[9], *h[6:8]) for h in headers]
+        self.sections = [Section(name(h), *h[1:4], content(h), h[5], h[9], *h[6:8]) for h in headers]
         self.offsets = [header[4] for header in headers]
 
     def text(self, at):
@@ -60,6 +61,17 @@ class Elf:
                     Relocation(offset, info & (1 << bits) - 1, symbols[info >> bits], addend)
                     for offset, info, addend in struct.iter_unpack(layout, section.content))
         return found
+
+    def properties(self):
+        """(kind, value) of what notes of properties say."""
+        for section in (s for s in self.sections if s.name == ".note.gnu.property"):
+            at = 0
+            while at < len(section.content):
+                end, at = at + 16 + struct.unpack_from("<I", section.content, at + 4)[0], at + 16  # behind what note it is
+                while at < end:
+                    kind, size = struct.unpack_from("<II", section.content, at)
+                    value, at = section.content[at + 8:][:size], at + 8 + (size + 7 & ~7)
+                    yield kind, int.from_bytes(value, "little")
 
     # Of a linked file.
     def bytes_at(self, address, size):
@@ -94,6 +106,9 @@ X86_64, AARCH64 = 62, 183
 FIELDS = {X86_64: dict.fromkeys((2, 4, 9, 41, 42), BY_DISTANCE),
           AARCH64: {261: BY_DISTANCE, 275: BY_PAGE, 311: BY_PAGE, 282: BY_WORDS, 283: BY_WORDS, 277: LOW[0], 278: LOW[0], 284: LOW[1],
                     285: LOW[2], 286: LOW[3], 312: LOW[3], 299: LOW[4]}}
+# Properties, by which a loader goes: what processor it needs; and that there is a mark wherever an indirect call may arrive (and on x86-64
+# that no code changes return addresses), which a linker says of a library only if all objects say it.
+NEEDED, MARKED = 0xc0008002, {X86_64: (0xc0000002, 3), AARCH64: (0xc0000000, 1)}
 OF_WORDS = {X86_64: (9, 41, 42), AARCH64: (311, 312)}  # those that lead to a word which has the address
 
 
@@ -102,8 +117,7 @@ class Comparison:
 
     def __init__(self, library, objects):
         self.library, self.objects = library, objects
-        machine, = struct.unpack_from("<H", library.raw, 0x12)
-        self.fields, self.of_words = FIELDS[machine], OF_WORDS[machine]
+        self.fields, self.of_words = FIELDS[library.machine], OF_WORDS[library.machine]
         self.placed, self.waiting = {}, []  # {(object, number of a section): its address in the library}
 
     def of(self, exports, kind=DYNAMIC_SYMBOLS):
@@ -125,7 +139,7 @@ class Comparison:
 
     def lies(self, elf, symbol, address, behind=0):
         """Says that so many bytes behind a symbol of an object are here in the library. (Of a section that is merged each entry has a place
-        of its own.)"""
+        of its own, and a label no more than one: lines.py.)"""
         section, at = elf.sections[symbol.section], symbol.value + behind
         if section.flags & MERGED:
             if self.library.bytes_at(address, section.entry) != section.content[at:at + section.entry]:

@@ -45,6 +45,7 @@ BEGIN, FINISH, ENCRYPT, OPEN = (exported("gcm_" + name) for name in ("begin", "f
 DERIVE, APPLY, SIV_OPEN = (function("gcm_siv::" + name) for name in ("keys::derive", "message::apply", "message::open"))
 WIPE_STACK, WIPE_WORDS, WIPED, WIPE_ELEMENTS = (call("aes_cipher::zeroize::" + name) for name in (
     "stack::wipe_stack", "zeroize_words", r"[\w.:]+", "elements::zeroize_elements"))
+NOTE = r'\t\.section\t"\.note\.gnu\.property".*\n'
 HALF_COMPARED = COMPARE, r"(ext\t.*, #)8", r"\g<1>0"  # on ARM
 ENTRY = r"((?:#|//) %bb.0:.*\n)"  # where a function begins
 END = r"(\tretq\n)(\.L\w*func_end)"  # and where it ends
@@ -102,6 +103,23 @@ FAULTS = {
         ("a stack that may be run", WIPE, ENTRY, "\\1\t.pushsection\t.note.GNU-stack,\"x\"\n\t.popsection\n", "wipe"),
         ("a note that asks for other processors", WIPE, ENTRY,
          "\\1\t.pushsection\t.note.gnu.property,\"a\"\n\t.long\t4, 16, 5\n\t.asciz\t\"GNU\"\n\t.long\t0xc0008002, 4, 8, 0\n\t.popsection\n", "wipe"),
+        ("a note without the marks of indirect calls", NOTE, "4, 3, 0", "4, 2, 0", "wipe"),
+        ("the same of a second section for it", WIPE, ENTRY,
+         "\\1\t.pushsection\t.note.GNU-stack,\"x\",@progbits,unique,7\n\t.popsection\n", "wipe"),
+        ("room in memory that is never used", WIPE, ENTRY, r"\1\t.lcomm\troom, 64\n", "wipe"),
+        ("a section that a linker acts on, though it isn't loaded", WIPE, ENTRY, "\\1\t.pushsection\t.gnu.warning,\"\",@progbits\n"
+         "\t.ascii\t\"beware\"\n\t.popsection\n", "wipe"),
+        ("a function of libc that a program may do without", WIPE, ENTRY, r"\1\t.weak\tmemset\n", "wipe"),
+        ("an export of another library, in one shared library alone", WIPE, ENTRY, "\\1\t.ifndef\tchosen\n\t.ifndef\tin_rust\n"
+         "\t.globl\tfotsgure_gcm_open\n\t.set\tfotsgure_gcm_open, aes_v2.fotsgure_aes_wipe\n\t.endif\n\t.endif\n", "wipe"),
+        ("a table that a linker may part", r"\t\.type\t\.L\w*static\.3,", r'\.section\t\.rodata\.\.[\w.]+,"a",@progbits',
+         '.section\t.rodata.cst4,"aM",@progbits,4', "blocks encrypt 2"),
+        ("other code by an assembler that keeps blanks", BLOCKS, ENTRY,
+         "\\1\t.ifnc\ta  b,a b\n\tmovb\t$1, (%rsi)\n\t.endif\n", "blocks encrypt 2"),
+        ("a file of the machine that builds", WIPE, ENTRY, "\\1\t.pushsection\t.note.fotsgure,\"a\"\n\t.incbin\t\"/etc/os-release\"\n"
+         "\t.popsection\n", "wipe"),
+        ("a second note without them", WIPE, ENTRY,
+         "\\1\t.pushsection\t.note.gnu.property,\"a\"\n\t.long\t4, 16, 5\n\t.asciz\t\"GNU\"\n\t.long\t0xc0000002, 4, 0, 0\n\t.popsection\n", "wipe"),
         ("the struct read before it is written", WIPE, ENTRY, r"\1\tcmpb\t$0, 8(%rdi)\n\tje\t77f\n77:\n", "wipe"),
         ("statuses exchanged", BLOCKS_TO, r"movl\t\$3, %(\w+)", r"movl\t$2, %\1", "aes_encrypt_blocks_to refused 2"),
         ("a round key left among other blocks", BLOCKS, ENTRY, r"\1\tmovups\t4(%rdi), %xmm0\n" + LEFT, "blocks encrypt 17"),
@@ -158,6 +176,12 @@ FAULTS = {
         ("no mark for an indirect call", BLOCKS, r"\tendbr64\n", "", "blocks encrypt 2"),
         ("a bit of the key in a flag", exported("aes_key_length"), ENTRY + r"([\s\S]*?)\tretq\n", r"\1\tmovq\t%rdi, -8(%rsp)\n\2"
          r"\tmovq\t-8(%rsp), %r11\n\ttestb\t$1, 4(%r11)\n\tmovl\t$0, %r11d\n\tretq\n", "key_length"),
+        ("bits of the key in flags of a double shift", exported("aes_key_length"), ENTRY + r"([\s\S]*?)\tretq\n",
+         r"\1\tmovq\t%rdi, -8(%rsp)\n\2"
+         r"\tmovq\t-8(%rsp), %r11\n\tmovl\t4(%r11), %r11d\n\tshldl\t$1, %r11d, %r11d\n\tmovl\t$0, %r11d\n\tretq\n", "key_length"),
+        ("a bit of the key in a flag that an instruction needn't change", exported("aes_key_length"), ENTRY + r"([\s\S]*?)\tretq\n",
+         r"\1\tmovq\t%rdi, -8(%rsp)\n\2\tmovq\t-8(%rsp), %r11\n\tmovl\t4(%r11), %r11d\n\torl\t$1, %r11d\n\tmovl\t$0, %r11d\n"
+         r"\tbtl\t$0, %r11d\n\tretq\n", "key_length"),
         ("a jump with a prefix, which is not covered", BLOCKS, ENTRY, r"\1\t.byte\t0x66\n\tjmp\t77f\n77:\n", "blocks encrypt 2"),
         ("a key length that isn't one", SET_KEY, r"movabsq\t\$4311810048, ", "movabsq\t$4312858624, ", "set_key_refused"),
         ("round keys in each other's place", SET_KEY, r"(\tmovl\t%\w+, \((%\w+)\)\n)",
@@ -205,6 +229,8 @@ FAULTS = {
         ("the bytes of a tag moved by one", exported("aes_cmac"), r"(\tmovaps\t\(%rsp\), (%xmm\d+)\n)", r"\1\tpsrldq\t$1, \2\n", "cmac 1"),
         ("another constant for subkeys", CMAC_TAG, r"andl\t\$135, ", "andl\t$134, ", "cmac 16"),
         ("the last byte of a tag not compared", CMAC_COMPARE, r"(\tcallq\t\*memcpy.*\n)", r"\tdecq\t%rdx\n\1", "cmac_verify 0 4"),
+        ("four bytes compared of a tag of five", CMAC_COMPARE, r"(\tcallq\t\*memcpy.*\n)",
+         r"\txorl\t%eax, %eax\n\tcmpq\t$5, %rdx\n\tsete\t%al\n\tsubq\t%rax, %rdx\n\1", "cmac_verify 0 5"),
         ("a text under the counter block of the tag", CCM_SEAL, r"movl\t\$16, %edx(\n(?:\t.*\n){0,8}" + CCM_STREAM + ")",
          r"movl\t$0, %edx\1", "ccm_seal 7 0 1 4"),
         ("a refused text of CCM not encrypted again", CCM_OPEN, "(%s" % call("aes_cipher::blocks::difference") + r"[\s\S]*?)" + CCM_STREAM, r"\1",
@@ -245,7 +271,9 @@ FAULTS = {
          r"cmpq\t$0, 16(\2)\n\tje\t77f\n\t\g<1>77:\n", "gcm_decrypt refused 8"),
         ("more decrypted than was verified", exported("gcm_decrypt"), r"\tcmovbq\t.*\n", "", "gcm_decrypt refused 14"),
         ("a nonce again after 2^72", exported("gcm_seal_next"), r"incl\t%e([abcd])x", r"incb\t%\1l",
-         "seal_next 3 1 4722366482869645213695"),
+         "seal_next 3 1 carry to byte 3"),
+        ("a nonce again at 6 * 2^64", exported("gcm_seal_next"), r"incl\t%e([abcd])x", r"movl\t%e\1x, %r11d\n\tincl\t%e\1x\n\tcmpl\t$5, %r11d\n"
+         r"\tsete\t%r11b\n\tmovzbl\t%r11b, %r11d\n\tsubl\t%r11d, %e\1x\n\txorl\t%r11d, %r11d", "seal_next 3 1 carry to byte 3"),
         ("a bit of the key in a flag after a message under the counter's next nonce", exported("gcm_seal_next"),
          r"(# %join\.3\.i\n)([\s\S]*?)\taddq\t\$24, %rsp\n([\s\S]*?)\txorl\t%r11d, %r11d\n\tretq\n", r"\1\tmovq\t%rdi, 16(%rsp)\n\2"
          r"\tmovq\t16(%rsp), %r11\n\taddq\t$24, %rsp\n\3\ttestb\t$1, 4(%r11)\n\tmovl\t$0, %r11d\n\tretq\n", "seal_next 3 1 None"),
@@ -270,11 +298,16 @@ FAULTS = {
         ("a refused output of AES-GCM-SIV without zeros", exported("gcm_siv_open_to"), MEMSET, "", "open 13 33 _to"),
     ],
     "x86_64/aes_v1": [
+        ("a jump by a table to where no mark is", function("aes_narrow::word_room::expand_words"), "notrack jmpq", "jmpq", "set_key"),
         ("a shift count of a transposition", FEW_BLOCKS, r"(sh[lr]l)\t\$2, ", r"\1\t$3, ", "blocks encrypt 2"),
         ("a gate of the S-box's circuit", ROUNDS_ON_PLANES, r"\tandl\t", "\torl\t", "blocks encrypt 2"),
         ("an instruction that the first processors lack", BLOCKS, ENTRY, r"\1\tpshufb\t%xmm0, %xmm0\n", "blocks encrypt 2"),
         ("planes of the round keys left on the stack", BLOCKS, ENTRY, r"\1\tmovups\t4(%rdi), %xmm0\n" + LEFT, "blocks encrypt 2"),
         ("the schedule of a call under a key not wiped", BLOCKS_WITH, WIPE_ELEMENTS, "", "blocks encrypt 1 _with"),
+    ],
+    "x86_64/gcm_v3": [
+        ("an instruction of AVX-512 with the name of one of AVX2", function("gcm::mode::BorrowedGcm::put_pre_counter"), r"\tvpsllvq\t",
+         r"\t{evex} vpsllvq\t", "seal 13 33"),
     ],
     "x86_64/gcm_v1": [
         ("GHASH: the sum of 127 multiples", BIT_BY_BIT, r"\$128, ", "$127, ", "seal 13 33"),
@@ -300,6 +333,8 @@ FAULTS = {
         ("a test of larger lanes than bytes, which is not covered", function("aes_c::single_rounds::mixed"),
          r"\tcmtst\t(v\d+)\.16b, (v\d+)\.16b, (v\d+)\.16b", r"\tcmtst\t\1.2d, \2.2d, \3.2d", "columns mix_columns"),
         ("the system's register written", BLOCKS, ENTRY, r"\1\tmov\tx18, #0\n", "blocks encrypt 2"),
+        ("the system's register changed for a while", BLOCKS, ENTRY,
+         r"\1\tmov\tx9, x18\n\tmov\tx18, #0\n\tmov\tx18, x9\n", "blocks encrypt 2"),
         ("a branch on data", LANES, r"(\tldp\tq(\d+), q\d+, .*\n)", r"\1\tfmov\tx22, d\2\n\tcbz\tx22, 77f\n77:\n", "blocks encrypt 2"),
         ("an address that csel chose by data", BLOCKS, ENTRY,
          r"\1\tldr\tx8, [x1]\n\tcmp\tx8, #0\n\tcsel\tx8, x0, x1, eq\n\tldrb\tw8, [x8]\n", "blocks encrypt 2"),
@@ -308,6 +343,7 @@ FAULTS = {
         ("a store below the stack pointer", BLOCKS, ENTRY, r"\1\tstur\tx8, [sp, #-16]\n", "blocks encrypt 2"),
         ("d10 and d11 not restored", PLANES, r"\tldp\td11, d10, .*\n", "", "blocks encrypt 16"),
         ("an instruction not covered", BLOCKS, ENTRY, r"\1\tisb\n", "blocks encrypt 2"),
+        ("a note without the marks of indirect calls", NOTE, "4, 1, 0", "4, 0, 0", "wipe"),
         ("counter mode without the carry", COUNTER, r"(\tadds\t.*\n)\tcinc\t.*\n", r"\1", "add_keystream 21 11 1"),
     ],
     "aarch64/gcm": [
@@ -315,6 +351,7 @@ FAULTS = {
         ("half of a tag compared", *HALF_COMPARED, "open 0 0"),
     ],
     "riscv32/aes": [
+        ("gp changed for a while", WIPE, ENTRY, r"\1\tmv\tt2, gp\n\tli\tgp, 0\n\tmv\tgp, t2\n", "wipe"),
         ("a branch on data", BLOCKS, ENTRY, r"\1\tlbu\tt0, 0(a1)\n\tbeqz\tt0, 77f\n77:\n", "blocks encrypt 2"),
         ("an address from data", BLOCKS, ENTRY, r"\1\tlbu\tt0, 0(a1)\n\tadd\tt0, t0, a1\n\tlbu\tt0, 0(t0)\n", "blocks encrypt 2"),
         ("a store to the struct, which is const", BLOCKS, ENTRY, r"\1\tsw\tzero, 0(a0)\n", "blocks encrypt 2"),
@@ -329,6 +366,9 @@ FAULTS = {
         ("a text's length of 32 bits", exported("gcm_encrypt"), r"(\tsw\t\w+, 8\(\w+\)\n)\tsw\t\w+, 12\(\w+\)\n", r"\1",
          "piece encrypt 2 5 4294967291 20 (12,)"),
     ],
+    "riscv64/aes_narrow": [
+        ("tp changed for a while", WIPE, ENTRY, r"\1\tmv\tt2, tp\n\tli\ttp, 0\n\tmv\ttp, t2\n", "wipe"),
+    ],
     "riscv64/gcm_narrow": bit_by_bit(64, r"(\tli\t\w+, )-31\n", r"\g<1>-30\n"),
     "aarch64/siv": [
         ("half of a tag compared", *HALF_COMPARED, "open 1 1"),
@@ -342,6 +382,8 @@ UNREACHED = {
     "x86_64/aes": [
         ("jumps that never go", WIPE, ENTRY, r"\1\txorl\t%eax, %eax\n\ttestl\t%eax, %eax\n" + MORE_THAN_LISTED * r"\tjne\t77f\n77:\n", "wipe"),
         ("an instruction that never runs", WIPE, ENTRY, r"\1\tjmp\t77f\n\tmovb\t$1, (%rdi)\n77:\n", "wipe"),
+        ("nothing wiped where the code's address has a byte", function("aes_cipher::zeroize::zeroize_words"), ENTRY, r"\1\tleaq\t0(%rip), %rax\n"
+         r"\tshrq\t$36, %rax\n\tandl\t$255, %eax\n\tcmpl\t$0x55, %eax\n\tjne\t77f\n\tmovq\t$0, (%rdi)\n\tretq\n77:\n", "blocks encrypt 17"),
         ("carries that never come", WIPE, ENTRY, r"\1\txorl\t%eax, %eax\n" + MORE_THAN_LISTED * r"\tadcq\t$0, %rax\n", "wipe"),
     ],
 }

@@ -5,6 +5,7 @@ message that comes in pieces is proved from any state of the message: whatever v
 import functools
 import itertools
 from collections import namedtuple
+from dataclasses import dataclass
 
 from aes import BATCH, DONE, NEVER, PTRDIFF_MAX, STRUCT as AES_STRUCT, CounterWord, between, nothing, unequal, unread
 from bits import DATA, KEY, PUBLIC
@@ -30,6 +31,15 @@ OF_J_0 = "J_0 low, at every length"
 AnyNonce = namedtuple("AnyNonce", "arguments phases steps mask stream more facts")
 # J_0: twelve bytes and the number that its last four are; how GHASH makes it of a nonce of another length; the arguments of a call.
 PreCounter = namedtuple("PreCounter", "bytes counter hashing arguments")
+
+
+@dataclass(frozen=True)
+class CarryTo:
+    """A counter of nonces of which a carry comes to one byte, which may be any: those behind it are 255, and those before it 0."""
+    place: int
+
+    def __str__(self):
+        return "carry to byte %d" % self.place
 
 
 class KeyedGcm(KeyedHash):
@@ -107,9 +117,11 @@ class KeyedGcm(KeyedHash):
         return PreCounter(bytes_, counter, hashing, arguments)
 
     def counted(self, counter=None):
-        """The counter of nonces at a number, or at any whose low half has no carry; and what the call assumes of it."""
+        """The counter of nonces at a number, at one of a CarryTo, or at any whose low half has no carry; and what the call assumes of it."""
         d = self.domain
-        if counter is not None:
+        if isinstance(counter, CarryTo):
+            nonce, after, assumes = self.carried_to(counter.place)
+        elif counter is not None:
             nonce, after, assumes = number(counter, 12), number(counter + 1, 12), None
         else:
             d.words["nonce low"] = lambda offset, k: d.bits(self.nonce[11 - k]) if offset == 0 else None
@@ -118,6 +130,13 @@ class KeyedGcm(KeyedHash):
         bytes_ = self.nonce if counter is None else nonce
         buffers = [Buffer("counter", nonce, after), Buffer("nonce", self.undefined(12), nonce)]
         return PreCounter(bytes_, 1, Hashing(self, ZEROS), buffers), assumes
+
+    def carried_to(self, place):
+        """Such a counter, the next one, and what is assumed: that it isn't the last one."""
+        d, byte, before = self.domain, self.nonce[place], [0] * place
+        more, carry = (d.lookup(tuple(map(function, range(256))), d.bits(byte)) for function in (lambda x: (x + 1) % 256, lambda x: x // 255))
+        after = [*before[1:], *[carry][:place], more] + [0] * (11 - place)
+        return before + [byte] + [255] * (11 - place), after, None if place else [d.xor_byte(byte, 255)]
 
     # J_0 of unknown value: its end is a word, of which the lowest 32 bits are a number that is one more in each block.
     def any_counter(self):

@@ -9,15 +9,17 @@ from collections import namedtuple
 
 from bits import LOST, Unproved
 from linear import is_number, refuted, replaced, terms, unknown, wrapped
-from operands import FARTHEST, Number, Pointer, is_int, is_pointer, lanes
+from operands import FARTHEST, SECRET, Number, Pointer, is_int, is_pointer, lanes
 from regions import Window
 from unknowns import WRAPPED
+
+FLAG = "a flag"  # a difference of two states
 
 # The last time at the head of a loop: how many comparisons were decided before it; the state after the first pass, with what was decided
 # in that; and the general state (see General).
 Visit = namedtuple("Visit", "mark first facts general", defaults=[None, None, None])
 # The unknown for the number of passes; the state; the facts of it that are guessed; by how many blocks a pass moves on; and what it was
-# made of: two Visits, and which guesses were wrong.
+# made of: two Visits, and which guesses were wrong: facts, registers that were alike after the first passes, and that no flag is secret.
 General = namedtuple("General", "name state guesses blocks made_of wrong")
 
 
@@ -195,6 +197,15 @@ def with_number(m, x, y, passes, numbers):
     return None
 
 
+def guessed(facts, later, wrong):
+    """What was decided in each of two passes, the last first: a number and by how much it moves. If that was a wrong guess, the number is one
+    pass behind."""
+    for a, b in zip(reversed(facts), reversed(later)):
+        starts = [start for start in (a, a - (b - a)) if start not in wrong]
+        if is_int(b - a) and b != a and starts and WRAPPED not in terms(a):
+            yield starts[0], b - a
+
+
 numbers = itertools.count()
 
 
@@ -209,7 +220,7 @@ def general_state(known, key, visit, now, wrong=frozenset()):
     g.forget_differences()
     g.done = generally(first.done, second.done, passes, g.most)
     for r, v in first.general.items():
-        general = generally(v, second.general[r], passes, g.most)
+        general = None if r in wrong else generally(v, second.general[r], passes, g.most)
         g.general[r] = tuple(g.any_byte() for _ in range(g.word)) if general is None else general
     g.vectors = [general_bytes(g, v, w, passes) for v, w in zip(first.vectors, second.vectors)]
     changed = [(v, w) for r, v in first.general.items() if is_number(v, w := second.general[r]) and is_int(w - v) and v != w]
@@ -224,10 +235,9 @@ def general_state(known, key, visit, now, wrong=frozenset()):
             if region.origin is None:
                 raise Unproved("two passes of a loop don't come as far in %s" % name_)
     g.stale, g.lowest = first.stale | second.stale, min(first.lowest, second.lowest)
-    g.set_flags()
-    pairs = zip(reversed(visit.facts), reversed(now.facts))  # what was decided in each pass, the last first
-    guesses = {a + passes * (b - a) for a, b in pairs if is_int(b - a) and b != a and first.implied(a)}
-    guesses = frozenset(f for f in guesses if replaced(f, name, 0) not in wrong and WRAPPED not in terms(f))
+    secret = FLAG in wrong or any(state.is_secret(flag) for state in (first, second) for flag in state.flags.values())
+    g.flags = dict.fromkeys(g.flag_names, SECRET if secret else None)
+    guesses = frozenset(start + passes * by for start, by in guessed(visit.facts, now.facts, wrong) if first.implied(start))
     g.facts = first.facts | guesses | {passes}
     g.forget_wrap()
     if not g.implied((1 << 63) - passes):
@@ -244,15 +254,23 @@ def came_back(m, general):
     """After a pass from a general state: whether it is the same state with one more pass."""
     m.settle()
     m, one_more = moved_on(m, general.blocks), unknown(general.name) + 1
-    for guess in general.guesses:
-        if not m.implied(replaced(guess, general.name, one_more)):
-            raise Wrong(general, replaced(guess, general.name, 0))
+    wrong = {replaced(guess, general.name, 0) for guess in general.guesses if not m.implied(replaced(guess, general.name, one_more))}
+    wrong = wrong or {what for what in differences(m, general, one_more) if what in (*m.general, FLAG)}
+    if wrong:
+        raise Wrong(general, wrong)
     is_instance(m, general, one_more)
     raise Leads([])
 
 
 def is_instance(m, general, passes):
     """Whether a machine is in the general state, with this number of passes: then what is proved from there holds for it."""
+    wrong = differences(m, general, passes)
+    if wrong:
+        raise Unproved("a pass of a loop doesn't lead to the same state: " + ", ".join(wrong))
+
+
+def differences(m, general, passes):
+    """In what a machine isn't in that state."""
     want, any_ = general.state.copied(), m.domain.opaque(LOST)
     want.replace_unknown(general.name, passes)
 
@@ -266,12 +284,11 @@ def is_instance(m, general, passes):
     wrong += [name for name, r, s in pairs if not same(of(r, name), of(s, name)) or window(r) != window(s)]
     alike = "first_block", "domain", "entered", "top", "done", "phase", "next_address", "counter"
     wrong += [what for what in alike if getattr(want, what) != getattr(m, what)]
-    wrong += ["a fact"] * (not all(m.implied(f) for f in want.facts)) + ["a flag"] * any(f is not None for f in want.flags.values())
+    wrong += ["a fact"] * (not all(m.implied(f) for f in want.facts))
+    wrong += [FLAG] * any(flag != SECRET and (flag is not None or m.is_secret(m.flags[f])) for f, flag in want.flags.items())
     wrong += ["what may be overwritten"] * (not m.stale <= want.stale) + ["the lowest place"] * (m.lowest < want.lowest)
     wrong += ["origins"] * (not m.origins.items() <= want.origins.items()) + ["answers"] * (not want.answers.items() <= m.answers.items())
-    wrong += ["what was asked of secrets"] * (m.asked_of_secrets() != want.asked_of_secrets())
-    if wrong:
-        raise Unproved("a pass of a loop doesn't lead to the same state: " + ", ".join(wrong))
+    return wrong + ["what was asked of secrets"] * (m.asked_of_secrets() != want.asked_of_secrets())
 
 
 def check_ends(ends, call):

@@ -9,7 +9,9 @@ import subprocess
 from aarch64 import Aarch64
 from bits import Unproved
 from domain import Domain
-from elf import DEFAULT, GLOBAL, GROUP, HIDDEN, LOADED, LOCAL, SYMBOLS, UNDEFINED, WRITTEN, Comparison, Elf
+from elf import (CONTENT, DEFAULT, GLOBAL, HIDDEN, LOADED, LOCAL, MARKED, NEEDED, NO_BITS, NOTE, RELOCATIONS, RISCV_ATTRIBUTES, STRINGS,
+                 SYMBOLS, UNDEFINED, WRITTEN, Comparison, Elf)
+from lines import refuse_lines
 from operands import Pointer
 from program import LIBC, Program
 from regions import Region
@@ -65,8 +67,8 @@ def is_windows(build):
 
 
 def takes_few(build):
-    """Whether it is proved at a few lengths, as its text is compiled from what others are (prove.py)."""
-    return suffix_of(build) == "_v1" or is_windows(build)
+    """Whether it is proved at a few lengths, but with PROVE=all: its text is compiled from what others are (cases.py)."""
+    return suffix_of(build) == "_v1" or is_windows(build) or issubclass(BUILDS[build], Riscv)
 
 
 # What the Makefile builds.
@@ -121,15 +123,26 @@ def compared(library, exports, objects):
     Comparison(Elf(library), [Elf(path) for path in objects]).of(exports)
 
 
+def fault_of(check, *arguments):
+    """What it refuses."""
+    try:
+        check(*arguments)
+    except Unproved as e:
+        return str(e)
+    return ""
+
+
+def line_cases(dist, builds):
+    """A text has no other lines than those of lines.py."""
+    for text, machine in {source(dist, build): BUILDS[build] for build in builds}.items():
+        yield "%s: its lines" % text, fault_of(refuse_lines, text, machine)
+
+
 def rust_cases(dist, out, objects):
     """A text that a Rust crate may hold, which assembles it with `in_rust`, has the same then. objects: {build: its member}"""
     for build, member in objects.items():
         if "siv" not in build and is_for_rust(source(dist, build)) and not (is_windows(build) or BUILDS[build].relaxed):
-            try:
-                compare_in_rust(build, source(dist, build), member, "%s/%s" % (out, build.replace("/", "_")))
-                fault = ""
-            except Unproved as e:
-                fault = str(e)
+            fault = fault_of(compare_in_rust, build, source(dist, build), member, "%s/%s" % (out, build.replace("/", "_")))
             yield "%s.s in a Rust crate, against the static library" % build, fault
 
 
@@ -143,7 +156,7 @@ def compare_in_rust(build, text, member, out):
     machine, suffix = BUILDS[build], suffix_of(build)
     run(*machine.compiler, "-Wa,-defsym,in_rust=1", "-c", text, "-o", out + ".rust.o")
     run(*machine.linker, "-shared", "-z", "noexecstack", out + ".rust.o", "-o", out + ".rust.so")
-    refuse_sections(out + ".rust.o")
+    refuse_sections(out + ".rust.o", True)
     exports = {name: name.rpartition(".")[2] + suffix for name in Elf(out + ".rust.o").exports}
     if sorted(exports.values()) != sorted(Elf(member).exports):
         raise Unproved("%s has other exports in a Rust crate" % text)
@@ -154,13 +167,9 @@ def built_cases(built):
     """Each shared library that was built has what the static one has."""
     for library in filter(built.has, ("aes", "gcm")) if not built.machine.relaxed else ():
         for path, exports, objects in built.shared(library):
-            try:
-                compared(path, exports, objects)
-                if "glibc-hwcaps" in path:  # of an object of its own
-                    refuse_sections("%s/%s_v3.o" % (built.out, library))
-                fault = ""
-            except Unproved as e:
-                fault = str(e)
+            fault = fault_of(compared, path, exports, objects)
+            if "glibc-hwcaps" in path:  # of an object of its own
+                fault = fault or fault_of(refuse_plain, "%s/%s_v3.o" % (built.out, library), objects[0], "_v3")
             yield "%s: its %d exports, and what they lead to, against the static library" % (path, len(exports)), fault
 
 
@@ -185,7 +194,7 @@ def assembled(build, text, out):
     refuse_names(out + ".o", suffix)
     if suffix:
         run(*machine.compiler, "-c", text, "-o", out + ".plain.o")
-        refuse_sections(out + ".plain.o")
+        refuse_plain(out + ".plain.o", out + ".o", suffix)
         run(*machine.linker, "-shared", "-z", "noexecstack", "--version-script", os.path.dirname(HERE) + "/exports.map", out + ".plain.o",
             "-o", out + ".so")
         compared(out + ".so", exports_of(out + ".o", suffix), [out + ".o"])
@@ -232,34 +241,43 @@ def refuse_names_of_windows(path, suffix):
     symbols = re.findall(r"(?m)^[0-9a-f ]{16} (\w) (\S+)$", run(Windows.tools + "nm", path))
     ours = lambda name: name.startswith("fotsgure_") and name.endswith(suffix)
     known = {*LIBC, *Windows.also_called}
-    sections = re.findall(r"(?m)^ +\d+ (\S+) +[0-9a-f]{8} ", run(Windows.tools + "objdump", "-h", path))
-    refuse_other_sections(path, [name for name in sections if not re.match(r"\.(text|rdata|data|bss|pdata|xdata|debug_\w+)\b|/\d+$", name)])
     others = [name for kind, name in symbols if not (
         kind.islower() and kind not in "wv" and not ours(name) and name not in {*LIBC, *HOST} or kind == "T" and ours(name)
         or kind == "U" and name in known)]
-    if others or "LINK_ONCE" in run(Windows.tools + "objdump", "-h", path):
+    if others:
         raise Unproved("depends on what else is linked: " + ", ".join(others))
     names = [name for kind, name in symbols if kind == "T"]
     if len(set(names)) != len(names):
         raise Unproved("defines a name twice")
 
 
-NEEDED = 0xc0008002.to_bytes(4, "little")  # of .note.gnu.property: what the loader asks of a processor
+# The sections that an object may have, by whether they are loaded and written; and of which kinds.
+SECTIONS = {LOADED: r"\.(text|rodata|note\.gnu\.property|note\.fotsgure)(\..+)?", LOADED | WRITTEN: r"\.(data|bss)",
+            0: r"|\.(comment|note\.GNU-stack|riscv\.attributes|symtab|strtab|shstrtab|debug_\w+|rela\..+)"}
+KINDS = 0, CONTENT, SYMBOLS, STRINGS, RELOCATIONS, NOTE, NO_BITS, RISCV_ATTRIBUTES
 
 
-def refuse_sections(path):
-    """What an object may have besides code and constants that nothing writes: what runs before or after all calls, a stack that may be run,
-    and a note by which a loader refuses processors."""
-    sections = Elf(path).sections
-    right = lambda s: re.match(r"\.(text|s?rodata|note|eh_frame|s?data|s?bss)\b", s.name) and NEEDED not in s.content
-    wrong = [s.name for s in sections if s.flags & LOADED and not (right(s) and not (s.flags & WRITTEN and s.content))]
-    stacks = [s.name for s in sections if s.name == ".note.GNU-stack" and not s.flags]
-    refuse_other_sections(path, wrong if stacks else [*wrong, "a stack that may be run"])
+def refuse_sections(path, in_rust=False):
+    """What an object may have besides code and constants that nothing writes: notes, and what isn't loaded and no linker acts on. One that
+    lacks the note of its marks, if that isn't the crate's, and a stack that may be run."""
+    elf = Elf(path)
+    right = lambda s: s.kind in KINDS and re.fullmatch(SECTIONS.get(s.flags & (LOADED | WRITTEN), "(?!)"), s.name)
+    wrong = [s.name for s in elf.sections if not right(s) or s.flags & WRITTEN and s.size]
+    stacks = [s.flags for s in elf.sections if s.name == ".note.GNU-stack"]
+    wrong += ["a stack that may be run"] * (not stacks or any(stacks))
+    kind, value = (None, None) if in_rust else MARKED.get(elf.machine, (None, None))
+    properties = [one for one in elf.properties() if one[0] in (NEEDED, kind)]
+    wrong += ["a note that says something else of marks or processors"] * (properties != [(kind, value)] * bool(kind))
+    if wrong:
+        raise Unproved("%s has more than code and constants: %s" % (path, ", ".join(wrong)))
 
 
-def refuse_other_sections(path, names):
-    if names:
-        raise Unproved("%s has more than code and constants: %s" % (path, ", ".join(names)))
+def refuse_plain(path, member, suffix):
+    """The same, and other names, of an object of the same text as a member of a static library, in which names have no suffix."""
+    refuse_sections(path)
+    refuse_names(path, "")
+    if sorted(Elf(path).exports) != sorted(exports_of(member, suffix)):
+        raise Unproved("%s has other exports than the static library" % path)
 
 
 def refuse_names(path, suffix):
@@ -269,9 +287,9 @@ def refuse_names(path, suffix):
     ours = lambda s: s.binding == GLOBAL and s.visibility == (HIDDEN if suffix else DEFAULT) and s.name.startswith(
         "fotsgure_") and s.name.endswith(suffix)
     known = {*LIBC, "_GLOBAL_OFFSET_TABLE_"}
-    is_known = lambda s: s.name in known if s.section == UNDEFINED else ours(s)
+    is_known = lambda s: s.name in known and s.binding == GLOBAL if s.section == UNDEFINED else ours(s)
     others = sorted(s.name for s in elf.all_symbols() if s.binding != LOCAL and not is_known(s))
-    if others or any(section.kind == GROUP for section in elf.sections):
+    if others:
         raise Unproved("depends on what else is linked: " + ", ".join(others))
     names = [s.name for s in elf.all_symbols() if s.section != UNDEFINED and s.name]
     taken = {*LIBC, *HOST} & {*names} | {name for name in names if name.startswith("fotsgure_") and names.count(name) > 1}
@@ -286,11 +304,14 @@ def refuse_instructions(program, suffix):
     without = [name for name, address in program.exports.items() if not re.match(program.machine.mark, program.lines[address])]
     if without:
         raise Unproved("has no mark at the beginning of " + ", ".join(without))
-    later = [] if not suffix else program.machine.later[int(suffix[2]) - 1:]
+    machine, elf = program.machine, Elf(program.path)
+    later = [] if not suffix else machine.later[int(suffix[2]) - 1:]
     for address in (address for addresses in functions.values() for address in addresses):
-        name = program.decoded(address).name
-        if any(re.fullmatch(pattern, name) for pattern in later):
-            raise Unproved("has an instruction that not all of its processors have: " + program.lines[address])
+        name, line = program.decoded(address).name, program.lines[address]
+        if any(re.fullmatch(pattern, name) for pattern in later) or elf.bytes_at(address, 1) == machine.avx512:
+            raise Unproved("has an instruction that not all of its processors have: " + line)
+        if re.match(machine.to_mark, line):
+            raise Unproved("has an indirect jump or call that arrives where a mark has to be: " + line)
     function_of = {address: name for name, addresses in functions.items() for address in addresses}
     mentioned = lambda name: {function_of.get(int(target, 16)) for address in functions[name]
                               for target in re.findall(r"\b[0-9a-f]{8,12}\b", program.lines[address])} - {None}

@@ -149,7 +149,7 @@ LONG_FAULTS = {
         ("one of 24 bits looked at in unwrapping", UNWRAP_PADDED, r"\tmovl\t%(\w+), 4\(%(\w+)\)\n(?=\tjmp)",
          r"\tandl\t$0xffffff, %\1\n\g<0>", "any_unwrap_padded 3"),
         ("a refused text of more than 2^20 bytes not encrypted again", CCM_OPEN, AGAIN,
-         r"\g<before>\tcmpq\t$1048576, %r8\n\tja\t77f\n\g<call>77:\n", "any_ccm_open 8 15 33 8"),
+         r"\g<before>\tcmpq\t$1048576, %r8\n\tja\t77f\n\g<call>77:\n", "any_ccm_open 12 15 33 8"),
         ("another status for 2^32 blocks and more under a key", BLOCKS_WITH, ENTRY,
          r"\1\tmovq\t%rcx, %rax\n\tshrq\t$32, %rax\n\tje\t77f\n\tmovl\t$2, %eax\n\tretq\n77:\n", "any_blocks encrypt 1 _with"),
     ],
@@ -164,7 +164,7 @@ LONG_FAULTS = {
         ("a batch left out at 2^20 blocks", IN_BATCHES, r"(\tadd\t(x\d+), \2, #8\n)(?=[\s\S]*?\tadd\t(x\d+), \3, #128\n)",
          r"\1\tcmp\t\2, #256, lsl #12\n\tb.ne\t77f\n\tadd\t\2, \2, #8\n\tadd\t\3, \3, #128\n77:\n", CASE),
         ("a step's number of 32 bits in key wrap", WRAP_TURNS, r"\trev\tx9, x(\d+)\n", r"\tmov\tw9, w\1\n\trev\tx9, x9\n", "any_wrap_padded 3"),
-        ("the length of 65,279 bytes of additional data in six", CCM_TAG, r"cmp\tx(\d+), #254\n", r"cmp\tx\1, #253\n", "any_ccm_open 8 15 33 8"),
+        ("the length of 65,279 bytes of additional data in six", CCM_TAG, r"cmp\tx(\d+), #254\n", r"cmp\tx\1, #253\n", "any_ccm_open 12 15 33 8"),
     ],
     "x86_64/gcm": [
         ("bits 32 to 39 of a text's length left out of the tag", PUT_TAG, r"shrq\t\$29, %(r\w+)\n",

@@ -23,6 +23,7 @@ Machine, in a file of its own (x86_64.py, aarch64.py, riscv.py), that says:
     red_zone               bytes below the stack pointer that a function may use
     stack_step             what the stack pointer has to be a multiple of where it is the base of an access
     mark                   how a line of objdump begins where an indirect call may arrive, if a processor looks for that
+    jumps                  how a line of objdump begins that is a jump to an address, and no call
     conditional, padding        how a line of objdump begins that is a conditional jump or adds a carry, or fills up space between others
     decode(text, following)     a line of objdump as an Instruction; `following` is the next address
     leave()                     after libc's function: goes on at the return address
@@ -41,9 +42,10 @@ from unknowns import Unknowns
 
 
 class Machine(Arithmetic, Unknowns, Bytewise, Access):
-    pushed, kept_vectors, shadow, stack_step, also_called, mark = (), {}, 0, 1, (), ""
+    pushed, kept_vectors, shadow, stack_step, also_called, mark, to_mark = (), {}, 0, 1, (), "", "(?!)"
+    reserved = ()  # registers that may not change, as a signal's handler or the system may use them at any time
     word, most, flag_names = 8, WORD, "czso"
-    start, strict, relaxed = 0x123456700000, False, False
+    start, strict, relaxed, comment, avx512 = 0x123456700000, False, False, "#", b""
 
     def __init__(self, domain, program, regions, entry, arguments):
         """regions: {name: Region}, among them "stack": what is below the return address. (`enter` adds what the caller has put there.)"""
@@ -91,8 +93,10 @@ class Machine(Arithmetic, Unknowns, Bytewise, Access):
 
     # Flags.
     def set_flags(self, **flags):
-        """Flags that aren't named become undefined."""
-        self.flags = dict.fromkeys(self.flag_names)
+        """Flags that aren't named become undefined. If one tells of a secret, so may they."""
+        all_named = len(flags) == len(self.flag_names)
+        secret = not all_named and any(map(self.is_secret, (*self.flags.values(), *flags.values())))
+        self.flags = dict.fromkeys(self.flag_names, SECRET if secret else None)
         self.flags.update(flags)
 
     def decide(self, flag):
@@ -277,8 +281,9 @@ class Machine(Arithmetic, Unknowns, Bytewise, Access):
         cells, other = list(cells), domain is not self.domain
         if self.native:
             self.native.values.renamed(cells, domain)
-        if other:  # what was asked of bytes of the other domain
-            self.equalities = {}
+        if other:  # what is known of bytes of the other domain, by their numbers
+            self.equalities, self.any_of, lost, self.lost = {}, {}, self.lost, set()
+            self.lost |= {convert(b) for b in lost}
             self.set_flags(**{f: value for f, value in self.flags.items() if value in (0, 1)})
             self.general = {r: tuple(self.to_bytes(v, self.word)) if isinstance(v, Verdict) else v for r, v in self.general.items()}
         self.domain = domain

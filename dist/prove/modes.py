@@ -123,7 +123,10 @@ class KeyedAes(SingleRounds, Keyed):
 
     def ccm_crypted(self, nonce, text):
         """Keystream, which begins with counter block 1, added to a text (6.1, steps 6 to 8); and that keystream."""
-        stream = [b for i in range(1, len(text) // 16 + 2) for b in self.counter_stream(nonce, i)]
+        end = len(text) // 16 + 2
+        for i in range(end, end + self.program.narrow // 2):  # a batch may have more blocks: their S-boxes have names then
+            self.counter_stream(nonce, i)
+        stream = [b for i in range(1, end) for b in self.counter_stream(nonce, i)]
         return self.aes.xor(text, stream), stream
 
     def formatted(self, nonce, additional_length, text_length, tag_length):

@@ -57,7 +57,7 @@ class Program:
         """{address: addresses} of where jumps lead backwards, and where they stand: the heads of loops."""
         out = {}
         for address, line in self.lines.items():
-            jump = re.match(r"(?:j\w+|b(?:\.\w+)?|cbn?z|tbn?z)\s.*?\b([0-9a-f]+) <", line)
+            jump = re.match(r"(?:%s)\s.*?\b([0-9a-f]+) <" % self.machine.jumps, line)
             if jump and int(jump[1], 16) <= address:
                 out.setdefault(int(jump[1], 16), set()).add(address)
         return out

@@ -11,7 +11,8 @@ import time
 import uncovered
 from domain import Domain
 from headers import header_cases, riscv_header_cases
-from linking import BUILDS, HERE, MACHINES, Built, built_cases, choice_cases, library_of, rust_cases, suffix_of, takes_few, text_of
+from linking import (BUILDS, HERE, MACHINES, Built, built_cases, choice_cases, library_of, line_cases, rust_cases, suffix_of, takes_few,
+                     text_of)
 from processors import PROCESSORS
 from program import Program
 from standards import pinned
@@ -32,8 +33,7 @@ def say_what_ran(tasks, options):
     for text, own in texts.items():
         program = Program(own[0].path, own[0].machine, suffix_of(own[0].build))
         found = uncovered.of_text(program, *(set().union(*some) for some in zip(*((task.ran, task.went) for task in own))))
-        # Of the builds that take few lengths all cases run with PROVE=all. Of RISC-V the list of uncovered.py says nothing.
-        judged = not own[0].machine.relaxed and (options.level == "all" or not takes_few(own[0].build))
+        judged = options.level == "all" or not takes_few(own[0].build)  # of the builds that take few lengths all cases run with PROVE=all
         print("%s.s: %s%s" % (text, uncovered.summary(program, found), "" if judged else "; not judged here"))
         if options.lines:
             for name, one in found.items():
@@ -53,8 +53,7 @@ def without_case(text, program, tasks):
         if size == 24:  # AES-GCM-SIV has no such keys
             exports = {name for name in exports if not name.startswith("fotsgure_gcm_siv_")}
         without = exports - {"fotsgure_" + call for task in own for call in task.calls}
-        without = {name for name in without if (text, name) not in uncovered.WITHOUT_CASE}
-        if without and (size == 16 or not own[0].machine.relaxed):  # RISC-V takes few calls with others
+        if without:
             yield "no case of %s with keys of %d bytes" % (", ".join(sorted(without)), size)
 
 
@@ -139,8 +138,9 @@ def main():
     vectors = pinned(Domain())
     all_built = libraries_of(options)
     headers = itertools.chain(header_cases(options.dist), riscv_header_cases(options.dist, options.builds))
+    texts = line_cases(options.dist, options.builds), rust_cases(options.dist, options.out, options.objects)
     proved, failed = said(itertools.chain(headers, *map(built_cases, all_built), *(
-        choice_cases(built, options.dist, options.out) for built in all_built), rust_cases(options.dist, options.out, options.objects)))
+        choice_cases(built, options.dist, options.out) for built in all_built), *texts))
     with pool_of(options.jobs, max_tasks_per_child=1) as pool:
         for task in run_all(pool, options):
             print("%s: %d proved, %d failed, %.0f s" % (task.name, task.proved, task.failed, task.seconds), flush=True)

@@ -7,7 +7,7 @@ and on no data; else it is a bit, or a Verdict."""
 import re
 
 from bits import Pause, Undefined, Unproved
-from linear import Linear, is_number, unknown
+from linear import Linear, is_number, refuse, unknown
 from machine import Machine
 from operands import (RETURN_ADDRESS, SECRET, WRAPS, Distance, Instruction, Memory, Number, Register, Table, Verdict, constant, contrary, form,
                       is_int, is_pointer)
@@ -28,9 +28,10 @@ class Riscv(Machine):
     registers, stack_pointer, stack_step = NAMES, "sp", 1
     vector_count, vector_size = 0, 0
     arguments, result = A, "a0"
-    kept = ["sp", "gp", "tp", *S]
+    kept, reserved = ["sp", "gp", "tp", *S], ("gp", "tp")
     scratch = A + ["t%d" % n for n in range(7)]
     red_zone, strict, relaxed, flag_names = 0, True, True, ""
+    jumps = r"(?:c\.)?(?:j|b[a-z]+)|jal(?=\tzero)"
     conditional, padding = r"(c\.)?b(eq|ne|lt|ge)", r"c\.nop|addi\tzero,zero,0"
 
     def enter(self, arguments):
@@ -120,10 +121,11 @@ class Riscv(Machine):
     def has_wrapped(self, x, y):
         """Whether a word of a counter, which was added to, has wrapped around: it is less than it was, or than what was added."""
         is_low, block = x.base == self.counter.word, x.offset
-        before = y.offset if is_pointer(y) and y.base == x.base else block - constant("what is added to a counter", y)
-        if not 0 <= before <= block <= (self.counter.last if is_low else 1):
+        y = self.counter_word(y)
+        before = y.offset if is_pointer(y) and y.base == x.base else block - in_range(self, y)
+        if not all(map(self.implied, (before, block - before, (self.counter.last if is_low else 1) - block))):
             raise Unproved("compares a counter with something else than what it was")
-        return int(is_low and before < self.counter.wrap <= block)
+        return int(is_low and self.wraps(before, block))
 
     def signed(self, v):
         """A number with a sign, of which the highest bit is its contrary: these are in the same order as numbers without."""
@@ -163,6 +165,10 @@ class Riscv64(Riscv):
 
     def plus(self, x, y, carry, size):
         return super().plus(self.without_higher(x), self.without_higher(y), carry, size)
+
+    def only_zero(self, differences):
+        """Of the lower half, which the code then takes by itself."""
+        return self.from_bytes(self.to_bytes(super().only_zero(differences[:4]), 4) + [self.any_byte()] * (len(differences) - 4))
 
     def without_higher(self, v):
         """The Number in the lower half of a word: what is added to it is so modulo 2^32."""
@@ -218,6 +224,8 @@ def either(m, x, y):
         return (y, x)[zeros.index(1)]
     if Linear in (type(x), type(y)) and is_number(x, y) and 0 not in (x, y):
         x, y = in_range(m, x), in_range(m, y)
+        if any(is_int(high) and m.implied((high & -high) - 1 - low) for low, high in ((x, y), (y, x))):  # they have no bits in common
+            return m.logic("or", x, y, m.word)
         return some_number(m, "%s or %s" % (x, y), {-x, -y}, x + y)
     return m.logic("or", x, y, m.word)
 
@@ -246,7 +254,7 @@ def added(m, x, y):
 
 def in_range(m, x):
     """A number as the machine has it: what is said of it isn't so of one that has wrapped around."""
-    x = m.ranged(x)
+    x = m.ranged(x) if is_number(x) else refuse()
     if not m.fits(x):
         raise Unproved("computes with a number that may have wrapped around")
     return x

@@ -5,7 +5,7 @@ import time
 
 from bits import Unproved
 from cases import LIBRARIES, statements
-from linking import BUILDS, is_windows, program_of, suffix_of, takes_few
+from linking import BUILDS, is_windows, narrow_word, program_of, takes_few
 from native import compare_all
 from operands import lanes
 from processors import MEANINGS, PROCESSORS
@@ -17,8 +17,8 @@ SEED = 1
 # Calls that also run on the processor, by default and with all lengths.
 BESIDE = "blocks encrypt 17", "add_keystream 21 11 1", "seal 13 33"
 OF_FEW_BESIDE = "add_keystream 0 33", "seal 13 33"  # (not of narrow ones for Windows)
-ON_RISCV = "blocks encrypt 1", "add_keystream 21 11 1", "seal 0 0"
-ALL_BESIDE = *BESIDE, "set_key", "add_keystream 0 130", "unwrap 3", "seal 1 1", "open 0 0", "open 1 1"
+ON_RISCV = "blocks encrypt 2", "add_keystream 21 40 1", "additional 3 13"
+ALL_BESIDE = *BESIDE, "add_keystream 0 130", "unwrap 3", "seal 1 1", "open 0 0", "open 1 1"
 
 
 class Task:
@@ -59,6 +59,16 @@ class Task:
             self.kept_key = keyed.kept_key()
         self.ran, self.went = set(program.cache), program.went  # (what was decoded ran)
 
+    def beside(self):
+        """The calls that also run on the processor."""
+        if self.key_size != self.options.keys[0] or self.library == "siv" and (self.options.level != "all" or narrow_word(self.build)):
+            return ()
+        if self.machine.relaxed:
+            return ON_RISCV
+        if takes_few(self.build):
+            return () if is_windows(self.build) and narrow_word(self.build) else OF_FEW_BESIDE
+        return (*ALL_BESIDE, *["set_key"] * (self.part == 0)) if self.options.level == "all" else BESIDE
+
     def case(self, what, prove):
         start = time.process_time()
         try:
@@ -66,13 +76,11 @@ class Task:
             self.used.update(m.used)
             left = ", ".join("%d %s in %s" % (len(v), kind, place) for (place, kind), v in sorted(m.left.items()))
             text = "%d instructions, %d bytes of stack; left: %s" % (m.steps, m.top - m.lowest, left or "nothing")
-            beside = ON_RISCV if self.machine.relaxed else ALL_BESIDE if self.options.level == "all" else () if self.library == "siv" else (
-                BESIDE if not takes_few(self.build) else () if is_windows(self.build) and suffix_of(self.build) == "_v1" else OF_FEW_BESIDE)
-            if self.key_size == self.options.keys[0] and what in beside and not PROCESSORS[self.machine].missing():
+            if what in self.beside() and not PROCESSORS[self.machine].missing():
                 self.compared |= set(prove(SEED).used)
             self.proved += 1
-        except Unproved as e:
-            text = "NOT PROVED: %s" % e
+        except Exception as e:  # also a fault of this program, which doesn't end the others
+            text = "NOT PROVED: %s" % (e if isinstance(e, Unproved) else repr(e))
             self.failed += 1
         if self.options.lines or text.startswith("NOT"):
             print("%s, %s: %s; %.1f s" % (self.name, what, text, time.process_time() - start), flush=True)
@@ -85,7 +93,7 @@ def pool_of(jobs, **more):
 
 def parts_of(level, build, size):
     """In how many parts the calls of a build are proved: so that all take about as long, and with all lengths not too much memory."""
-    return 8 if level == "all" else 1 if level or size != 16 or takes_few(build) else 4
+    return (3 if takes_few(build) else 8) if level == "all" else 1 if level or size != 16 or takes_few(build) else 4
 
 
 def run_all(pool, options):

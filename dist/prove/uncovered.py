@@ -7,7 +7,9 @@ UNCOVERED = [
     (".*", r"fotsgure_\w+", 0, 3, "A struct holds no key or one of 16, 24 or 32 bytes, so a check of its length finds no other."),
     (".*", r"fotsgure_\w+_(to|with)", 32, 14, "A copy between buffers ends in any number of bytes, at any distance: not each is tried."),
     (".*/gcm.*", r"fotsgure_gcm_(seal|begin)_next", 60, 3, "The last number of a counter is refused first, and is looked for once more."),
-    (".*", r"zeroize\.\w+(\.\w+)?", 36, 4, "What is wiped has one of a few lengths, and the loops are for any."),
+    *((text, function, idle, one_way, "What is wiped has one of a few lengths, and the loops are for any.") for text, function, idle, one_way in (
+        (".*", r"zeroize\.elements\.zeroize_elements", 36, 4), ("x86_64/.*", r"zeroize\.zeroize_words", 4, 1),
+        ("x86_64/.*", r"zeroize\.stack\.wipe_stack", 0, 1), ("(?!x86_64/).*", r"zeroize\.\w+(\.\w+)?", 36, 4))),
     (".*", r"expand_lanes|store_planes|process_on_lanes|process_planes|chaining\.chain|tags\.tag|ccm\.message\.put_tag|_halves|put_mask|"
      r"put_subkey|_in_place", 20, 6, "Loops over the round keys check at each one whether it is there."),
     (".*", r"add_in_batches\.\w+|call_to_\w+", 75, 26, "A text ends in any part of a batch, and not each end is tried; in GCM a carry into "
@@ -21,10 +23,6 @@ UNCOVERED = [
     (".*/aes.*", r"key_wrap\.\w+\.\w+", 63, 4, "There are loops for copies that overlap, which the header excludes: only a few semiblocks "
      "are copied so."),
 ]
-# Exports without a case but refusals, and why: (a text, an export).
-WITHOUT_CASE = {
-    ("riscv64/aes_narrow", "fotsgure_aes_unwrap_padded"): "It judges the length and the padding by numbers of 64 bits, which aren't covered.",
-}
 
 
 def plain(name):

@@ -1,6 +1,7 @@
 """One value for each cell, and so for each bit and byte: random ones for a run beside the processor, those of the standards' vectors for
 the statements."""
 from bits import BLOCK, LINEAR, PRODUCT
+from linear import Linear
 from operands import WORD, Distance, Negated, Number, Pointer, Verdict
 
 
@@ -90,7 +91,7 @@ class Values:
             return self.base[v.base] - self.base[v.other] + v.offset & self.most
         if isinstance(v, Negated):
             return v.offset - self.base[v.base] & self.most
-        b = [None] if isinstance(v, (Number, Verdict)) else list(map(self.byte, v))
+        b = [None] if isinstance(v, (Number, Verdict, Linear)) else list(map(self.byte, v))
         return None if None in b else int.from_bytes(bytes(b), "little")
 
     def first_value(self, base):

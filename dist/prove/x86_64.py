@@ -30,7 +30,9 @@ class X86_64(Machine):
     kept = "rbx rsp rbp r12 r13 r14 r15".split()
     scratch = "rcx rdx rsi rdi r8 r9 r10 r11".split()
     red_zone, mark = 128, "endbr64"
-    conditional, padding = "j(?!mp)|adc|sbb", r"(data16 |cs )*nop|xchg +ax,ax"
+    jumps, conditional, padding = r"j\w+", "j(?!mp)|adc|sbb", r"(data16 |cs )*nop|xchg +ax,ax"
+    # Jumps and calls that have to arrive at a mark; how instructions of AVX-512 begin, of which some have the names of those of AVX2.
+    to_mark, avx512 = r"(rex\.\w+ +)*(jmp|call)\b(?! +[0-9a-f]+ <)", b"\x62"
 
     def leave(self):
         self.go_to(popped(self))
@@ -59,7 +61,7 @@ class Windows(X86_64):
     arguments, shadow = "rcx rdx r8 r9".split(), 32
     kept, kept_vectors = "rbx rsp rbp rsi rdi r12 r13 r14 r15".split(), dict.fromkeys(range(6, 16), 16)
     scratch = "rcx rdx r8 r9 r10 r11".split()
-    red_zone, mark, also_called = 0, "", ("___chkstk_ms",)
+    red_zone, mark, to_mark, also_called = 0, "", "(?!)", ("___chkstk_ms",)
 
 
 def operand(text, name, following):
@@ -201,20 +203,13 @@ def rotate(m, name, to, count=1):
         m.put(to, m.unbits(b))
 
 
-@TABLE.of("shld")
-def shld(m, name, to, source, count):
-    n = constant("the count of a shift", m.get(count)) & (63 if to.size == 8 else 31)
-    b = (m.bits(m.get(source), to.size) + m.bits(m.get(to), to.size))[8 * to.size - n:][:8 * to.size]
-    m.set_flags()
-    m.put(to, m.unbits(b))
-
-
-@TABLE.of("shrd")
-def shrd(m, name, to, source, count):
-    n = constant("the count of a shift", m.get(count)) & (63 if to.size == 8 else 31)
-    b = (m.bits(m.get(to), to.size) + m.bits(m.get(source), to.size))[n:][:8 * to.size]
-    m.set_flags()
-    m.put(to, m.unbits(b))
+@TABLE.of("shld", "shrd")
+def shift_double(m, name, to, source, count):
+    """Nothing here asks for the flags, but they tell of the bits."""
+    n, size = constant("the count of a shift", m.get(count)) & (63 if to.size == 8 else 31), 8 * to.size
+    own, other = m.bits(m.get(to), to.size), m.bits(m.get(source), to.size)
+    m.set_flags(c=SECRET if max(own + other) > 1 else None)
+    m.put(to, m.unbits((other + own)[size - n:][:size] if name == "shld" else (own + other)[n:][:size]))
 
 
 @TABLE.of("shrx")
@@ -242,7 +237,7 @@ def bzhi(m, name, to, a, n):
 def mul(m, name, a):
     mulx(m, name, REGS["rdx"], REGS["rax"], a, REGS["rax"])
     high = m.general["rdx"]
-    m.set_flags(**({"c": int(high != 0), "o": int(high != 0)} if is_int(high) else {}))
+    m.set_flags(**dict.fromkeys("co", int(high != 0) if is_int(high) else SECRET))
 
 
 @TABLE.of("mulx")

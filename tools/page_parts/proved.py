@@ -6,6 +6,7 @@ PROVE = Path(__file__).resolve().parent.parent.parent / "dist/prove"
 sys.path.append(str(PROVE))
 import cases  # noqa: E402
 import gcm  # noqa: E402
+from riscv import Riscv32, Riscv64  # noqa: E402
 
 PAGE = PROVE / "CASES.md"
 HEAD = """# The cases of the second proof
@@ -17,19 +18,22 @@ proved at every length of the form that the row names. Others have the lengths t
 `_to` and `_with` are the calls with these endings. *Wraps*: J_0 ends in 0700ffff and a counter that wraps around in the text.
 
 - *Each*: keys of 16 bytes, with each build.
-- *Most*: also with keys of 16 bytes and the builds but `_v1` and those for Windows.
-- *Short*: of a name with `any_`, what `make prove` without PROVE takes in the place of *most*, if there is something; with `_v3` in any case.
-- *First*: also with keys of 16 bytes, `x86_64/aes.s` and `x86_64/gcm.s`.
+- *Most*: also with keys of 16 bytes and the builds but `_v1`, those for Windows, and those for RISC-V.
+- *Short*: what `make prove` without PROVE takes in the place of *most*. If there is `-`, it takes *most*, but of a name with `any_` nothing
+  with `_v3`.
+- *First*: also with keys of 16 bytes, `x86_64/aes.s` and `x86_64/gcm.s`, with `PROVE=builds`.
 - *24, 32*: with keys of 24 and 32 bytes, and the builds of *most*.
-- *All*: also with `PROVE=all`, which takes the whole row with keys of 16 bytes and each build, and *each* and *most* with other keys.
+- *All*: also with `PROVE=all`. The builds of *most* then take the whole row with keys of 16 bytes, and *each* and *most* with other keys. The
+  other builds take *each* and *most* with keys of 16 bytes, and *24, 32* with other keys.
 
-Each build and each size of key also takes `set_key`, and each refusal with all its numbers: counts, positions and lengths that aren't known.
+Each build and each size of key also takes `set_key`, and refusals with all their numbers: counts, positions and lengths that aren't known.
+Keys of 16 bytes have each refusal, and other keys one for each call and status.
 """
-RISCV_GCM = """
-## RISC-V: `riscv32/gcm.s` and `riscv64/gcm_narrow.s`
+RISCV = """
+## RISC-V
 
-They take the rows of `fotsgure_gcm.h` whose names don't begin with `any_`. On 32 bits they leave out *any J_0* in `seal` and `open`, and *no
-carry* in the calls with `_next`."""
+`riscv32/aes.s` also takes these rows. Below them are the entries of *each* and *most* that RISC-V leaves out.
+"""
 TITLES = {"aes": "fotsgure_aes.h", "gcm": "fotsgure_gcm.h", "siv": "fotsgure_gcm.h: AES-GCM-SIV"}
 COLUMNS = "few", "full", "short", "first", "other", "more"
 NONE = "-"
@@ -49,7 +53,7 @@ def value_said(value):
     if isinstance(value, int) and value >= 1 << 20:
         power = (value + (1 << 20)).bit_length() - 1
         by = value - (1 << power)
-        return f"2^{power}" + (f" {'+' if by > 0 else '-'} {abs(by)}" if by else "")
+        return f"2^{power}" + (f" {'+' if by > 0 else '-'} {value_said(abs(by))}" if by else "")
     return f"`{value}`" if type(value) is str else str(value)
 
 
@@ -86,21 +90,31 @@ def list_said(values):
 
 
 def row_said(row):
-    lists = [list_said(getattr(row, column)) for column in COLUMNS]
-    return f"| `{row.name}` | {row.what or NONE} | " + " | ".join(lists) + " |"
+    lists = {column: list_said(getattr(row, column) or ()) for column in COLUMNS}
+    if row.short == ():  # not the same as no list at all
+        lists["short"] = "nothing"
+    return f"| `{row.name}` | {row.what or NONE} | " + " | ".join(lists.values()) + " |"
 
 
 def table(rows):
     return "\n".join(["| statement | its arguments | each | most | short | first | 24, 32 | all |", "|---" * 8 + "|", *map(row_said, rows)])
 
 
+def left_out_of(library, rows, machine):
+    """The rows of a table: what a build for RISC-V doesn't take of each statement, if there is something."""
+    kept = {id(row): [*few, *full] for row, (_, _, few, full, *_) in zip(rows, cases.rows_of(library, machine))}
+    for row in rows:
+        left_out = [values for values in [*row.few, *row.full] if values not in kept[id(row)]]
+        if left_out:
+            yield f"| {8 * machine.word} | {TITLES[library]} | `{row.name}` | {list_said(left_out)} |"
+
+
 def looked_at():
     parts = [HEAD, "## All libraries\n", table(cases.common_rows("aes", "as in the header"))]
     for library, (_, rows) in cases.LIBRARIES.items():
         parts += [f"\n## {TITLES[library]}\n", table(rows)]
-    narrow, wide = map(cases.riscv_rows, (4, 8))
-    parts += ["\n## RISC-V: `riscv32/aes.s`\n", table(narrow)]
-    parts += ["\n## RISC-V: `riscv64/aes_narrow.s`, where that is different\n", table([row for row in wide if row not in narrow])]
-    parts += [RISCV_GCM]
+    tables = [(library, rows, machine) for machine in (Riscv32, Riscv64) for library, (_, rows) in cases.LIBRARIES.items()]
+    left_out = [line for one in tables for line in left_out_of(*one)]
+    parts += [RISCV, table(cases.OF_SHORT_WORDS), "\n| bits | header | statement | left out |\n|---|---|---|---|", *left_out]
     text = "\n".join(parts) + "\n"
     return f"{sum(len(rows) for _, rows in cases.LIBRARIES.values())} statements", {PAGE: text}, []
