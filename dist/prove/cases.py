@@ -90,7 +90,8 @@ OF_SHORT_WORDS = [  # where calls of every length aren't proved (left_out)
 # Nonces of other lengths than 12: of so many bytes, where J_0 ends in these bytes; or any J_0 of which the counter doesn't wrap in the text.
 CARRIED = 7, 0, 255, 255
 NONCES = gcm.UNKNOWN, (1, 2 ** 32 - 1, CARRIED), (60, 2 ** 32 - 2, CARRIED)
-CARRIES = [*map(gcm.CarryTo, (3, 2, 1, 0)), 2 ** 96 - 2]  # of the counter of `_next`; None: any without a carry
+FEW_COUNTERS = [None, gcm.CarryTo(3)]  # of `_next`; None: any without a carry
+CARRIES = [*map(gcm.CarryTo, (2, 1, 0)), 2 ** 96 - 2]
 MANY = 2 ** 35  # bytes, so that counts and positions don't fit into 32 bits
 WRAPS = 8, 2 ** 32 - 3, CARRIED  # the counter wraps in the text
 TAGS = 4, 8, 12, 13, 14, 15
@@ -122,9 +123,9 @@ GCM_ROWS = [
         other=[(13, 33), (0, 0, (), "_to")]),
     Row("begin", "the nonce", few=[(), *((nonce,) for nonce in NONCES)], other=[()]),
     Row("seal_next", "the lengths of additional data and text, and the counter: if a carry comes to a byte, this one is any, those behind it are "
-        "255, and those before it 0", few=[(3, 1, None)],
-        full=[(3, 1, counter) for counter in CARRIES], other=[(3, 1, None)]),
-    Row("begin_next", "the counter, as above", few=[None], full=CARRIES, other=[None]),
+        "255, and those before it 0", few=[(3, 1, counter) for counter in FEW_COUNTERS], full=[(3, 1, counter) for counter in CARRIES],
+        other=[(3, 1, counter) for counter in FEW_COUNTERS]),
+    Row("begin_next", "the counter, as above", few=FEW_COUNTERS, full=CARRIES, other=FEW_COUNTERS),
     Row("additional", "how many bytes came before, and how many come", few=[(3, 13)],
         full=[(3, 100), (0, 0), (0, 5), (32, 48), (2 ** 32 - 3, 13), (MANY, 7)], other=[(3, 13)]),
     Row("piece", "the call; " + STATE + "; the number of bytes", few=[(call, gcm.ADDITIONAL, 5, 0, 3) for call in PHASES],
