@@ -1,5 +1,5 @@
-# What `check` tries of the installation, of the file of configuration and of the command fotsgure-openssl.
-# shellcheck shell=bash disable=SC2154 # check, which reads this, sets the names
+# What `run` tries of the installation, of the file of configuration and of the command fotsgure-openssl.
+# shellcheck shell=bash disable=SC2154 # run, which reads this, sets the names
 
 # A file of configuration, from its lines. Its module is the one under test.
 file() { printf '%s\n' "${@:2}" > "$work/$1.cnf"; } # NAME LINE ..
