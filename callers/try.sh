@@ -45,10 +45,16 @@ part() { # COMMAND ..
     failed=$((failed + 1))
 }
 
+# Runs a program that $CC made.
+on_target() { # PROGRAM WORD ..
+    local by
+    read -ra by <<< "${RUN:-}"
+    "${by[@]}" "$@"
+}
 strict=(-Wall -Wextra -pedantic -Wconversion -Wshadow -Werror -O2) link=() files=()
 # Builds a program with what `link` names, and runs it with the words of `files`.
 program() { # COMPILER SOURCE FLAGS ..
-    "$1" "${strict[@]}" -I"$prefix/include" "${@:2}" "${link[@]}" -o "$work/program" && ${RUN:-} "$work/program" "${files[@]}"
+    "$1" "${strict[@]}" -I"$prefix/include" "${@:2}" "${link[@]}" -o "$work/program" && on_target "$work/program" "${files[@]}"
 }
 hwcaps=lib/glibc-hwcaps/x86-64-v3
 soname() { basename "$(readlink "$prefix/lib/lib$1.so")"; } # LIBRARY
