@@ -55,7 +55,10 @@ def need(command, package):
 
 def run(words, what, **how):
     """Runs a command that must succeed, and returns what it wrote."""
-    done = subprocess.run([str(it) for it in words], capture_output=True, text=True, **how)
+    try:
+        done = subprocess.run([str(it) for it in words], capture_output=True, text=True, **how)
+    except FileNotFoundError as error:
+        stop(f"{what}: there is no {error.filename}")
     if done.returncode:
         stop(f"{what}\n{(done.stdout + done.stderr)[-3000:]}")
     return done.stdout
@@ -142,8 +145,12 @@ def under_memcheck(program):
 
 def asking(text, *parts, flags=()):
     """What every command can be asked: to leave parts out; and words that some can be asked."""
-    ask = argparse.ArgumentParser(description=text, formatter_class=argparse.RawDescriptionHelpFormatter)
-    ask.add_argument("--without", nargs="*", default=[], choices=parts)
+    ask = argparse.ArgumentParser(sys.argv[0], description=text, formatter_class=argparse.RawDescriptionHelpFormatter)
+    # (Its own status for a wrong word has another meaning here.)
+    ask.error = lambda why: stop(f"{why}; --help says what it can be asked")
+    ask.set_defaults(without=[])
+    if parts:
+        ask.add_argument("--without", nargs="+", choices=parts)
     for it in flags:
         ask.add_argument(f"--{it}", action="store_true")
     return ask

@@ -1,4 +1,5 @@
 """The worker, a program that times engines: how it is built of libraries, and asked."""
+import contextlib
 import os
 import pathlib
 import subprocess
@@ -65,8 +66,9 @@ def started(worker, core, run, more=()):
 
 
 def ask(process, word):
-    process.stdin.write(word + "\n")
-    process.stdin.flush()
+    with contextlib.suppress(BrokenPipeError):
+        process.stdin.write(word + "\n")
+        process.stdin.flush()
     line = process.stdout.readline()
     if not line:
         shared.stop(f"the worker ended by itself, status {process.wait()}")
