@@ -21,24 +21,16 @@ def is_test(path):
 
 
 def functions_of(text):
-    """The names of the public functions of a file, and of the functions of its public traits, but for laws, which have
-    no effect and say so."""
-    found, inside, doc = [], False, ""
+    """The names of the public functions of a file, and of the functions of its public traits."""
+    found, inside = [], False
     for line in text.splitlines():
-        words = line.strip()
-        if words.startswith("///"):
-            doc += words[3:]
-            continue
         if line.startswith("pub trait "):
             inside = True
         elif line.startswith("}"):
             inside = False
-        public = re.match(rf"\s*pub {KIND}fn (\w+)", line)
-        of_trait = inside and re.match(rf"    {KIND}fn (\w+)", line)
-        if (public or of_trait) and "No effect" not in doc and "Nothing:" not in doc:
-            found.append((public or of_trait)[1])
-        if not words.startswith(("#[", "//")):
-            doc = ""
+        public = re.match(rf"\s*pub {KIND}fn (\w+)", line) or inside and re.match(rf"    {KIND}fn (\w+)", line)
+        if public:
+            found.append(public[1])
     return found
 
 
