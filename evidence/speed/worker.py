@@ -13,6 +13,14 @@ BUILDS = {"": tables.BASE, "_v3": tables.AVX2}
 COMPILE = ["cc", "-std=c11", "-D_GNU_SOURCE", "-O2", "-Wall", "-Wextra"]
 
 
+def asking(text, rounds, *peers, flags=()):
+    """What the commands that time engines can be asked."""
+    ask = shared.asking(text, *peers, "avx2", flags=flags)
+    ask.add_argument("--rounds", type=int, default=rounds)
+    ask.add_argument("--core", type=int, default=max(os.sched_getaffinity(0)))
+    return ask
+
+
 def suffixes(options, found):
     """How the names of the assembly files end that are measured: for every processor, and for AVX2, if that isn't left out or missing."""
     if " avx2 " in pathlib.Path("/proc/cpuinfo").read_text():
@@ -34,6 +42,8 @@ def assembled(name, dist, room):
 def engines_of(room, suffixes, dist=shared.TOP / "dist", at=""):
     """The engines of a folder dist/, each its object and archives. What all but the first build of the tree export gets a prefix, so that
     several fit into one program; `at` tells those of a folder from others."""
+    shared.need("cc", "gcc")
+    shared.need("taskset", "util-linux")
     made = {}
     for suffix in suffixes:
         name, parts = f"library{at}{suffix}", room / f"made{at}{suffix}"
