@@ -14,7 +14,7 @@ import sys
 import tempfile
 import types
 
-from crates import TOP
+from crates import TOP, asked
 
 # The toolchain's command, which is in the folder bin of the kit, and its module, or None where there is none.
 COMMAND = os.path.realpath(shutil.which("rt") or "/no/rt")
@@ -128,7 +128,10 @@ def serve(since):
             stamp(crate)
 
 
+def is_right(words):
+    return words == ["--lanes"] or words[:1] == ["--serve"] and len(words) == 2 or words[:1] == ["--prove"] and len(words) > 2
+
+
 if __name__ == "__main__":
-    option, *more = sys.argv[1:] or [""]
-    commands = {"--lanes": lambda: print(lanes()), "--serve": serve, "--prove": prove}
-    commands.get(option, lambda *_: sys.exit(__doc__))(*more)
+    option, *more = asked(__doc__, is_right)
+    {"--lanes": lambda: print(lanes()), "--serve": serve, "--prove": prove}[option](*more)
