@@ -10,7 +10,7 @@ import crates
 import toolchain
 
 NAME = "evidence_exports"
-CRATES = "aes_planes aes_cipher aes_soft aes aes_permute aes_hybrid aes_rounds aes_ctr aes_kat cbc key_wrap cmac ccm gcm gcm_siv ctr_drbg".split()
+CRATES = "aes_planes aes_cipher aes_soft aes aes_permute aes_hybrid aes_rounds aes_ctr cbc key_wrap cmac ccm gcm gcm_siv ctr_drbg".split()
 
 
 def sources():

@@ -48,7 +48,7 @@ static struct buffer buffers[MOST];
 static int held;
 
 /* kind: s a secret that is read, b a secret that is worked in its place, o bytes that are written, p public bytes, z a
-   secret that must be zero afterwards, t bytes of which some are written. */
+   secret that must be zero afterwards. */
 static void *buffer(char kind, size_t bytes) {
     struct buffer *it = &buffers[held++];
     it->at = aligned_alloc(16, (bytes + 31) & ~(size_t)15);
@@ -80,7 +80,6 @@ static void end(const char *name, const char *wanted, uint64_t answer, uint64_t 
             missed += it->bytes - secrets;
             unmoved += it->bytes / 16 - changed;
         }
-        if (it->kind == 't') { due += it->bytes; marked += secrets; missed += secrets == 0; }
         if (it->kind == 'z') {
             due += it->bytes;
             for (size_t k = 0; k < it->bytes; k++) missed += it->at[k] != 0;

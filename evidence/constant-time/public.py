@@ -10,8 +10,6 @@ import shared
 
 HERE = pathlib.Path(__file__).resolve().parent
 TOP = shared.TOP
-# The crates whose functions are given secrets. The program and its engine are another matter: see README.md.
-CRATES = [it for it in library.CRATES if it != "aes_kat"]
 # What may stand before `fn`.
 KIND = r'(?:(?:final|const|unsafe|extern "C") )*'
 
@@ -37,7 +35,7 @@ def functions_of(text):
 def public_functions():
     """The public functions, as (crate, file, name)."""
     found = []
-    for crate in CRATES:
+    for crate in library.CRATES:
         source = TOP / "crates" / crate / "src"
         for path in sorted(source.rglob("*.rt")):
             if not is_test(path.relative_to(source)):
