@@ -1,4 +1,4 @@
-"""What all scripts share that needs no toolchain: the crates of this repository as crates.txt lists them, sums of what they are made of, and
+"""What scripts share that needs no toolchain: the crates of this repository as crates.txt lists them, sums of what they are made of, and
 how a script reads what it is called with."""
 import hashlib
 import pathlib
