@@ -59,8 +59,9 @@ def given(crates, wanted):
         return gate.key
     for library in below:
         here = TOP / "crates" / library.name
-        if subprocess.run(["rt", "lib", "--jobs", "1"], cwd=here, stdout=subprocess.DEVNULL).returncode:
-            sys.exit(f"{library.name} is not proved, so nothing can be tried over it")
+        ran = subprocess.run(["rt", "lib", "--jobs", "1"], cwd=here, stdout=subprocess.PIPE, text=True)
+        if ran.returncode:
+            sys.exit(f"{ran.stdout[-3000:]}\n{library.name} is not proved, so nothing can be tried over it")
         shutil.rmtree(f"{library.folder}/out", ignore_errors=True)
         shutil.copytree(here / "out/rlib", f"{library.folder}/out/rlib")
         if not library.is_built():
