@@ -11,7 +11,7 @@ from aes import BATCH, DONE, NEVER, PTRDIFF_MAX, STRUCT as AES_STRUCT, CounterWo
 from bits import DATA, KEY, PUBLIC
 from calls import ANY, Buffer, Call, Stream
 from hashing import Hashing, KeyedHash, threes
-from linear import WORD, unknown
+from linear import unknown
 from operands import Content, Pointer
 from standards import ZEROS, number, padded, product
 
