@@ -7,11 +7,11 @@ from regions import Window
 
 class Arithmetic:
     def to_bytes(self, value, size):
+        if type(value) is tuple:
+            return list(value[:size])
         if isinstance(value, int):
             return list((value & (1 << 8 * size) - 1).to_bytes(size, "little"))
         named = self.size_of(value)
-        if named is None:
-            return list(value[:size])
         above = self.domain.undefined if isinstance(value, Number) else 0
         counter = self.any_length and isinstance(value, (Pointer, Number)) and self.counter
         if counter and value.base == counter.word and not (value.offset == 0 != counter.first and value.base in self.domain.words):  # (J_0)
@@ -244,6 +244,7 @@ class Arithmetic:
             return {} if r.right else {"z": self.zero_flag(r.differences)}
         if self.is_placed(r):
             return {"z": 0}
-        if any(b in self.any_of for b in self.to_bytes(r, size)):
-            return {"z": self.zero_flag(self.to_bytes(r, size)), "s": SECRET}
-        return {"z": 0 if 1 in self.bits(r, size) else SECRET, "s": SECRET}
+        b = self.to_bytes(r, size)
+        if not self.any_of.keys().isdisjoint(b):
+            return {"z": self.zero_flag(b), "s": SECRET}
+        return {"z": 0 if any([1 in self.domain.bits(x) for x in b]) else SECRET, "s": SECRET}
