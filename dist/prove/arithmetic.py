@@ -7,7 +7,7 @@ from regions import Window
 
 class Arithmetic:
     def to_bytes(self, value, size):
-        if type(value) is tuple:
+        if type(value) in (tuple, list):
             return list(value[:size])
         if isinstance(value, int):
             return list((value & (1 << 8 * size) - 1).to_bytes(size, "little"))
@@ -33,9 +33,15 @@ class Arithmetic:
             named = self.size_of(value)
             if named and len(b) >= named and list(b[:named]) == self.names(value):
                 value = value.value if isinstance(value, Placed) else value
-                if {*b[named:]} <= ({0, self.domain.undefined} if isinstance(value, Number) else {0}):
+                if {*b[named:]} <= {self.domain.undefined if isinstance(value, Number) else 0}:  # (of a Number others that are known stay)
                     return value
         return tuple(b)
+
+    def counted(self, v):
+        """The Number in the lowest bytes of a word: what is added to it is so modulo 2^32."""
+        name = self.domain.opaque_of.get(v[0]) if type(v) is tuple else None
+        low = self.from_bytes(v[:4]) if isinstance(name, tuple) and isinstance(name[0], (Number, Placed)) else None
+        return low if isinstance(low, Number) else v
 
     def bits(self, value, size):
         return [x for b in self.to_bytes(value, size) for x in self.domain.bits(b)]
@@ -72,7 +78,7 @@ class Arithmetic:
     # Sums and differences with their flags: (result, {flag: value}).
     def plus(self, x, y, carry, size):
         mask, top = (1 << 8 * size) - 1, 8 * size - 1
-        x, y = self.counter_word(x), self.counter_word(y)
+        x, y = self.counted(self.counter_word(x)), self.counted(self.counter_word(y))
         if is_int(x, y):
             full = (x & mask) + (y & mask) + carry
             r = full & mask
