@@ -1,7 +1,7 @@
 """Values of a machine as bytes and as bits, and their sums and differences, with the flags of these."""
 from bits import PUBLIC, Unproved
 from linear import Linear, is_number, wrapped
-from operands import (SECRET, WRAPS, Distance, Negated, Number, Placed, Pointer, Scaled, Shifted, Verdict, contrary, is_int, is_pointer, joined)
+from operands import SECRET, Distance, Negated, Number, Placed, Pointer, Scaled, Shifted, Verdict, contrary, is_int, is_pointer, joined
 from regions import Window
 
 
@@ -105,8 +105,6 @@ class Arithmetic:
                 self.fits(by) and self.implied(counter.last - r.offset))
             return r, {"c": self.wraps(old.offset, r.offset)} if known else {}
         fixed, rest = (x, y) if is_int(x) else (y, x)
-        if not carry and (self.is_room(rest, fixed, size) or self.is_room(fixed, rest, size)):
-            return tuple(self.any_byte() for _ in range(size)), {"c": (WRAPS,)}
         try:
             bits, out = self.full_adder(self.bits(x, size), self.bits(y, size), carry)
         except Unproved:  # then nothing is kept of the sum but whether it is 0
@@ -143,13 +141,6 @@ class Arithmetic:
             return v
         fitting = [part for part in (whole, whole - (most + 1)) if self.implied(part) and self.implied(most - part)]
         return fitting[0] if fitting else v
-
-    def is_room(self, low, last, size):
-        """Whether these are the 32 bits of GCM's counter in its first block, of unknown value, and the number of the text's last block."""
-        if not self.room or size != 4 or self.to_bytes(low, size) != [*self.room[:-1]]:
-            return False
-        whole = last if is_int(last) else self.whole(last, size)
-        return whole is not None and wrapped(whole - self.room[-1], 0xffffffff) == 0
 
     def wraps(self, block, later):
         """Whether the low half of the counter wraps around between two blocks."""
@@ -201,8 +192,6 @@ class Arithmetic:
             return Negated(y.base, x - y.offset), {}
         if is_int(x) and isinstance(y, Negated) and carry and size == self.word:
             return self.offset(Pointer(y.base, 0), x - y.offset), {}
-        if is_int(x) and carry and self.is_room(y, ~x, size):
-            return None, {"c": ("not", (WRAPS,))}
         if is_pointer(x) or is_pointer(y):
             raise Unproved("computes with addresses")
         return self.plus(x, ~y if is_int(y) else self.bytewise("xor", self.to_bytes(y, size), [255] * size), carry, size)

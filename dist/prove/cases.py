@@ -87,19 +87,16 @@ OF_SHORT_WORDS = [  # where calls of every length aren't proved (left_out)
     Row("add_keystream", "as above, and how many words of 32 bits above the lowest one carry too", few=[(5, 40, 2, "", 1)],
         full=[(5, 40, 2, "", 2)])]
 
-# Nonces of other lengths than 12: of so many bytes, where J_0 ends in these bytes; or any J_0 of which the counter doesn't wrap in the text.
-CARRIED = 7, 0, 255, 255
-NONCES = gcm.UNKNOWN, (1, 2 ** 32 - 1, CARRIED), (60, 2 ** 32 - 2, CARRIED)
+NONCES = (8,), (1,), (60,)  # of other lengths than 12: so J_0 is any block
 FEW_COUNTERS = [None, gcm.CarryTo(3)]  # of `_next`; None: any without a carry
 CARRIES = [*map(gcm.CarryTo, (2, 1, 0)), 2 ** 96 - 2]
 MANY = 2 ** 35  # bytes, so that counts and positions don't fit into 32 bits
-WRAPS = 8, 2 ** 32 - 3, CARRIED  # the counter wraps in the text
 TAGS = 4, 8, 12, 13, 14, 15
 ENDS = range(1, 16)  # of a block: how many bytes a message has behind whole ones
 WHOLE = "48 a + r bytes of additional data and 768 n + s of text for every a and n: r, s"
 NONCE = "; then the way, and r of a nonce of 48 k + r bytes for every k, in the place of one of 12 bytes"
 OTHER_NONCES = (0, 129, "", 33), (13, 33, "_to", 0)
-PIECE = "%d n + r bytes for every n after 16 k + s for every k, and any J_0 of which the counter doesn't wrap in the text: s, r"
+PIECE = "%d n + r bytes for every n after 16 k + s for every k, and any J_0: s, r"
 PHASES = {"encrypt": gcm.ENCRYPTING, "verify": gcm.VERIFYING, "decrypt_unverified": gcm.VERIFYING}
 STATE = "the phase, and how many bytes of additional data and of text came before"
 
@@ -116,7 +113,7 @@ GCM_ROWS = [
         ("additional", 48), ("verify", 48), ("encrypt", 768), ("decrypt", 768), ("decrypt_unverified", 768))),
     Row("seal", "the lengths of additional data and text, and a nonce of another length", few=[(13, 33), (13, 33, (), "_to")],
         full=[(0, 0), (1, 1), (13, 0), (49, 1), (0, 449, gcm.UNKNOWN), (0, 0, (), "_to"), *((5, 20, nonce) for nonce in NONCES)],
-        more=[*((5, 40, nonce) for nonce in NONCES), *((5, n, (60, None)) for n in (0, 129, 300))],
+        more=[*((5, 40, nonce) for nonce in NONCES), *((5, n, (60,)) for n in (0, 129, 300))],
         other=[(13, 481), (0, 0, (), "_to")]),
     Row("open", "the same, also of what is refused", few=[(13, 33), (13, 33, (), "_to")],
         full=[(0, 0), (13, 0), (0, 0, (), "_to"), (3, 20, gcm.UNKNOWN)], more=[(3, 20, nonce) for nonce in NONCES[1:]],
@@ -135,17 +132,12 @@ GCM_ROWS = [
     Row("piece", "the same, of no bytes, and after many bytes",
         full=[*((call, phase, 0, 0, 0) for call, phase in PHASES.items()), *((call, gcm.ADDITIONAL, 5, 0, 0) for call in PHASES),
               ("encrypt", gcm.ENCRYPTING, 5, 2 ** 32 - 5, 20, (12,)), ("verify", gcm.VERIFYING, MANY, MANY, 9, (12,))]),
-    Row("piece", "the same, up to the longest text, and where the counter wraps",
-        full=[*((call, phase, 5, gcm.MOST - 9, 9, (12,)) for call, phase in PHASES.items()),
-              ("encrypt", gcm.ADDITIONAL, 5, 0, 9, WRAPS), ("encrypt", gcm.ENCRYPTING, 5, 39, 9, WRAPS),
-              ("decrypt_unverified", gcm.VERIFYING, 5, 7, 9, WRAPS)],
-        more=[("encrypt", gcm.ENCRYPTING, 5, 39, 50, WRAPS), ("decrypt_unverified", gcm.VERIFYING, 5, 7, 50, WRAPS)]),
+    Row("piece", "the same, up to the longest text", full=[(call, phase, 5, gcm.MOST - 9, 9, (12,)) for call, phase in PHASES.items()]),
     Row("decrypt", "the length of the text, how many bytes of it came before, and how many come", few=[(100, 7, 20)],
-        full=[(100, 7, 0), (100, 32, 68), (2 * MANY, MANY - 5, 20, (12,)), (100, 39, 9, WRAPS)],
-        more=[(100, 0, 16), (100, 39, 50, WRAPS)], other=[(100, 7, 20)]),
+        full=[(100, 7, 0), (100, 32, 68), (2 * MANY, MANY - 5, 20, (12,))], more=[(100, 0, 16)], other=[(100, 7, 20)]),
     *(Row(call, STATE + also, few=[(phase, 16, 7), *few], other=[(phase, 16, 7), *few],
           first=[(gcm.ADDITIONAL, n, 0) if call == "finish" else (phase, 5, n) for n in ENDS],
-          full=[(gcm.ADDITIONAL, 0, 0), (gcm.ADDITIONAL, 5, 0), (phase, 5, 16), (phase, MANY + 16, MANY + 7), (phase, 16, 9, WRAPS), *full])
+          full=[(gcm.ADDITIONAL, 0, 0), (gcm.ADDITIONAL, 5, 0), (phase, 5, 16), (phase, MANY + 16, MANY + 7), *full])
       for call, phase, also, few, full in (
           ("finish", gcm.ENCRYPTING, "", (), ()),
           ("accept", gcm.VERIFYING, "; also of what is refused, and of a shorter tag", [(gcm.VERIFYING, 16, 7, gcm.UNKNOWN, 12)],
@@ -186,8 +178,7 @@ def left_out(library, word, name, values):
     if word == 4 and library == "aes":
         is_late = name == "add_keystream" and values[0] >= 2 ** 36
         return is_late or re.search("any_.*(keystream|wrap|cmac|ccm)", name) or "_to" in values and name == "any_blocks"
-    any_j_0 = any(type(v) is tuple and None in v for v in values)
-    return word == 4 and library == "gcm" and (any_j_0 and name in ("seal", "open") or None in values and name.endswith("_next"))
+    return word == 4 and library == "gcm" and None in values and name.endswith("_next")
 
 
 def taken(row, program, key_size, level):

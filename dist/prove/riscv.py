@@ -9,7 +9,7 @@ import re
 from bits import Pause, Undefined, Unproved
 from linear import Linear, is_number, refuse, unknown
 from machine import Machine
-from operands import (RETURN_ADDRESS, SECRET, WRAPS, Distance, Instruction, Memory, Number, Register, Table, Verdict, constant, contrary, form,
+from operands import (RETURN_ADDRESS, SECRET, Distance, Instruction, Memory, Number, Register, Table, Verdict, constant, contrary, form,
                       is_int, is_pointer)
 
 S, A = ["s%d" % n for n in range(12)], ["a%d" % n for n in range(8)]
@@ -98,8 +98,6 @@ class Riscv(Machine):
             return 0  # y is x, or a part of it
         if self.is_counter(x):
             return self.has_wrapped(x, y)
-        if self.room and is_int(x) and self.is_room(self.half(y), ~x & 0xffffffff, 4) and all(extended(self, self.half(v)) == v for v in (x, y)):
-            return (WRAPS,)
         if y == 1:
             return self.is_zero(x)
         if x == 0:
