@@ -141,11 +141,8 @@ class KeyedGcm(KeyedHash):
         """The block J_0 + i."""
         if first.is_any:
             self.once("any counter", self.any_counter)
-            return first.bytes + self.number_of_j_0(OF_J_0, i)
+            return first.bytes + self.highest_first(Number(OF_J_0, i), 4)
         return first.bytes + number((i + 1) % 2 ** 32, 4)
-
-    def number_of_j_0(self, name, i=0):
-        return [self.domain.opaque((Number(name, i), k)) for k in range(4)][::-1]
 
     def stream(self, first, i):
         """Cipher of the block J_0 + i."""
@@ -220,7 +217,7 @@ class KeyedGcm(KeyedHash):
         low = [d.fresh("counter byte %d behind J_0" % k, KEY | PUBLIC, True) for k in range(4)]
         d.placed[OF_ANY_J_0] = lambda number, k: d.bits(d.byte_in_block(low[k], number))
         d.words[OF_ANY_J_0] = lambda offset, k: d.bits(own[k]) if offset == 0 else None
-        block = self.pre_counter + self.number_of_j_0(OF_ANY_J_0)
+        block = self.pre_counter + self.highest_first(Number(OF_ANY_J_0, 0), 4)
         return block, self.aes.cipher(block, self.w), self.aes.cipher(self.pre_counter + low[::-1], self.w)
 
     @property
