@@ -109,7 +109,7 @@ GCM_ROWS = [
     Row("seal", "the lengths of additional data and text, and a nonce of another length", few=[(13, 33), (13, 33, (), "_to")],
         full=[(0, 0), (1, 1), (13, 0), (49, 1), (0, 449, gcm.UNKNOWN), (0, 0, (), "_to"), *((5, 20, nonce) for nonce in NONCES)],
         more=[*((5, 40, nonce) for nonce in NONCES), *((5, n, (60,)) for n in (0, 129, 300))],
-        other=[(13, 481), (0, 0, (), "_to")]),
+        other=[(13, 481, gcm.UNKNOWN), (0, 0, (), "_to")]),
     Row("open", "the same, also of what is refused", few=[(13, 33), (13, 33, (), "_to")],
         full=[(0, 0), (13, 0), (0, 0, (), "_to"), (3, 20, gcm.UNKNOWN)], more=[(3, 20, nonce) for nonce in NONCES[1:]],
         other=[(13, 33), (0, 0, (), "_to")]),
