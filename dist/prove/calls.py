@@ -288,14 +288,23 @@ def found(m, where, want):
         content = m.regions[where].content
         return content[-1] == want[-1] and content == want
     if where == "kept":
-        return any(want[0] in r.content and any(r.content[k:k + len(want)] == want for k in range(len(r.content)))
-                   for r in m.regions.values() if not isinstance(r, Window))
+        return any(holds(r.content, want) for r in m.regions.values() if not isinstance(r, Window))
     if where in ("memory", "block") and was_written(m, want):
         return True
     if where != "memory" and any(v[0] == want[0] and v[:16] == want for v in m.vectors):
         return True
     # (In registers of 4 bytes a block of the cipher is before its copies are, in other slots of the planes.)
     return (where == "hash" or where == "block" and m.word == 8) and in_words(m, want)
+
+
+def holds(content, want):
+    """Whether bytes are somewhere, one behind the other."""
+    at = -1
+    for _ in range(content.count(want[0])):
+        at = content.index(want[0], at + 1)
+        if content[at:at + len(want)] == want:
+            return True
+    return False
 
 
 def was_written(m, want, same=int.__eq__):
