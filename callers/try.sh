@@ -5,17 +5,25 @@ passed=0 failed=0 prefix=${prefix:-} cc=${CC:-cc}
 work=$(mktemp -d) && chmod 755 "$work" || exit 2
 trap 'rm -rf "$work"' EXIT
 
-# Runs a command and reports how it ended. Its output goes to $work/log.
+# Runs a command and reports how it ended. Its output goes to $work/log. If it is a function, what this runs goes to $work/trace, so that a
+# failure shows at which command of many it stopped.
 try() { # WHAT COMMAND ..
-    local what=$1
+    local what=$1 status=0 PS4='+${BASH_SOURCE[0]##*/}:$LINENO: '
     shift
-    if "$@" > "$work/log" 2>&1; then
+    exec {BASH_XTRACEFD}> "$work/trace"
+    set -x
+    "$@" > "$work/log" 2>&1 || status=$?
+    set +x
+    BASH_XTRACEFD=
+    if [[ $status -eq 0 ]]; then
         passed=$((passed + 1))
         echo "ok: $what ($(tail -n 1 "$work/log" | cut -c 1-100))" | sed 's/ ()$//'
     else
         failed=$((failed + 1))
         echo "FAILED: $what"
         tail -n 12 "$work/log"
+        echo "It ended with status $status. The last commands that ran, each with its file and line:"
+        head -n -2 "$work/trace" | tail -n 4 | cut -c 1-300
     fi
 }
 # Whether programs or a header are there. What needs them is named if not, with the packages of Debian that have them.
@@ -45,10 +53,16 @@ part() { # COMMAND ..
     failed=$((failed + 1))
 }
 
+# Runs a program that $CC made.
+on_target() { # PROGRAM WORD ..
+    local by
+    read -ra by <<< "${RUN:-}"
+    "${by[@]}" "$@"
+}
 strict=(-Wall -Wextra -pedantic -Wconversion -Wshadow -Werror -O2) link=() files=()
 # Builds a program with what `link` names, and runs it with the words of `files`.
 program() { # COMPILER SOURCE FLAGS ..
-    "$1" "${strict[@]}" -I"$prefix/include" "${@:2}" "${link[@]}" -o "$work/program" && ${RUN:-} "$work/program" "${files[@]}"
+    "$1" "${strict[@]}" -I"$prefix/include" "${@:2}" "${link[@]}" -o "$work/program" && on_target "$work/program" "${files[@]}"
 }
 hwcaps=lib/glibc-hwcaps/x86-64-v3
 soname() { basename "$(readlink "$prefix/lib/lib$1.so")"; } # LIBRARY

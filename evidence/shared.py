@@ -7,7 +7,6 @@ import re
 import shutil
 import subprocess
 import sys
-import textwrap
 import time
 
 RIGHT, WRONG, BLIND, STOPPED, PARTIAL = range(5)
@@ -32,7 +31,7 @@ class Found:
         self.wrong, self.blind, self.missing, self.summary = [], [], [], []
 
     def is_whole(self, options):
-        """Whether a run left nothing out and found nothing, so that its results may be published."""
+        """Whether a run left nothing out and found nothing, so that its results may be recorded."""
         return not (self.wrong or self.blind or self.missing or options.without)
 
 
@@ -55,7 +54,10 @@ def need(command, package):
 
 def run(words, what, **how):
     """Runs a command that must succeed, and returns what it wrote."""
-    done = subprocess.run([str(it) for it in words], capture_output=True, text=True, **how)
+    try:
+        done = subprocess.run([str(it) for it in words], capture_output=True, text=True, **how)
+    except FileNotFoundError as error:
+        stop(f"{what}: there is no {error.filename}")
     if done.returncode:
         stop(f"{what}\n{(done.stdout + done.stderr)[-3000:]}")
     return done.stdout
@@ -82,29 +84,10 @@ def conditions():
     )
 
 
-def publish(heading, *parts):
-    """Writes a section of docs/MEASUREMENTS.md, by its heading with marks: paragraphs, each a text, and tables, each a list of lines."""
-    before, *after = re.split(rf"^{re.escape(heading)}\n", MEASUREMENTS.read_text(), flags=re.M)
-    if len(after) != 1:
-        stop(f"{MEASUREMENTS} has the heading {heading} {len(after)} times")
-    wide = {"width": 142, "break_long_words": False, "break_on_hyphens": False}
-    made = "\n\n".join("\n".join(textwrap.wrap(it, **wide) if isinstance(it, str) else it) for it in parts)
-    # What comes after it begins with the next heading of its level or a higher one.
-    after = re.search(rf"^#{{1,{len(heading.split()[0])}}} (?:.|\n)*|\Z", after[0], re.M)[0]
-    MEASUREMENTS.write_text(f"{before}{heading}\n{made}\n" + (after and f"\n{after}"))
-    say(f"published: {heading}, in {MEASUREMENTS}")
-
-
 def table(heads, *rows):
     """The lines of a table, whose first head is empty if its first column says what a row is about."""
     lines = [f"| {' | '.join(it)} |".replace("|  |", "| |") for it in (heads, *rows)]
     return [lines[0], "|---" * len(heads) + "|", *lines[1:]]
-
-
-def briefly(where):
-    """The conditions of a run without the machine and the toolchain, which the page says once."""
-    day, _, _, load, _, *rest = where.split(", ")
-    return ", ".join([day, load, *rest])
 
 
 def rows_of(path):
@@ -142,8 +125,12 @@ def under_memcheck(program):
 
 def asking(text, *parts, flags=()):
     """What every command can be asked: to leave parts out; and words that some can be asked."""
-    ask = argparse.ArgumentParser(description=text, formatter_class=argparse.RawDescriptionHelpFormatter)
-    ask.add_argument("--without", nargs="*", default=[], choices=parts)
+    ask = argparse.ArgumentParser(sys.argv[0], description=text, formatter_class=argparse.RawDescriptionHelpFormatter)
+    # (Its own status for a wrong word has another meaning here.)
+    ask.error = lambda why: stop(f"{why}; --help says what it can be asked")
+    ask.set_defaults(without=[])
+    if parts:
+        ask.add_argument("--without", nargs="+", choices=parts)
     for it in flags:
         ask.add_argument(f"--{it}", action="store_true")
     return ask
@@ -151,13 +138,12 @@ def asking(text, *parts, flags=()):
 
 def begin(ask, needed, *versions):
     """Reads what a command is asked, stops if a program that it needs is missing (each with its package), and says the conditions, with
-    the versions of some programs. Returns the options, what is found, which is nothing yet, and the conditions."""
+    the versions of some programs. Returns the options, and what is found, which is nothing yet."""
     options = ask.parse_args()
     for command, package in needed.items():
         need(command, package)
-    where = ", ".join([conditions(), *(run([it, "--version"], it).splitlines()[0] for it in versions)])
-    say(where)
-    return options, Found(), where
+    say(", ".join([conditions(), *(run([it, "--version"], it).splitlines()[0] for it in versions)]))
+    return options, Found()
 
 
 def finish(found, options, text):

@@ -102,7 +102,7 @@ class Edit:
     bodies, a line 'at: src/FILE FUNCTION' names the function that has to refuse it."""
 
     def __init__(self, name, text):
-        self.name, self.text, self.pairs, self.fault = name, text, [], None
+        self.name, self.text, self.pairs, self.fault, self.is_control = name, text, [], None, False
         said = [line.partition(":")[::2] for line in self.text.splitlines()]
         if not re.fullmatch(r"(bug|same)( at)?( file( old new)+)+", " ".join(key for key, _ in said)):
             self.fault = "its lines aren't 'bug:' or 'same:', 'at:' or none, 'file:' and pairs of 'old:' and 'new:'"

@@ -1,7 +1,9 @@
-"""The crates of this repository as crates.txt lists them, and sums of what they are made of: for all that needs no toolchain."""
+"""What scripts share that needs no toolchain: the crates of this repository as crates.txt lists them, sums of what they are made of, and
+how a script reads what it is called with."""
 import hashlib
 import pathlib
 import re
+import sys
 
 TOP = pathlib.Path(__file__).resolve().parent.parent
 # Each crate with its sentence and the words behind its name.
@@ -29,3 +31,18 @@ def sum_of_sources(crate):
     """One sum of all that a crate is made of: that of its files' sums."""
     files = (it for part in ("src", "specs", "proofs") for it in (TOP / "crates" / crate / part).rglob("*") if it.is_file())
     return sum_of(listed_sums(sorted(files)).encode())
+
+
+def asked(text, is_right):
+    """The words that a script is called with. If they ask for help, it ends with its description; if they aren't right, with status 2 and
+    the lines of that which say how it is called."""
+    words = sys.argv[1:]
+    if words in (["-h"], ["--help"]):
+        print(text.strip())
+        sys.exit()
+    if not is_right(words):
+        usage = "\n".join(re.findall(r"^    .*", text, re.M))
+        wrong = f"it can't be called with '{' '.join(words)}'" if words else "it needs an argument"
+        print(f"{sys.argv[0]}: {wrong}. Usage:\n{usage}", file=sys.stderr)
+        sys.exit(2)
+    return words

@@ -14,7 +14,7 @@ import sys
 import tempfile
 import types
 
-from crates import TOP
+from crates import TOP, asked
 
 # The toolchain's command, which is in the folder bin of the kit, and its module, or None where there is none.
 COMMAND = os.path.realpath(shutil.which("rt") or "/no/rt")
@@ -59,8 +59,9 @@ def given(crates, wanted):
         return gate.key
     for library in below:
         here = TOP / "crates" / library.name
-        if subprocess.run(["rt", "lib", "--jobs", "1"], cwd=here, stdout=subprocess.DEVNULL).returncode:
-            sys.exit(f"{library.name} is not proved, so nothing can be tried over it")
+        ran = subprocess.run(["rt", "lib", "--jobs", "1"], cwd=here, stdout=subprocess.PIPE, text=True)
+        if ran.returncode:
+            sys.exit(f"{ran.stdout[-3000:]}\n{library.name} is not proved, so nothing can be tried over it")
         shutil.rmtree(f"{library.folder}/out", ignore_errors=True)
         shutil.copytree(here / "out/rlib", f"{library.folder}/out/rlib")
         if not library.is_built():
@@ -128,7 +129,10 @@ def serve(since):
             stamp(crate)
 
 
+def is_right(words):
+    return words == ["--lanes"] or words[:1] == ["--serve"] and len(words) == 2 or words[:1] == ["--prove"] and len(words) > 2
+
+
 if __name__ == "__main__":
-    option, *more = sys.argv[1:] or [""]
-    commands = {"--lanes": lambda: print(lanes()), "--serve": serve, "--prove": prove}
-    commands.get(option, lambda *_: sys.exit(__doc__))(*more)
+    option, *more = asked(__doc__, is_right)
+    {"--lanes": lambda: print(lanes()), "--serve": serve, "--prove": prove}[option](*more)

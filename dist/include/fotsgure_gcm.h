@@ -189,8 +189,7 @@ void fotsgure_gcm_wipe(struct fotsgure_gcm *gcm) FOTSGURE_GCM_NOEXCEPT;
 
 /* Encrypts `text_length` bytes in place and writes the tag, which shows whether the text or the additional data was
  * changed (7.1). The additional data isn't encrypted, nor is it part of the text. A nonce may have any length from
- * one byte on, but use 12 bytes if you can: with another length, the time of a call can reveal something about the key,
- * namely whether a counter of 32 bits wraps within the text, and where.
+ * one byte on, but use 12 bytes if you can: that is fastest.
  * NONCE_LENGTH, TOO_LONG or NO_KEY; else DONE. */
 FOTSGURE_GCM_CHECK enum fotsgure_gcm_status fotsgure_gcm_seal(const struct fotsgure_gcm *gcm,
     const uint8_t *nonce, size_t nonce_length,

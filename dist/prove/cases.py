@@ -15,7 +15,7 @@ from riscv import Riscv
 # build, and `full` with the builds that takes_few (linking.py) doesn't name: those that it names are compiled from what the others are. With
 # PROVE=builds x86_64/aes.s and x86_64/gcm.s also take `first`. With PROVE=all the builds that take `full` take the whole row, and the others
 # `full`. Without PROVE `_v3` takes `few` alone. Keys of 24 and 32 bytes take `other` with the builds that take `full`: each call once, and
-# the code that loops over round keys. With PROVE=all these take `few` and `full`, and the other builds `other`. (Which builds there are,
+# the code that loops over round keys. With PROVE=all these take `few` and `full` too, and the other builds `other`. (Which builds there are,
 # PROVE says too: prove.py.)
 Row = collections.namedtuple("Row", "name what few full first more other", defaults=[(), (), (), (), ()])
 ONCE = [()]  # no arguments
@@ -180,7 +180,8 @@ def taken(row, build, key_size, level):
     """The arguments with which a build takes a statement."""
     is_late = takes_few(build)
     if key_size != 16:
-        return [*row.few, *row.full] if level == "all" and not is_late else row.other if level == "all" or not is_late else ()
+        many = [*row.few, *row.full] if level == "all" and not is_late else []
+        return dict.fromkeys([*many, *(row.other if level == "all" or not is_late else ())])
     if level == "all":
         return dict.fromkeys([*row.few, *row.full, *(() if is_late else [*row.first, *row.more])])
     is_first = level and build in ("x86_64/aes", "x86_64/siv", "x86_64/gcm")

@@ -279,7 +279,7 @@ FAULTS = {
          r"\tmovq\t16(%rsp), %r11\n\taddq\t$24, %rsp\n\3\ttestb\t$1, 4(%r11)\n\tmovl\t$0, %r11d\n\tretq\n", "seal_next 3 1 None"),
         ("a byte read of an empty piece", exported("gcm_decrypt"), r"# %arm\.4\.i\n",
          r"\g<0>\tcmpq\t$0, %rcx\n\tjne\t77f\n\tcmpb\t$0, (%rdx)\n77:\n", "decrypt 100 7 0"),
-        ("12 bytes hashed where 13 are left of a block", function("gcm::mode::BorrowedGcm::hash_rest"), r"\tandl\t\$15, %r8d\n",
+        ("12 bytes hashed where 13 are left of a block", function("gcm::mode::BorrowedGcm::hash_what_came"), r"\tandl\t\$15, %r8d\n",
          r"\g<0>\txorl\t%ecx, %ecx\n\tcmpl\t$13, %r8d\n\tsete\t%cl\n\tsubl\t%ecx, %r8d\n", "finish 1 13 0"),
         ("a piece refused that ends with the last byte of the longest text", function("gcm::mode::BorrowedGcm::turn_to"),
          r"(cmpq\t%rcx, %r8\n)\tseta\t", r"\1\tsetae\t", "piece encrypt 2 5 68719476695 9 (12,)"),

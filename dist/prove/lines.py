@@ -12,7 +12,7 @@ DIRECTIVES = [
     r"(?:file|ident|ascii|asciz)\t" + STRING, r"(?:byte|hword|short|word|long|quad|xword)\t{0}(?:, {0})*".format(r"[-\w.]+"),
     r"zero\t\d+(?:,\d+)?", r"p2align\t\d+(?:, 0x0)?", r"type\t%s,@(?:function|object)" % NAME, r"size\t{0}, {0}(?:-{0})?".format(NAME),
     r'section\t\.text\.%s,"ax",@progbits' % NAME, r'section\t\.rodata\.%s,"a",@progbits' % NAME,
-    r'section\t\.rodata\.cst(\d+),"aM",@progbits,\1', r'section\t"?\.note\.(?:gnu\.property|fotsgure)"?,"a",[@%]note',
+    r'section\t\.rodata\.cst(\d+),"aM",@progbits,\1', r'section\t"?\.note\.(?:gnu\.property|fotsgure)"?,"a?",[@%]note',
     r'section\t"\.note\.GNU-stack","",@progbits',
     # For Windows:
     "text", r'section\t\.rdata,"dr"', r"def\t%s; \.scl\t2; \.type\t32; \.endef" % EXPORT, r"def\t%s;" % NAME, r"scl\t3;", r"type\t32;",

@@ -253,7 +253,7 @@ def refuse_names_of_windows(path, suffix):
 
 # The sections that an object may have, by whether they are loaded and written; and of which kinds.
 SECTIONS = {LOADED: r"\.(text|rodata|note\.gnu\.property|note\.fotsgure)(\..+)?", LOADED | WRITTEN: r"\.(data|bss)",
-            0: r"|\.(comment|note\.GNU-stack|riscv\.attributes|symtab|strtab|shstrtab|debug_\w+|rela\..+)"}
+            0: r"|\.(comment|note\.(GNU-stack|fotsgure)|riscv\.attributes|symtab|strtab|shstrtab|debug_\w+|rela\..+)"}
 KINDS = 0, CONTENT, SYMBOLS, STRINGS, RELOCATIONS, NOTE, NO_BITS, RISCV_ATTRIBUTES
 
 

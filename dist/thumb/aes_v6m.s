@@ -28728,3 +28728,11 @@ aes_v6m.fotsgure_aes_add_keystream_with:        @ @aes_v6m.fotsgure_aes_add_keys
 
 	.ident	"rattle logic=dac8208d650f15bf3e2dc313a14fa4c783a3acf887bdfab66e1714b038d9e11b"
 	.section	".note.GNU-stack","",%progbits
+
+	.section	.note.fotsgure,"",%note
+	.p2align	2, 0x0
+	.long	9, 118, 1
+	.asciz	"Fotsgure"
+	.p2align	2, 0x0
+	.asciz	"fotsgure_aes 0.4.0, thumb/aes_v6m.s, sources SHA-256 b96af70ed2b5b29a5dafd0758ddd2538b545ff2cf2040c2a176388ed31023bb1"
+	.p2align	2, 0x0

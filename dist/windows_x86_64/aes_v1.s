@@ -17305,4 +17305,4 @@ aes_v1.fotsgure_aes_ccm_seal:                  # @aes_v1.fotsgure_aes_ccm_seal
 
 
 	.section	.rdata,"dr"
-	.asciz	"fotsgure_aes 0.4.0, windows_x86_64/aes_v1.s, sources SHA-256 5c0471fa0c939c9298e35a0b16ae1667f6d513035e30df31be7d87238e159e20"
+	.asciz	"fotsgure_aes 0.4.0, windows_x86_64/aes_v1.s, sources SHA-256 b96af70ed2b5b29a5dafd0758ddd2538b545ff2cf2040c2a176388ed31023bb1"

@@ -20092,5 +20092,5 @@ aes_v2.fotsgure_aes_ccm_seal:                  # @aes_v2.fotsgure_aes_ccm_seal
 	.long	9, 115, 1
 	.asciz	"Fotsgure"
 	.p2align	2, 0x0
-	.asciz	"fotsgure_aes 0.4.0, x86_64/aes.s, sources SHA-256 5c0471fa0c939c9298e35a0b16ae1667f6d513035e30df31be7d87238e159e20"
+	.asciz	"fotsgure_aes 0.4.0, x86_64/aes.s, sources SHA-256 b96af70ed2b5b29a5dafd0758ddd2538b545ff2cf2040c2a176388ed31023bb1"
 	.p2align	2, 0x0

@@ -135,14 +135,5 @@ for size, (key, _, _) in SIZES.items():
     for crate, (of, (_, takes)) in itertools.product(CRATES, LEFT.items()):
         call(f"ev_left_{crate}_{size}_{of}", ("s", key), TAKEN[takes])
 
-# The program reads and writes digits by tables, and says so: its reply must be found.
-REPLY = """    { static const char line[] = "enc 000102030405060708090a0b0c0d0e0f 00112233445566778899aabbccddeeff";
-      uint8_t *x0 = buffer('p', sizeof line - 1), *x1 = buffer('t', 2048);
-      memcpy(x0, line, sizeof line - 1); (void)VALGRIND_MAKE_MEM_UNDEFINED(x0 + 4, 32);
-      begin("ev_reply enc, secret key"); (void)ev_reply(x0, sizeof line - 1, x1);
-      end("ev_reply enc, secret key", "LEAK", 0, 0); }"""
-body.append(REPLY)
-declared["ev_reply"] = "size_t ev_reply(const void *, size_t, void *);"
-
 print("\n".join(declared.values()))
 print("static void calls(void) {\n" + "\n".join(body) + "\n}")

@@ -18,7 +18,6 @@ static void fill(void *at, size_t bytes) {
     }
 }
 
-static void secret(void *at, size_t bytes) { (void)VALGRIND_MAKE_MEM_UNDEFINED(at, bytes); }
 static void known(void *at, size_t bytes) { (void)VALGRIND_MAKE_MEM_DEFINED(at, bytes); }
 
 /* How many of these bytes depend on a secret. */
@@ -36,8 +35,6 @@ static void begin(const char *name) {
     VALGRIND_PRINTF("call %s\n", name);
     reports_before = VALGRIND_COUNT_ERRORS;
 }
-/* How often memcheck reported something since then. */
-static unsigned reports_since(void) { return VALGRIND_COUNT_ERRORS - reports_before; }
 
 /* MOST buffers of a call; TOLD branches where it compares a tag, of which its caller learns whether it was right. */
 enum { MOST = 8, TOLD = 1 };
@@ -48,7 +45,7 @@ static struct buffer buffers[MOST];
 static int held;
 
 /* kind: s a secret that is read, b a secret that is worked in its place, o bytes that are written, p public bytes, z a
-   secret that must be zero afterwards, t bytes of which some are written. */
+   secret that must be zero afterwards. */
 static void *buffer(char kind, size_t bytes) {
     struct buffer *it = &buffers[held++];
     it->at = aligned_alloc(16, (bytes + 31) & ~(size_t)15);
@@ -58,15 +55,15 @@ static void *buffer(char kind, size_t bytes) {
     if (!it->at || !it->before) abort();
     fill(it->at, bytes);
     memcpy(it->before, it->at, bytes);
-    if (strchr("sbz", kind)) secret(it->at, bytes);
+    if (strchr("sbz", kind)) (void)VALGRIND_MAKE_MEM_UNDEFINED(it->at, bytes);
     return it->at;
 }
 
 /* Says what came of the call. It is vacuous where it did nothing with what it was given: where its answer is not the wanted
    one, or a block was left as it was, or a byte that it should have written depends on no secret. */
 static void end(const char *name, const char *wanted, uint64_t answer, uint64_t right) {
-    unsigned reports = reports_since();
-    size_t marked = 0, unmoved = 0, due = 0, missed = 0;
+    unsigned reports = VALGRIND_COUNT_ERRORS - reports_before;
+    size_t unmoved = 0, due = 0, missed = 0;
     known(&answer, sizeof answer);
     for (int i = 0; i < held; i++) {
         struct buffer *it = &buffers[i];
@@ -76,11 +73,9 @@ static void end(const char *name, const char *wanted, uint64_t answer, uint64_t 
         for (size_t k = 0; k + 16 <= it->bytes; k += 16) changed += memcmp(it->at + k, it->before + k, 16) != 0;
         if (it->kind == 'b' || it->kind == 'o') {
             due += it->bytes;
-            marked += secrets;
             missed += it->bytes - secrets;
             unmoved += it->bytes / 16 - changed;
         }
-        if (it->kind == 't') { due += it->bytes; marked += secrets; missed += secrets == 0; }
         if (it->kind == 'z') {
             due += it->bytes;
             for (size_t k = 0; k < it->bytes; k++) missed += it->at[k] != 0;
@@ -92,7 +87,7 @@ static void end(const char *name, const char *wanted, uint64_t answer, uint64_t 
     held = 0;
     int idle = answer != right || missed || unmoved, tells = strstr(name, "_opened") || strstr(name, "_refused");
     const char *verdict = reports > (tells ? TOLD : 0) ? "LEAK" : idle ? "VACUOUS" : tells ? "told" : due ? "clean" : "empty";
-    printf("%s\t%s\t%s\t%u\t%zu\t%zu\n", name, wanted, verdict, reports, marked, due);
+    printf("%s\t%s\t%s\n", name, wanted, verdict);
 }
 
 /* What is planted: each has to be found, before the calls and after them. The third leaks in the last of its bytes alone, and the fourth

@@ -6,9 +6,6 @@ import re
 
 import shared
 
-# The program and its engine read digits and names by tables and branches, and say so; the rest is the library and its
-# callers.
-OTHERS = ("aes_kat", "hex::", "ev_reply", "evidence_exports::program", "core::cmp::slices::groups_equal")
 HEAD = "function\tcompares\tjump\tcount"
 LIST, REASONS = (pathlib.Path(__file__).resolve().parent / it for it in ("jumps.tsv", "reasons.tsv"))
 PLANTED = {("planted", "test r,r", "jne"): 1}
@@ -60,9 +57,8 @@ def jumps(archive):
         if not code:
             last = "nothing"
         elif jump := JUMP.match(f" {code} "):
-            if not name.startswith(OTHERS):
-                key = (name, last, jump[1])
-                found[key] = found.get(key, 0) + 1
+            key = (name, last, jump[1])
+            found[key] = found.get(key, 0) + 1
         elif FLAGS.match(code := code.removeprefix("lock ")):
             last = compared(code)
     return found

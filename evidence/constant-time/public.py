@@ -10,8 +10,6 @@ import shared
 
 HERE = pathlib.Path(__file__).resolve().parent
 TOP = shared.TOP
-# The crates whose functions are given secrets. The program and its engine are another matter: see README.md.
-CRATES = [it for it in library.CRATES if it != "aes_kat"]
 # What may stand before `fn`.
 KIND = r'(?:(?:final|const|unsafe|extern "C") )*'
 
@@ -21,31 +19,23 @@ def is_test(path):
 
 
 def functions_of(text):
-    """The names of the public functions of a file, and of the functions of its public traits, but for laws, which have
-    no effect and say so."""
-    found, inside, doc = [], False, ""
+    """The names of the public functions of a file, and of the functions of its public traits."""
+    found, inside = [], False
     for line in text.splitlines():
-        words = line.strip()
-        if words.startswith("///"):
-            doc += words[3:]
-            continue
         if line.startswith("pub trait "):
             inside = True
         elif line.startswith("}"):
             inside = False
-        public = re.match(rf"\s*pub {KIND}fn (\w+)", line)
-        of_trait = inside and re.match(rf"    {KIND}fn (\w+)", line)
-        if (public or of_trait) and "No effect" not in doc and "Nothing:" not in doc:
-            found.append((public or of_trait)[1])
-        if not words.startswith(("#[", "//")):
-            doc = ""
+        public = re.match(rf"\s*pub {KIND}fn (\w+)", line) or inside and re.match(rf"    {KIND}fn (\w+)", line)
+        if public:
+            found.append(public[1])
     return found
 
 
 def public_functions():
     """The public functions, as (crate, file, name)."""
     found = []
-    for crate in CRATES:
+    for crate in library.CRATES:
         source = TOP / "crates" / crate / "src"
         for path in sorted(source.rglob("*.rt")):
             if not is_test(path.relative_to(source)):

@@ -5,29 +5,21 @@ from html import escape
 import tables
 
 TITLES = ["4,096 blocks in one call", "one block, the key at hand", "a key and one block"]
-# Each kind of engine with the kind of its bars, and its title.
-GROUPS = {
-    "hybrid": ("ours", "Permutations and bit planes"),
-    "permutations": ("permutations", "Software by vector permutations (SSSE3)"),
-    "bitsliced": ("open", "Software on bit planes, without tables"),
-    "tables": ("tables", "Software with tables in memory"),
-    "instructions": ("instructions", "AES instructions of the processor, and in brackets the part of this library's time"),
+# Each kind of engine: its title, and the colour of its bars on light ground and on dark.
+KINDS = {
+    "hybrid": ("Permutations and bit planes", "#0b7a75", "#2fb8ad"),
+    "permutations": ("Software by vector permutations (SSSE3)", "#8c9a4e", "#a3b25c"),
+    "bitsliced": ("Software on bit planes, without tables", "#6f9fce", "#6f9fce"),
+    "tables": ("Software with tables in memory", "#cf8a55", "#d9965f"),
+    "instructions": ("AES instructions of the processor, and in brackets the part of this library's time", "#9a8fbf", "#a79ccb"),
 }
 OURS = {tables.BASE: "this library, no AVX2", tables.AVX2: "this library, for AVX2"}
-# Each kind of software: its colour on light ground and on dark.
-KINDS = {
-    "ours": ("#0b7a75", "#2fb8ad"),
-    "permutations": ("#8c9a4e", "#a3b25c"),
-    "open": ("#6f9fce", "#6f9fce"),
-    "tables": ("#cf8a55", "#d9965f"),
-    "instructions": ("#9a8fbf", "#a79ccb"),
-}
 INK, SOFT = ("#1f2328", "#e6edf3"), ("#59636e", "#9198a1")
 ROW, GAP, BESIDE, NAMES, BAR = 20, 8, 90, 220, 170
 
 
 def rules(ground):
-    kinds = " ".join(f".{kind} {{ fill: {colours[ground]} }}" for kind, colours in KINDS.items())
+    kinds = " ".join(f".{kind} {{ fill: {colours[ground]} }}" for kind, (_, *colours) in KINDS.items())
     return f"text {{ fill: {INK[ground]} }} .soft {{ fill: {SOFT[ground]} }} {kinds}"
 
 
@@ -37,7 +29,7 @@ def label(time):
 
 def row(name, kind, times, y):
     """The name of a library, and its bar in each panel."""
-    weight = ' class="bold"' if kind == "ours" else ""
+    weight = ' class="bold"' if kind == "hybrid" else ""
     yield f'<text x="{NAMES - 8}" y="{y}" text-anchor="end"{weight}>{escape(name)}</text>'
     for at, (length, text) in enumerate(times):
         x, long = NAMES + (BAR + BESIDE) * at, max(1, BAR * length)
@@ -77,14 +69,14 @@ def drawn(rows, key=16):
         x = NAMES + (BAR + BESIDE) * at
         parts.append(f'<text x="{x}" y="42" class="bold">{escape(head)}</text>')
         parts.append(f'<text x="{x}" y="58" class="soft">nanoseconds{" a block" if n > 1 else ""}, less is faster</text>')
-    for kind, (bar, head) in GROUPS.items():
+    for kind, (head, *_) in KINDS.items():
         shown = sorted((it for it in times if it[0] == kind), key=lambda it: times[it][0] or 1e30)
         y += ROW + GAP if shown else 0
         parts += [f'<text x="0" y="{y}" class="soft">{escape(head)}</text>'] if shown else []
         for it in shown:
             y += ROW
             cells = [cell(kind, *its) for its in zip(times[it], most, ours)]
-            parts += row(OURS.get(it[2], f"{it[1]}, {it[2]}"), bar, cells, y)
+            parts += row(OURS.get(it[2], f"{it[1]}, {it[2]}"), kind, cells, y)
     width, height = NAMES + (BAR + BESIDE) * len(TITLES), y + 10
     return "\n".join([
         f'<svg xmlns="http://www.w3.org/2000/svg" viewBox="0 0 {width} {height}" width="{width}" height="{height}" role="img">',

@@ -1,4 +1,5 @@
 """The worker, a program that times engines: how it is built of libraries, and asked."""
+import contextlib
 import os
 import pathlib
 import subprocess
@@ -10,6 +11,14 @@ HERE = pathlib.Path(__file__).resolve().parent
 # What the builds are called by the end of their files' names.
 BUILDS = {"": tables.BASE, "_v3": tables.AVX2}
 COMPILE = ["cc", "-std=c11", "-D_GNU_SOURCE", "-O2", "-Wall", "-Wextra"]
+
+
+def asking(text, rounds, *peers, flags=()):
+    """What the commands that time engines can be asked."""
+    ask = shared.asking(text, *peers, "avx2", flags=flags)
+    ask.add_argument("--rounds", type=int, default=rounds)
+    ask.add_argument("--core", type=int, default=max(os.sched_getaffinity(0)))
+    return ask
 
 
 def suffixes(options, found):
@@ -33,6 +42,8 @@ def assembled(name, dist, room):
 def engines_of(room, suffixes, dist=shared.TOP / "dist", at=""):
     """The engines of a folder dist/, each its object and archives. What all but the first build of the tree export gets a prefix, so that
     several fit into one program; `at` tells those of a folder from others."""
+    shared.need("cc", "gcc")
+    shared.need("taskset", "util-linux")
     made = {}
     for suffix in suffixes:
         name, parts = f"library{at}{suffix}", room / f"made{at}{suffix}"
@@ -65,8 +76,9 @@ def started(worker, core, run, more=()):
 
 
 def ask(process, word):
-    process.stdin.write(word + "\n")
-    process.stdin.flush()
+    with contextlib.suppress(BrokenPipeError):
+        process.stdin.write(word + "\n")
+        process.stdin.flush()
     line = process.stdout.readline()
     if not line:
         shared.stop(f"the worker ended by itself, status {process.wait()}")

@@ -25,10 +25,10 @@ WORDS_OF_64 = (
 # What differs in a copy of gcm_c for processors on which the lower half of a product of two words always takes the same time: H stands
 # there as four words, and is multiplied by such products.
 OF_PRODUCTS = (
-    ("src/form.rt", "TagRoom = gcm::SubkeyRoom;\n", "TagRoom = gcm::WordsRoom;\n"),
-    ("specs/Form.antt", "{subkey_alone, IsAlone}\n", "{subkey_of_words, AreWords}\n"),
+    ("src/form.rt", "TagRoom = gcm::SubkeyRoom;\n", "TagRoom = gcm::SubkeyWordsRoom;\n"),
+    ("specs/Form.antt", "{subkey_alone, IsAlone}\n", "{subkey_of_words, AreSubkeyWords}\n"),
     ("specs/Form.antt", "List (List ℕ)\nno_room = replicate 1 (replicate 16 0)\n", "List ℕ\nno_room = replicate 4 0\n"),
-    ("specs/Form.antt", "List (List ℕ) → Type 0\nIsRoom = IsAlone\n", "List ℕ → Type 0\nIsRoom = AreWords\n"),
+    ("specs/Form.antt", "List (List ℕ) → Type 0\nIsRoom = IsAlone\n", "List ℕ → Type 0\nIsRoom = AreSubkeyWords\n"),
     ("specs/Form.antt", "List (List ℕ) → ℕ\nsubkey_of = subkey_alone\n", "List ℕ → ℕ\nsubkey_of = subkey_of_words\n"),
 )
 # For a processor without a byte shuffle the prover's compiler stores tables in memory, and reads them at secret places. So an assembly

@@ -44,10 +44,11 @@ NOTE = """
 	.endif
 """
 NOTES = {"x86_64": NOTE.format(kind="@", property=0xc0000002, bits=3), "aarch64": NOTE.format(kind="%", property=0xc0000000, bits=1)}
-# What each object says of itself, so that an installed library and a program can be asked: a note, which linkers keep. On Windows, where
-# there are no notes, the words are among the constants.
+# What each object says of itself, so that an installed library and a program can be asked: a note, which linkers keep. It is loaded with the
+# program, but not on machines of 32 bits, where a linker's script might put it before the table of vectors. On Windows, where there are no
+# notes, the words are among the constants.
 SOURCES = """
-	.section	.note.fotsgure,"a",%note
+	.section	.note.fotsgure,"{flags}",%note
 	.p2align	2, 0x0
 	.long	9, {length}, 1
 	.asciz	"Fotsgure"
@@ -92,7 +93,7 @@ class Assembly:
         if not self.is_as_compiled:
             text = self.marked(self.registers.emptied(self.bound_early(text)))
             exports = symbols.macro(self.folder, self.prefix, self.suffix if self.has_64_bits else "")
-            text = exports + symbols.own(self.prefix, NO_FEATURES.sub("", text)) + (self.of_sources() if self.has_64_bits else "")
+            text = exports + symbols.own(self.prefix, NO_FEATURES.sub("", text)) + self.of_sources()
         mark = COMMENTS.get(self.folder, "#")
         return f"{mark} Made by tools/dist from the proved crate {CRATES[self.library]}; BUILD says from what. Don't edit it.\n{text}"
 
@@ -117,7 +118,8 @@ class Assembly:
     def of_sources(self):
         """What the object says of its sources."""
         words = f"fotsgure_{self.library} {Header(self.library).version}, {self.name}.s, sources SHA-256 {sum_of_library(self.library)}"
-        return (SOURCES_ON_WINDOWS if self.folder == "windows_x86_64" else SOURCES).format(words=words, length=len(words) + 1)
+        form = SOURCES_ON_WINDOWS if self.folder == "windows_x86_64" else SOURCES
+        return form.format(words=words, length=len(words) + 1, flags="a" if self.has_64_bits else "")
 
     def as_compiled(self, compiled):
         """What is in dist/ as the compiler wrote it. `compiled` is assembly that it wrote, which has the names."""

@@ -195,8 +195,8 @@ else:
 
 # A library of another name, and one that is none.
 for name in ("libc.so.6", "libm.so.6", os.devnull):
-    ended = subprocess.run([sys.executable, "-c", "import fotsgure_gcm"], stderr=subprocess.PIPE, text=True,
-                           env={**os.environ, "FOTSGURE_GCM": name, "PYTHONPATH": os.path.dirname(__file__)})
+    ended = subprocess.run([sys.executable, "-c", "import fotsgure.gcm"], stderr=subprocess.PIPE, text=True,
+                           env={**os.environ, "FOTSGURE_GCM": name})
     expect(ended.stderr.splitlines()[-1].startswith("ImportError: "), f"FOTSGURE_GCM={name}: {ended.stderr}")
 
 # A counter and a message are of one process: a child that was forked may not go on with them. It doesn't wait for locks

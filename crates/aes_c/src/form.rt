@@ -1,7 +1,8 @@
 //! The form in which this build keeps a key: stored round keys for vector permutations.
 //!
 //! No other module of this crate names a form. A build in another form has another version of this
-//! module, of `width` and of `specs/Form.antt`, with the same names:
+//! module and of `specs/Form.antt`, in `tools/dist_parts/narrow/aes_c`, and of `width`. Each version
+//! has these names:
 //!
 //! - `KeptKey` is a key that is kept to encrypt. It has a field `length`, how many bytes the key
 //!   has, and methods `holds_key` and `key_length`.

@@ -43,7 +43,7 @@ fn summed_columns(before: u8x16, start: u8x16, addend: u8x16) -> u8x16
     (sums ^ addend) ^ start
 }
 
-// A byte in the tower basis. It is read in memory, so it is no secret.
+// A byte in the tower basis. The byte is public, since the address of a look-up depends on it.
 #[tactic(auto, using(crate::proofs::ExpandedLanes::byte_is))]
 #[inline(always)]
 fn tower_byte(byte: u8) -> u8

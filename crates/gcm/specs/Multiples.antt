@@ -115,5 +115,5 @@ subkey_of_words room = slice_index room 0 + slice_index room 1 * 2 ^ 32 + slice_
     + slice_index room 3 * 2 ^ 96
 
 -- four words are always in order too
-abbrev pub AreWords : List ℕ → Type 0
-AreWords room = Unit {0}
+abbrev pub AreSubkeyWords : List ℕ → Type 0
+AreSubkeyWords room = Unit {0}

@@ -4,10 +4,10 @@ use Rattle.std.specs.Prelude.{List, [], length, replicate, take, drop}
 use Rattle.std.specs.Int.{w128, from_be_bytes}
 use Rattle.aes_cipher.specs.Blocks.{padded}
 use Rattle.gcm.specs.Gcm.{hashed, hash_subkey, pre_counter, IsHashedLength, IsTextLength}
-use Rattle.gcm.specs.declared.message.Message.{Message}
-use Rattle.gcm.specs.declared.message.Phase.{Phase}
-use Rattle.gcm.specs.declared.message.Phase.TheVariants.{NoMessage, Additional, Encrypting}
-use Rattle.gcm.specs.declared.message.Phase.TheVariants.{Verifying, Decrypting}
+use Rattle.gcm.specs.declared.message_state.Message.{Message}
+use Rattle.gcm.specs.declared.message_state.Phase.{Phase}
+use Rattle.gcm.specs.declared.message_state.Phase.TheVariants.{NoMessage, Additional, Encrypting}
+use Rattle.gcm.specs.declared.message_state.Phase.TheVariants.{Verifying, Decrypting}
 
 -- the phase of a number; every other number is that of no message
 unfoldable pub phase_of : ℕ → Phase
@@ -80,7 +80,7 @@ pub record IsDecrypting (w : List (List ℕ)) (iv : List ℕ) (n : ℕ) (c : Lis
   pub decrypted : m.decrypted ≡ length c
 
 -- what a message keeps while its text comes once more, to be decrypted: all but how much has come
-pub record IsKept (before after : Message) : Type 0 where
+pub record KeepsParts (before after : Message) : Type 0 where
   pub first : after.first ≡ before.first
   pub additional : after.additional ≡ before.additional
   pub text : after.text ≡ before.text

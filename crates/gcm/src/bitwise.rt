@@ -2,13 +2,12 @@
 //! shuffle, where a row of a table can't be looked up without an address that depends on a secret.
 //! There is no table, no branch and no address that depends on one.
 
-ghost use Rattle.std.specs.Prelude.{◌≡◌, ◌/◌, length};
-ghost use Rattle.gcm.specs.Gcm.{hashed, ghash, product};
+ghost use Rattle.std.specs.Prelude.{◌≡◌};
+ghost use Rattle.gcm.specs.Gcm.{product};
 
-use crate::byte_order::HighestFirst;
 use crate::field::{if_one, next_v};
 use crate::numbers::number_of;
-use crate::single_blocks::{Factor, hash_whole};
+use crate::single_blocks::Factor;
 use std::simd::prelude::*;
 
 /// Returns the product of two blocks (6.3, algorithm 1): V_0, V_1, .. of H are summed where a bit
@@ -45,12 +44,4 @@ impl Factor for WithMasks {
     fn after(&self, value: u128, block: u8x16) -> u128 {
         product_bitwise(value ^ number_of(block), self.h)
     }
-}
-
-/// Returns the value of GHASH after whole blocks (6.4).
-pub fn hash_bitwise(h: u128, value: u128, blocks: &[u8]) -> u128
-    ensures on { result ≡ hashed h value blocks.now (length blocks.now / 16) }
-    ensures hash { value ≡ 0 → result ≡ ghash h blocks.now }
-{
-    hash_whole::<WithMasks, HighestFirst>(&WithMasks { h }, value, blocks)
 }

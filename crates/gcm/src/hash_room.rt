@@ -8,7 +8,7 @@ ghost use Rattle.std.specs.Int.Bits.{bit_xor};
 ghost use Rattle.aes_cipher.specs.Blocks.{padded};
 ghost use Rattle.gcm.specs.Gcm.{hashed, product};
 ghost use Rattle.gcm.specs.Multiples.{subkey_in, HasMultiples, subkey_alone, IsAlone};
-ghost use Rattle.gcm.specs.Multiples.{subkey_of_words, AreWords};
+ghost use Rattle.gcm.specs.Multiples.{subkey_of_words, AreSubkeyWords};
 
 use crate::bitwise::{WithMasks, product_bitwise};
 use crate::byte_order::HighestFirst;
@@ -120,11 +120,11 @@ impl HashRoom for SubkeyRoom {
 }
 
 /// Room for H alone, as four words.
-pub type WordsRoom = [u32; 4];
+pub type SubkeyWordsRoom = [u32; 4];
 
 // H alone: products are made with holes between the bits.
-impl HashRoom for WordsRoom {
-    ghost IsMade = { AreWords };
+impl HashRoom for SubkeyWordsRoom {
+    ghost IsMade = { AreSubkeyWords };
 
     ghost subkey = { subkey_of_words };
 

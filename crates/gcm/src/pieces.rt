@@ -5,22 +5,21 @@ ghost use Rattle.std.specs.Prelude.{[], ◌++◌, length, replicate, drop, IsOk,
 ghost use Rattle.std.specs.Prelude.{IsTrue, IfOk, OnOk, OnErr};
 ghost use Rattle.aes_cipher.specs.Blocks.{padded};
 ghost use Rattle.gcm.specs.Gcm as nist;
-ghost use Rattle.gcm.specs.Gcm.{nonce_number, IsShortTag};
+ghost use Rattle.gcm.specs.Gcm.{nonce_number, HasFixedLength};
 ghost use Rattle.gcm.specs.Gcm.{IsHashedLength, IsTextLength, IsTooMuchHashed, IsTooMuchText};
 ghost use Rattle.gcm.specs.Pieces.{hashed_padded, IsBegun, IsInText, IsAt, IsEncrypting};
-ghost use Rattle.gcm.specs.Pieces.{IsOutOfTurn, IsTurn, IsVerifying, IsDecrypting, IsKept};
+ghost use Rattle.gcm.specs.Pieces.{IsOutOfTurn, IsTurn, IsVerifying, IsDecrypting, KeepsParts};
 ghost use Rattle.gcm.specs.Pieces.{no_message, phase_of};
-ghost use Rattle.gcm.specs.declared.message.Phase.{Phase};
+ghost use Rattle.gcm.specs.declared.message_state.Phase.{Phase};
 
 use crate::counter::Counter;
 use crate::errors::{InvalidMessage, InvalidPiece, NotAccepted, OutOfTurn};
 use crate::gctr::{BlockRoom, add_gctr};
 use crate::hash_room::{HashRoom, hash_on, hash_piece};
-use crate::message::{Message, Phase, number_of_phase, phase_of};
-use crate::mode::{
-    BorrowedGcm, DEEP, LONGEST_HASHED, LONGEST_TEXT, SHALLOW, add_masked, hash_lengths,
-    is_expected, is_short_tag, put_mask,
-};
+use crate::lengths::{LONGEST_HASHED, LONGEST_TEXT};
+use crate::message_state::{Message, Phase, number_of_phase, phase_of};
+use crate::mode::{BorrowedGcm, DEEP, SHALLOW};
+use crate::tags::{add_masked, hash_lengths, is_expected, is_short_tag, put_mask};
 use aes_cipher::blocks::{block_of_number, number_of_block};
 use aes_cipher::cipher::{Block, BlockCipherEncrypt};
 use aes_cipher::zeroize::{Zeroize, wipe_stack};
@@ -250,7 +249,7 @@ impl<'a, C: BlockCipherEncrypt, R: HashRoom> BorrowedGcm<'a, C, R> {
         ensures decrypting { OnOk result ((iv a c : List ℕ) → IsVerifying self.now iv a c message.old
             → IsDecrypting self.now iv (length c) [] message.new) }
         ensures phase { OnOk result (phase_of message.new.phase ≡ Phase.Decrypting) }
-        ensures kept { OnOk result (IsKept message.old message.new) }
+        ensures kept { OnOk result (KeepsParts message.old message.new) }
         ensures untouched { OnErr result (message.new ≡ message.old) }
     {
         if !is_turn(message, Phase::Verifying) {
@@ -279,24 +278,24 @@ impl<'a, C: BlockCipherEncrypt, R: HashRoom> BorrowedGcm<'a, C, R> {
     pub fn accept_short(
         &self,
         message: &mut Message,
-        tag_length: usize,
+        fixed_length: usize,
         tag: &[u8],
     ) -> Result<(), NotAccepted>
         ensures out_of_turn { IsErrOf result NotAccepted.OutOfTurn
             ↔ IsOutOfTurn Phase.Verifying message.old }
         ensures accepted { (iv a c : List ℕ) → IsVerifying self.now iv a c message.old
-            → IsOk result ↔ ((IsShortTag tag_length × (length tag.now ≡ tag_length))
+            → IsOk result ↔ (HasFixedLength fixed_length tag.now
             × (tag.now ≡ nist.short_tag (length tag.now) self.now iv a c)) }
         ensures decrypting { OnOk result ((iv a c : List ℕ) → IsVerifying self.now iv a c message.old
             → IsDecrypting self.now iv (length c) [] message.new) }
         ensures phase { OnOk result (phase_of message.new.phase ≡ Phase.Decrypting) }
-        ensures kept { OnOk result (IsKept message.old message.new) }
+        ensures kept { OnOk result (KeepsParts message.old message.new) }
         ensures untouched { OnErr result (message.new ≡ message.old) }
     {
         if !is_turn(message, Phase::Verifying) {
             return Err(NotAccepted::OutOfTurn);
         }
-        if !is_short_tag(tag_length, tag) {
+        if !is_short_tag(fixed_length, tag) {
             return Err(NotAccepted::Refused);
         }
         let is_right = self.is_short_tag_so_far(message, tag);
@@ -330,7 +329,7 @@ impl<'a, C: BlockCipherEncrypt, R: HashRoom> BorrowedGcm<'a, C, R> {
             → IsDecrypting self.now iv n c message.old
             → IsDecrypting self.now iv n (c ++ text.old) message.new) }
         ensures phase { OnOk result (phase_of message.new.phase ≡ Phase.Decrypting) }
-        ensures kept { OnOk result (IsKept message.old message.new) }
+        ensures kept { OnOk result (KeepsParts message.old message.new) }
         ensures counted { OnOk result (message.new.decrypted
             ≡ message.old.decrypted + length text.old) }
         ensures untouched { OnErr result (message.new ≡ message.old) }
@@ -402,7 +401,7 @@ impl<'a, C: BlockCipherEncrypt, R: HashRoom> BorrowedGcm<'a, C, R> {
             return Err(InvalidPiece::TooLong);
         }
         if phase_of(message.phase) == Phase::Additional {
-            let value = self.hash_rest(message);
+            let value = self.hash_what_came(message);
             message.value = block_of_number(value);
             message.phase = number_of_phase(phase);
         }
@@ -412,7 +411,7 @@ impl<'a, C: BlockCipherEncrypt, R: HashRoom> BorrowedGcm<'a, C, R> {
     // Returns the value of GHASH after what has come and zeros that fill its last block. A call of its
     // own, since inlined it would leave H in a frame that no wipe reaches.
     #[inline(never)]
-    fn hash_rest(&self, message: &Message) -> u128
+    fn hash_what_came(&self, message: &Message) -> u128
         ensures additional { (iv a : List ℕ) → IsBegun self.now iv a message.now
             → result ≡ hashed_padded (nist.hash_subkey self.now) a }
         ensures text { (phase : Phase) (iv a c : List ℕ) → phase ≢ Phase.Additional
@@ -486,7 +485,7 @@ impl<'a, C: BlockCipherEncrypt, R: HashRoom> BorrowedGcm<'a, C, R> {
             → IsAt phase self.now iv a c message.now → tag.new ≡ nist.tag self.now iv a c }
     {
         put_mask(&self.cipher, &message.first, tag);
-        let value = self.hash_rest(message);
+        let value = self.hash_what_came(message);
         let additional = message.additional.min(LONGEST_HASHED);
         let text = message.text.min(LONGEST_TEXT);
         let value = hash_lengths(&self.multiples, value, additional, text);

@@ -3,8 +3,8 @@
 ghost use Rattle.std.specs.Prelude.{◌≡◌, ◌≢◌, ◌↔◌, ◌+◌, ◌≤◌, ℕ, List, [], ◌++◌};
 ghost use Rattle.std.specs.Prelude.{length};
 ghost use Rattle.gcm.specs.Gcm as nist;
-ghost use Rattle.gcm.specs.Gcm.{IsShortTag, IsTextLength};
-ghost use Rattle.gcm.specs.declared.message.Phase.{Phase};
+ghost use Rattle.gcm.specs.Gcm.{HasFixedLength, IsTextLength};
+ghost use Rattle.gcm.specs.declared.message_state.Phase.{Phase};
 ghost use Rattle.gcm_c.specs.Form.{HoldsKey};
 ghost use Rattle.gcm_c.specs.Kept.{round_keys_in, IsMade};
 ghost use Rattle.gcm.specs.Pieces.{IsInText, IsOutOfTurn, IsTurn, IsVerifying, IsDecrypting};
@@ -104,14 +104,14 @@ pub extern "C" fn fotsgure_gcm_accept_short(
     tag: &[u8],
 ) -> u32
     requires made { IsMade gcm.now }
-    ensures tag_length { result ≡ TAG_LENGTH ↔ ¬ (IsShortTag fixed_length × (length tag.now ≡ fixed_length)) }
-    ensures no_key { result ≡ NO_KEY ↔ (IsShortTag fixed_length × (length tag.now ≡ fixed_length))
+    ensures tag_length { result ≡ TAG_LENGTH ↔ ¬ HasFixedLength fixed_length tag.now }
+    ensures no_key { result ≡ NO_KEY ↔ HasFixedLength fixed_length tag.now
         × ¬ HoldsKey gcm.now.key }
-    ensures out_of_turn { result ≡ OUT_OF_TURN ↔ (IsShortTag fixed_length × (length tag.now ≡ fixed_length))
+    ensures out_of_turn { result ≡ OUT_OF_TURN ↔ HasFixedLength fixed_length tag.now
         × (HoldsKey gcm.now.key
         × IsOutOfTurn Phase.Verifying message.old) }
     ensures accepted { let w = round_keys_in gcm.now in
-        IsShortTag fixed_length → length tag.now ≡ fixed_length → HoldsKey gcm.now.key
+        HasFixedLength fixed_length tag.now → HoldsKey gcm.now.key
         → (iv a c : List ℕ) → IsVerifying w iv a c message.old
         → result ≡ DONE ↔ (tag.now ≡ nist.short_tag (length tag.now) w iv a c) }
     ensures refused { result ≢ DONE → result ≢ TAG_LENGTH → result ≢ NO_KEY → result ≢ OUT_OF_TURN

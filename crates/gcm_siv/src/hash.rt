@@ -4,15 +4,15 @@ ghost use Rattle.std.specs.Prelude.{◌≡◌, ℕ, List, ◌*◌, ◌^◌, ◌<
 ghost use Rattle.std.specs.Int.{w64, w128, to_le_bytes, from_le_bytes, from_be_bytes};
 ghost use Rattle.gcm.specs.Gcm.{next_v};
 ghost use Rattle.gcm.specs.Multiples.{subkey_in, HasMultiples, IsTable};
-ghost use Rattle.gcm.specs.Multiples.{subkey_alone, IsAlone, subkey_of_words, AreWords};
+ghost use Rattle.gcm.specs.Multiples.{subkey_alone, IsAlone, subkey_of_words, AreSubkeyWords};
 ghost use Rattle.gcm_siv.specs.GcmSiv.{hash, length_block};
 
 use aes_cipher::blocks::{block_of_halves, block_of_number, number_of_block};
 use aes_cipher::cipher::Block;
 use aes_cipher::zeroize::Zeroize;
 use gcm::{
-    ByteOrder, Factor, Multiples, Room, SubkeyRoom, Table, TableRoom, WithHoles, WithMasks,
-    WordsRoom, hash_singly, hash_string, hash_string_and, number_of_words, put_multiples,
+    ByteOrder, Factor, Multiples, Room, SubkeyRoom, SubkeyWordsRoom, Table, TableRoom, WithHoles,
+    WithMasks, hash_singly, hash_string, hash_string_and, number_of_words, put_multiples,
     put_one_table, words_of,
 };
 use std::simd::prelude::*;
@@ -149,8 +149,8 @@ impl PolyvalRoom for SubkeyRoom {
 
 // Room for a processor without a byte shuffle: the factor alone, and products with holes between
 // the bits.
-impl PolyvalRoom for WordsRoom {
-    ghost IsMade = { AreWords };
+impl PolyvalRoom for SubkeyWordsRoom {
+    ghost IsMade = { AreSubkeyWords };
 
     ghost element = { subkey_of_words };
 

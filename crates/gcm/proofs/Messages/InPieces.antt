@@ -12,8 +12,8 @@ use Rattle.aes_cipher.specs.Blocks.{padded}
 use Rattle.gcm.specs.Gcm.{product, block_at, hashed, inc32, gctr, gctr_byte, bit_length}
 use Rattle.gcm.specs.Gcm.{hash_subkey, pre_counter, text, hash, IsHashedLength, IsTextLength}
 use Rattle.gcm.specs.Pieces.{hashed_padded, IsHashing, IsAt}
-use Rattle.gcm.specs.declared.message.Message.{Message}
-use Rattle.gcm.specs.declared.message.Phase.{Phase}
+use Rattle.gcm.specs.declared.message_state.Message.{Message}
+use Rattle.gcm.specs.declared.message_state.Phase.{Phase}
 use Rattle.gcm.proofs.Messages.Counting.{from_second}
 use Rattle.aes_cipher.proofs.Strings.{length-padded}
 use Rattle.gcm.proofs.Messages.Hashing.{hashed_first, hashed_on, hashed_whole}

@@ -3,4 +3,4 @@ use Rattle.std.specs.Int.{w128, from_be_bytes}
 use Rattle.gcm.proofs.hash.hash_string_and.Goals as goal
 
 pub returns : goal.returns
-returns g c = c.hash_rest_and.ensures (from_be_bytes w128 c.args.value) c.hash_threes-value.ensures
+returns g c = c.hash_last_group_and.ensures (from_be_bytes w128 c.args.value) c.hash_threes-value.ensures

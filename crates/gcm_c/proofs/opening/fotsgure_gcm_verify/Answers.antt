@@ -1,7 +1,7 @@
 -- Under the key that the struct keeps, one more piece was hashed.
 use Rattle.std.proofs.Common.{◌++◌}
 use Rattle.gcm.specs.Pieces.{IsVerifying, IsInText}
-use Rattle.gcm.specs.declared.message.Phase.TheVariants.{Verifying}
+use Rattle.gcm.specs.declared.message_state.Phase.TheVariants.{Verifying}
 use Rattle.gcm_c.proofs.Carried.{carried}
 use Rattle.gcm_c.proofs.opening.fotsgure_gcm_verify.Goals as goal
 

@@ -1,7 +1,7 @@
 -- Under the key that the struct keeps, one more piece was encrypted and hashed.
 use Rattle.std.proofs.Common.{◌++◌}
 use Rattle.gcm.specs.Pieces.{IsEncrypting, IsInText}
-use Rattle.gcm.specs.declared.message.Phase.TheVariants.{Encrypting}
+use Rattle.gcm.specs.declared.message_state.Phase.TheVariants.{Encrypting}
 use Rattle.gcm_c.proofs.Carried.{carried}
 use Rattle.gcm_c.proofs.sealing.fotsgure_gcm_encrypt.Goals as goal
 

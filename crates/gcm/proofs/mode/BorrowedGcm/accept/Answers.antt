@@ -1,5 +1,5 @@
 -- A tag is accepted exactly if it is that of what has come.
-use Rattle.gcm.specs.declared.message.Phase.TheVariants.{Additional, Verifying}
+use Rattle.gcm.specs.declared.message_state.Phase.TheVariants.{Additional, Verifying}
 use Rattle.std.proofs.Common.{◌≢◌, ◌∙◌, sym, refl}
 use Rattle.gcm.proofs.mode.BorrowedGcm.accept.Goals as goal
 

@@ -3,7 +3,7 @@ use Rattle.std.proofs.Common.{ℕ, ◌+◌, ◌∙◌, List, ap, arith}
 use Rattle.std.specs.Int.{w128, from_be_bytes}
 use Rattle.aes_ctr.specs.CounterMode.{plus_stream}
 use Rattle.gcm.specs.Gcm.{gctr_byte}
-use Rattle.gcm.specs.declared.message.Phase.TheVariants.{Verifying}
+use Rattle.gcm.specs.declared.message_state.Phase.TheVariants.{Verifying}
 use Rattle.gcm.proofs.Messages.InPieces.{text_on}
 use Rattle.gcm.proofs.mode.BorrowedGcm.decrypt_unverified_piece.Goals as goal
 

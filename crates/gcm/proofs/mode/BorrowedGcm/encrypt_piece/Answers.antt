@@ -3,7 +3,7 @@ use Rattle.std.proofs.Common.{ℕ, ◌+◌, ◌∙◌, ◌++◌, List, ap, arith
 use Rattle.std.specs.Int.{w128, from_be_bytes}
 use Rattle.aes_ctr.specs.CounterMode.{plus_stream}
 use Rattle.gcm.specs.Gcm.{gctr_byte}
-use Rattle.gcm.specs.declared.message.Phase.TheVariants.{Encrypting}
+use Rattle.gcm.specs.declared.message_state.Phase.TheVariants.{Encrypting}
 use Rattle.gcm.proofs.Messages.InPieces.{length-text, text_on}
 use Rattle.gcm.proofs.mode.BorrowedGcm.encrypt_piece.Goals as goal
 

@@ -1,5 +1,5 @@
 -- The tag of what was encrypted, also if no text came.
-use Rattle.gcm.specs.declared.message.Phase.TheVariants.{Additional, Encrypting}
+use Rattle.gcm.specs.declared.message_state.Phase.TheVariants.{Additional, Encrypting}
 use Rattle.std.proofs.Common.{◌≢◌}
 use Rattle.gcm.proofs.mode.BorrowedGcm.finish.Goals as goal
 

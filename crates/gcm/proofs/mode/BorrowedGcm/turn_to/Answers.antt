@@ -3,7 +3,7 @@ use Rattle.std.proofs.Common.{◌≡◌, ◌∙◌, inl, inr, ap, arith, length,
 use Rattle.std.specs.Int.{w128, from_be_bytes}
 use Rattle.gcm.specs.Gcm.{hash_subkey}
 use Rattle.gcm.specs.Pieces.{phase_of}
-use Rattle.gcm.specs.declared.message.Phase.TheVariants.{Additional}
+use Rattle.gcm.specs.declared.message_state.Phase.TheVariants.{Additional}
 use Rattle.gcm.proofs.Messages.InPieces.{first_text}
 use Rattle.gcm.proofs.mode.BorrowedGcm.turn_to.Goals as goal
 
@@ -23,7 +23,7 @@ returns-then-eq-clause-turned g c iv a t at =
         hashing = first_text (hash_subkey c.args.self.now)
             (from_be_bytes w128 c.block_of_number-message.result) a t
             c.args.message.now.rest (c.block_of_number-message.ensures.back
-            ∙ c.hash_rest-value.ensures.additional iv a b.0) b.1;
+            ∙ c.hash_what_came-value.ensures.additional iv a b.0) b.1;
       }
       | inr is ↦ absurd (c.requires (sym is.phase ∙ additional))
     ]

@@ -1,5 +1,5 @@
 -- A piece is hashed as it came.
-use Rattle.gcm.specs.declared.message.Phase.TheVariants.{Verifying}
+use Rattle.gcm.specs.declared.message_state.Phase.TheVariants.{Verifying}
 use Rattle.gcm.proofs.mode.BorrowedGcm.verify_piece.Goals as goal
 
 pub returns-clause-added : goal.returns-clause-added

@@ -2,7 +2,7 @@
 use Rattle.std.proofs.Common.{◌∙◌, ap, sym}
 use Rattle.std.specs.Int.{w128, to_be_bytes}
 use Rattle.aes_planes.specs.Fips197.{cipher_with}
-use Rattle.gcm.proofs.mode.put_mask.Goals as goal
+use Rattle.gcm.proofs.tags.put_mask.Goals as goal
 
 pub returns : goal.returns
 returns g c =

@@ -2,7 +2,7 @@
 use Rattle.std.proofs.Common.{◌∙◌, ap, arith}
 use Rattle.gcm.specs.Gcm.{gctr}
 use Rattle.gcm.proofs.Messages.Counting.{one_block}
-use Rattle.gcm.proofs.mode.add_masked.Goals as goal
+use Rattle.gcm.proofs.tags.add_masked.Goals as goal
 
 pub returns : goal.returns
 returns c w first masked =

@@ -5,7 +5,7 @@ use Rattle.aes_cipher.specs.Blocks.{padded}
 use Rattle.gcm.specs.Gcm.{hash_subkey, hashed}
 use Rattle.gcm.specs.Pieces.{hashed_padded}
 use Rattle.gcm.proofs.Messages.InPieces.{closed}
-use Rattle.gcm.proofs.mode.BorrowedGcm.hash_rest.Goals as goal
+use Rattle.gcm.proofs.mode.BorrowedGcm.hash_what_came.Goals as goal
 
 pub returns-clause-additional : goal.returns-clause-additional
 unfolding hashed_padded

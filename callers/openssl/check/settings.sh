@@ -1,12 +1,15 @@
-# What `check` tries of the installation, of the file of configuration and of the command fotsgure-openssl.
-# shellcheck shell=bash disable=SC2154 # check, which reads this, sets the names
+# What `run` tries of the installation, of the file of configuration and of the command fotsgure-openssl.
+# shellcheck shell=bash disable=SC2154 # run, which reads this, sets the names
 
 # A file of configuration, from its lines. Its module is the one under test.
 file() { printf '%s\n' "${@:2}" > "$work/$1.cnf"; } # NAME LINE ..
 ends_with() { # STATUS WORDS COMMAND .. : and with these words in what it prints
     local status=0
     "${@:3}" > "$work/said" 2>&1 || status=$?
-    [[ $status -eq $1 ]] && grep -F -- "$2" "$work/said" || { echo "status $status"; cat "$work/said"; return 1; }
+    [[ $status -eq $1 ]] && grep -F -- "$2" "$work/said" && return
+    echo "status $status"
+    cat "$work/said"
+    return 1
 }
 under() { OPENSSL_CONF=$work/$1.cnf "${@:2}"; } # NAME COMMAND ..
 merged() { "$command" --configuration "$module" "$work/$1.cnf" > "$work/merged.cnf"; } # NAME
@@ -27,7 +30,7 @@ says_which_provider() {
         ends_with 1 "but the configuration doesn't prefer it" under other "$command" &&
         ends_with 3 'SHA2-256: none' under demands "$command" && ends_with 3 'Programs find no hash' under alone "$command" &&
         ends_with 3 'demands fips=yes' under fips "$command" && ends_with 2 usage "$command" -x &&
-        ends_with 2 'No space left' bash -c '"$1" --help > /dev/full' - "$command"
+        ends_with 2 'No space left' into_a_full_device "$command" --help
 }
 # It tells a process that has loaded the module, and used it, from one that hasn't, and from one whose module was replaced.
 says_of_a_process() {
@@ -61,6 +64,7 @@ settings_stay() (
     # One that has no section for libcrypto; one that prefers something else, in more words; one that names a section by a variable.
     file none '[other]' 'a = b'
     file algorithms 'openssl_conf = i' '[i]' 'alg_section = e' '[e]' 'default_properties = ?fips=yes , ?x.y=z # none'
+    # shellcheck disable=SC2016 # OpenSSL's variable
     file variable 'part = one' 'openssl_conf = section_$part' '[section_one]' 'providers = theirs' '[theirs]' 'legacy = old' 'default = d' \
         '[old]' 'activate = 1' '[d]' 'activate = 1'
     for system in none algorithms variable; do

@@ -5,7 +5,7 @@ use Rattle.std.specs.List.{slice_range}
 use Rattle.gcm.specs.Gcm.{product}
 use Rattle.gcm.specs.Hashed.{hashed_as}
 use Rattle.gcm.proofs.Messages.Hashing.{hashed_as_whole, hashed_as_with_rest}
-use Rattle.gcm.proofs.hash.hash_rest_and.Goals as goal
+use Rattle.gcm.proofs.hash.hash_last_group_and.Goals as goal
 
 pub returns-then-left-eq0 : goal.returns-then-left-eq0
 returns-then-left-eq0 g c y is =
@@ -57,4 +57,4 @@ returns g c y is =
     let e : ℕ = from_be_bytes w128 c.args.end in
     c.block_product-2.ensures
     ∙ ap (λ v. product v h) (c.sum-2.ensures
-    ∙ ap (λ v. bit_xor v e) (c.hash_rest-value.ensures y is))
+    ∙ ap (λ v. bit_xor v e) (c.hash_last_group-value.ensures y is))
