@@ -169,7 +169,7 @@ def rows_of(library, machine):
 
 def left_out(library, word, name, values):
     if name.startswith("any_") and library != "aes":
-        return word == 4 or library == "siv" or name not in ("any_seal", "any_open", "any_seal_next", "any_begin") or len(values) > 3
+        return word == 4 or library == "siv" or name not in ("any_seal", "any_open", "any_seal_next", "any_begin")
     if word == 4 and library == "aes":
         is_late = name == "add_keystream" and values[0] >= 2 ** 36
         return is_late or re.search("any_.*(keystream|wrap|cmac|ccm)", name) or "_to" in values and name == "any_blocks"
