@@ -255,6 +255,8 @@ FAULTS = {
         ("the first counter of a message set to 1", ENCRYPT, ENTRY, r"\1\tmovl\t$0x1000000, 44(%rsi)\n", "piece encrypt 2 5 7 9"),
         ("a branch on the first counter, which tells of H", GCTR, r"(\tbswapq\t%(r\w+)\n)",
          lambda found: "%s\tcmpl\t$4096, %%%s\n\tjbe\t77f\n77:\n" % (found[1], low(found[2])), "piece encrypt 2 5 7 9"),
+        ("a branch on whether the counter wraps around", GCTR, r"(\taddl\t%\w+, %\w+\n)(?=\torq\t)", r"\1\tjc\t77f\n77:\n",
+         "piece encrypt 2 5 7 9"),
         ("the length of a text counted in 32 bits", ENCRYPT, r"addq\t%(r\w+), 8\(", lambda found: "addl\t%%%s, 8(" % low(found[1]),
          "piece encrypt 2 5 4294967291 20 (12,)"),
         ("a round key in bytes of a message that nobody reads", ENCRYPT, ENTRY, r"\1\tmovups\t4(%rdi), %xmm0\n\tmovups\t%xmm0, 64(%rsi)\n",
