@@ -453,10 +453,13 @@ class Keyed:
         return self.once(name, lambda: [self.domain.fresh("%s, byte %d" % (name, i), DATA, *of_block) for i in range(8)])
 
     def highest_first(self, number, size):
-        bytes_ = [self.domain.opaque((number, k)) for k in range(size)]
-        if self.program.machine.relaxed:  # where bytes are put together by shifts
-            self.domain.byte_ids.update((self.domain.bits(b), b) for b in bytes_)
-        return bytes_[::-1]
+        return self.named_bytes(number, size)[::-1]
+
+    def named_bytes(self, value, size):
+        """Bytes of a value, which are known again where code puts them together by shifts."""
+        bytes_ = [self.domain.opaque((value, k)) for k in range(size)]
+        self.domain.byte_ids.update((self.domain.bits(b), b) for b in bytes_ if self.program.machine.relaxed)
+        return bytes_
 
     def at_link(self, m, bytes_, k):
         """Block k, and the value before it, have the number of the block before them, so that none is left of what no pass needs."""

@@ -1,17 +1,17 @@
 """Values of a machine as bytes and as bits, and their sums and differences, with the flags of these."""
 from bits import PUBLIC, Unproved
 from linear import Linear, is_number, wrapped
-from operands import (SECRET, WRAPS, Distance, Negated, Number, Placed, Pointer, Scaled, Shifted, Verdict, contrary, is_int, is_pointer, joined)
+from operands import SECRET, Distance, Negated, Number, Placed, Pointer, Scaled, Shifted, Verdict, contrary, is_int, is_pointer, joined
 from regions import Window
 
 
 class Arithmetic:
     def to_bytes(self, value, size):
+        if type(value) in (tuple, list):
+            return list(value[:size])
         if isinstance(value, int):
             return list((value & (1 << 8 * size) - 1).to_bytes(size, "little"))
         named = self.size_of(value)
-        if named is None:
-            return list(value[:size])
         above = self.domain.undefined if isinstance(value, Number) else 0
         counter = self.any_length and isinstance(value, (Pointer, Number)) and self.counter
         if counter and value.base == counter.word and not (value.offset == 0 != counter.first and value.base in self.domain.words):  # (J_0)
@@ -33,9 +33,15 @@ class Arithmetic:
             named = self.size_of(value)
             if named and len(b) >= named and list(b[:named]) == self.names(value):
                 value = value.value if isinstance(value, Placed) else value
-                if {*b[named:]} <= ({0, self.domain.undefined} if isinstance(value, Number) else {0}):
+                if {*b[named:]} <= {self.domain.undefined if isinstance(value, Number) else 0}:  # (of a Number others that are known stay)
                     return value
         return tuple(b)
+
+    def counted(self, v):
+        """The Number in the lowest bytes of a word: what is added to it is so modulo 2^32."""
+        name = self.domain.opaque_of.get(v[0]) if type(v) is tuple else None
+        low = self.from_bytes(v[:4]) if isinstance(name, tuple) and isinstance(name[0], (Number, Placed)) else None
+        return low if isinstance(low, Number) else v
 
     def bits(self, value, size):
         return [x for b in self.to_bytes(value, size) for x in self.domain.bits(b)]
@@ -72,7 +78,7 @@ class Arithmetic:
     # Sums and differences with their flags: (result, {flag: value}).
     def plus(self, x, y, carry, size):
         mask, top = (1 << 8 * size) - 1, 8 * size - 1
-        x, y = self.counter_word(x), self.counter_word(y)
+        x, y = self.counted(self.counter_word(x)), self.counted(self.counter_word(y))
         if is_int(x, y):
             full = (x & mask) + (y & mask) + carry
             r = full & mask
@@ -99,8 +105,6 @@ class Arithmetic:
                 self.fits(by) and self.implied(counter.last - r.offset))
             return r, {"c": self.wraps(old.offset, r.offset)} if known else {}
         fixed, rest = (x, y) if is_int(x) else (y, x)
-        if not carry and (self.is_room(rest, fixed, size) or self.is_room(fixed, rest, size)):
-            return tuple(self.any_byte() for _ in range(size)), {"c": (WRAPS,)}
         try:
             bits, out = self.full_adder(self.bits(x, size), self.bits(y, size), carry)
         except Unproved:  # then nothing is kept of the sum but whether it is 0
@@ -137,13 +141,6 @@ class Arithmetic:
             return v
         fitting = [part for part in (whole, whole - (most + 1)) if self.implied(part) and self.implied(most - part)]
         return fitting[0] if fitting else v
-
-    def is_room(self, low, last, size):
-        """Whether these are the 32 bits of GCM's counter in its first block, of unknown value, and the number of the text's last block."""
-        if not self.room or size != 4 or self.to_bytes(low, size) != [*self.room[:-1]]:
-            return False
-        whole = last if is_int(last) else self.whole(last, size)
-        return whole is not None and wrapped(whole - self.room[-1], 0xffffffff) == 0
 
     def wraps(self, block, later):
         """Whether the low half of the counter wraps around between two blocks."""
@@ -195,8 +192,6 @@ class Arithmetic:
             return Negated(y.base, x - y.offset), {}
         if is_int(x) and isinstance(y, Negated) and carry and size == self.word:
             return self.offset(Pointer(y.base, 0), x - y.offset), {}
-        if is_int(x) and carry and self.is_room(y, ~x, size):
-            return None, {"c": ("not", (WRAPS,))}
         if is_pointer(x) or is_pointer(y):
             raise Unproved("computes with addresses")
         return self.plus(x, ~y if is_int(y) else self.bytewise("xor", self.to_bytes(y, size), [255] * size), carry, size)
@@ -244,6 +239,7 @@ class Arithmetic:
             return {} if r.right else {"z": self.zero_flag(r.differences)}
         if self.is_placed(r):
             return {"z": 0}
-        if any(b in self.any_of for b in self.to_bytes(r, size)):
-            return {"z": self.zero_flag(self.to_bytes(r, size)), "s": SECRET}
-        return {"z": 0 if 1 in self.bits(r, size) else SECRET, "s": SECRET}
+        b = self.to_bytes(r, size)
+        if not self.any_of.keys().isdisjoint(b):
+            return {"z": self.zero_flag(b), "s": SECRET}
+        return {"z": 0 if any([1 in self.domain.bits(x) for x in b]) else SECRET, "s": SECRET}

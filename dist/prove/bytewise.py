@@ -69,6 +69,8 @@ class Bytewise:
 
     def logic(self, name, x, y, size):
         """The same of values."""
+        if type(x) is type(y) is tuple and x != y:
+            return self.from_bytes(self.bytewise(name, x[:size], y[:size]))
         if is_int(x, y):
             y = ~y if name.endswith("not") else y
             return {"a": x & y, "o": x | y, "x": x ^ y}[name[0]] & (1 << 8 * size) - 1

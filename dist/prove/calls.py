@@ -9,7 +9,7 @@ import lengths
 from bits import DATA, KEY, LOST, ONES, Pause, Unproved
 from linear import refuted
 from native import Native
-from operands import HEAD, LAST, LEAD, WRAPS, Content, Pointer, Question, Verdict, lanes
+from operands import HEAD, LAST, LEAD, Content, Pointer, Question, Verdict, lanes
 from regions import Region, Window
 
 STACK = 16384  # FOTSGURE_AES_STACK and FOTSGURE_GCM_STACK
@@ -59,17 +59,17 @@ class Call:
     all zero. `later` turns bytes of the key's own domain into those of arbitrary round keys, for a call that expands a key (see aes.py).
     `keystream` is what is added to the data, `between` are other blocks that the cipher gives, and `plain` what is secret of the data and
     the results; `may_stay` says how many bytes of a kind may be left besides. A call that is refused writes to no Buffer that
-    stays as it was, unless it has to undo what it did (`undone`). `counter` is a word of unknown value (aes.CounterWord). `room`, for GCM's counter:
-    its lowest 32 bits in the first block (gcm.py, any_counter), and the number of the text's last block. Calls that share `paths` have to run
-    the same instructions whenever they return the same. `facts` are what is known of arguments that aren't (linear.py): each is 0 or more."""
+    stays as it was, unless it has to undo what it did (`undone`). `counter` is a word of unknown value (aes.CounterWord). Calls that share
+    `paths` have to run the same instructions whenever they return the same. `facts` are what is known of arguments that aren't (linear.py): each
+    is 0 or more."""
 
     def __init__(self, name, arguments, status, size=4, steps=None, reveals=None, refused=None, refused_after=None, assumes=None,
-                 later=None, counter=None, keystream=(), plain=(), may_stay=None, room=None, paths=None, facts=(),
+                 later=None, counter=None, keystream=(), plain=(), may_stay=None, paths=None, facts=(),
                  undone=False, between=()):
         self.name, self.arguments, self.status, self.size, self.steps = name, arguments, status, size, steps
         self.reveals, self.refused, self.refused_after = reveals, refused, refused_after or {}
         self.assumes, self.later, self.counter = assumes, later, counter
-        self.keystream, self.plain, self.may_stay, self.room, self.paths = keystream, plain, may_stay or {}, room, paths
+        self.keystream, self.plain, self.may_stay, self.paths = keystream, plain, may_stay or {}, paths
         self.facts, self.undone, self.between, self.named = frozenset(facts), undone, between, {}
         self.buffers = [b for a in arguments if isinstance(a, Buffer) for b in (a, a.head) if b]
         self.any_length = any(isinstance(b, Stream) for b in self.buffers)
@@ -85,7 +85,7 @@ def prove(domain, program, call, seed=None):
     arguments = [Pointer(a.name, 0) if isinstance(a, Buffer) else a for a in call.arguments]
     m = program.machine(domain, program, regions, program.exports["fotsgure_" + call.name], arguments)
     m.may_reveal, m.assumed = call.reveals is not None, call.assumes
-    m.room, m.counter = call.room, call.counter
+    m.counter = call.counter
     m.facts, m.any_length, ends = call.facts, call.any_length, []
     for window in (r for r in regions.values() if isinstance(r, Window)):
         window.waits = call.later is not None
@@ -109,8 +109,7 @@ def prove(domain, program, call, seed=None):
             try:
                 run(m, call, watches)
             except Question as question:
-                both = (m.answered(question.args[0], answer) for answer in (1, 0))
-                waiting += [other for other in both if not is_without_room(other)]
+                waiting += [m.answered(question.args[0], answer) for answer in (1, 0)]
                 continue
             except lengths.Leads as leads:
                 no_secret_in_buffers(m, call)
@@ -135,11 +134,6 @@ def prove(domain, program, call, seed=None):
         m.native.processor.close()
     check(m, call)
     return m
-
-
-def is_without_room(m):
-    """Whether the answers say that the counter wraps around in the text: a statement with `room` is about the others."""
-    return m.room and m.answers.get((WRAPS,))
 
 
 def run(m, call, watches):
@@ -248,7 +242,7 @@ def step_by_step(steps):
     so what is proved from there on holds for any. "hash" is looked for in vector registers, or as words in either order of bytes;
     products of bits are then forgotten: what still depends on them is lost, and may not even be left. "vector" is looked for in vector
     registers, "memory" where something was written, "block" in all these places, "kept" in memory outside of Streams; another name is that
-    of a region. In a call of any length `steps` is a function of the machine. Then "here" says that there is a result; "again" begins
+    of a region. "place" is "memory", and the bytes change there alone: so even constants become arbitrary. In a call of any length `steps` is a function of the machine. Then "here" says that there is a result; "again" begins
     another phase, in which blocks have new numbers, and so does "whole", as soon as all of a buffer is done, and "refused", when the call
     will return that; and "nothing" says that what comes next isn't known."""
     steps = steps if callable(steps) else list(steps)
@@ -265,6 +259,11 @@ def step_by_step(steps):
             m.begin_again(*((want, *new) if where != "again" else ()))
             m.want = None
         if where in ("again", "whole", "refused", "nothing"):
+            return
+        if where == "place":
+            content, at = was_written(m, want, m.domain.same) or ((), 0)
+            if content:
+                content[at:at + len(want)], m.done, m.want = new, m.done + 1, None
             return
         if where == "here" or found(m, where, want):
             replaced, lost, on = {}, None, depends(m, *want) if where == "hash" else 0
@@ -289,8 +288,7 @@ def found(m, where, want):
         content = m.regions[where].content
         return content[-1] == want[-1] and content == want
     if where == "kept":
-        return any(want[0] in r.content and any(r.content[k:k + len(want)] == want for k in range(len(r.content)))
-                   for r in m.regions.values() if not isinstance(r, Window))
+        return any(holds(r.content, want) for r in m.regions.values() if not isinstance(r, Window))
     if where in ("memory", "block") and was_written(m, want):
         return True
     if where != "memory" and any(v[0] == want[0] and v[:16] == want for v in m.vectors):
@@ -299,11 +297,21 @@ def found(m, where, want):
     return (where == "hash" or where == "block" and m.word == 8) and in_words(m, want)
 
 
-def was_written(m, want):
-    """Whether this is in memory, where something was written."""
+def holds(content, want):
+    """Whether bytes are somewhere, one behind the other."""
+    at = -1
+    for _ in range(content.count(want[0])):
+        at = content.index(want[0], at + 1)
+        if content[at:at + len(want)] == want:
+            return True
+    return False
+
+
+def was_written(m, want, same=int.__eq__):
+    """Where this is in memory, where something was written; or None."""
     (content, at), m.written = m.written, ((), 0)  # looked at once
-    return any(content[k] == want[0] and content[k:k + len(want)] == want
-               for k in range(max(0, at - len(want)), min(at + 16, len(content))))
+    return next(((content, k) for k in range(max(0, at - len(want)), min(at + 16, len(content) - len(want) + 1))
+                 if same(content[k], want[0]) and all(map(same, content[k:], want))), None)
 
 
 def in_words(m, want):

@@ -8,17 +8,16 @@ import gcm
 import modes
 import siv
 from headers import version
+from linking import takes_few
 from riscv import Riscv
-from x86_64 import X86_64
 
 # A statement (a method of KeyedAes, KeyedGcm or KeyedSiv), what its arguments are, and lists of these. Keys of 16 bytes take `few` with each
 # build, and `full` with the builds that takes_few (linking.py) doesn't name: those that it names are compiled from what the others are. With
 # PROVE=builds x86_64/aes.s and x86_64/gcm.s also take `first`. With PROVE=all the builds that take `full` take the whole row, and the others
-# `full`. Without PROVE a row with every length has `short` in the place of `full`, if it isn't None, and with `_v3` in any case: what has to
-# run, so that uncovered.py is content. Keys of 24 and 32 bytes take `other` with the builds that take `full`: each call once, and the code
-# that loops over round keys. With PROVE=all these take `few` and `full`, and the other builds `other`. (Which builds there are, PROVE says
-# too: prove.py.)
-Row = collections.namedtuple("Row", "name what few full first more other short", defaults=[(), (), (), (), (), None])
+# `full`. Without PROVE `_v3` takes `few` alone. Keys of 24 and 32 bytes take `other` with the builds that take `full`: each call once, and
+# the code that loops over round keys. With PROVE=all these take `few` and `full` too, and the other builds `other`. (Which builds there are,
+# PROVE says too: prove.py.)
+Row = collections.namedtuple("Row", "name what few full first more other", defaults=[(), (), (), (), ()])
 ONCE = [()]  # no arguments
 
 WAYS, DIRECTIONS = ("", "_to", "_with"), ("encrypt", "decrypt")
@@ -30,16 +29,14 @@ ROUNDS = [Row("a_round", "a round, or eight (`_par`); they need no key", few=SIN
 AES_ROWS = [
     Row("any_blocks", "16 n + r blocks for every n: the direction, r, into the same buffer or another (`_to`), or under a key (`_with`)",
         few=[(way, 7, to) for way in DIRECTIONS for to in ("", "_to")] + [(way, 1, "_with") for way in DIRECTIONS],
-        full=[(way, rest) for way in DIRECTIONS for rest in range(16) if rest != 7], short=[("encrypt", 14), ("decrypt", 14), ("decrypt", 15)],
-        first=[(way, rest, "_to") for way in DIRECTIONS for rest in (0, 1, 2, 14)],
-        more=[(way, rest, to) for to in WAYS[1:] for way in DIRECTIONS for rest in range(16)]),
+        full=[(way, rest) for way in DIRECTIONS for rest in range(16) if rest != 7],
+        first=[(way, rest, "_to") for way in DIRECTIONS for rest in (0, 1, 2, 14)]),
     Row("blocks", "the direction and the number of blocks", few=[("encrypt", 2), ("encrypt", 1, "_with")],
         full=[("encrypt", n) for n in (0, 16, 17)],
         other=[(way, n, to) for way in DIRECTIONS for n, to in ((2, ""), (32, ""), (1, "_to"), (1, "_with"))]),
     Row("any_low_keystream", "at 16 k + s for every k, 128 n + r bytes for every n: s, r; for every initial counter block whose low half "
-        "doesn't carry", few=[(5, 122)], first=[(0, 0, "_with")], more=[(0, 0), (0, 33)]),
-    Row("any_keystream", "the same where the low half carries anywhere or nowhere", full=[(0, 0)], short=[(0, 0)],
-        more=[(0, 33), (5, 122), *((0, rest) for rest in range(9, 128, 18)), *((skip, 17 * skip % 128) for skip in range(1, 16, 2)), (3, 45, "_to")]),
+        "doesn't carry", few=[(5, 122)], first=[(0, 0, "_with")]),
+    Row("any_keystream", "the same where the low half carries anywhere or nowhere", full=[(0, 0)], more=[(5, 122), (3, 45, "_to")]),
     Row("add_keystream", "the position, the number of bytes, and before which block the low half of the counter carries, if anywhere",
         few=[(0, 33), (2 ** 64 - 21, 20), (5, 40, 2), (21, 40, 1), (16, 64, 1), (0, 16, BLOCK_BEHIND), (3, 33, NO_CARRY, "_to"),
              (3, 33, NO_CARRY, "_with")],
@@ -49,34 +46,32 @@ AES_ROWS = [
               (2 ** 32 - 20, 40), (2 ** 63 + 2 ** 36, 64)],
         more=[(0, 33, 5)], other=[(0, 33), (3, 33, NO_CARRY, "_to"), (3, 33, NO_CARRY, "_with")]),
     Row("any_cbc_encrypt", "every number of blocks", few=ONCE),
-    Row("any_cbc_decrypt", "64 n + r blocks for every n: r", full=[9], short=[9], more=[0, 63]),
+    Row("any_cbc_decrypt", "64 n + r blocks for every n: r", full=[9], more=[0]),
     Row("cbc_encrypt", "the number of blocks", full=[1, 2], other=[1]),
     Row("cbc_decrypt", "the number of blocks", few=[9], full=[0, 1, 3, 4, 8, 17], other=[1]),
     Row("any_wrap", "a key of every number of semiblocks", full=ONCE),
     Row("any_unwrap", "a key of every number of semiblocks, also of what is refused", full=ONCE),
-    Row("any_wrap_padded", "a key of 16 n + r bytes for every n: r", full=[3], first=[9, 16], more=range(1, 17)),
-    Row("any_unwrap_padded", "a key of 8 n + r bytes for every n, also of what is refused: r", full=[3], first=[1, 8], more=range(1, 9)),
+    Row("any_wrap_padded", "a key of 16 n + r bytes for every n: r", full=[3], first=[9, 16]),
+    Row("any_unwrap_padded", "a key of 8 n + r bytes for every n, also of what is refused: r", full=[3], first=[1, 8]),
     Row("wrap", "the number of semiblocks", few=[2], other=[2]),
     Row("unwrap", "the number of semiblocks, also of what is refused", few=[3], other=[3]),
     Row("wrap_padded", "the number of bytes", few=[9], other=[1]),
     Row("unwrap_padded", "the number of bytes, also of what is refused", few=[9], other=[1]),
     Row("unwrap_padded_refused", "a wrong length, of a key of so many semiblocks: any byte of the three higher ones; one more, one less, 2^k "
-        "and 2^k - 1 for every so many k", full=[(1, 8)], first=[(2, 16)], more=[(n, 1) for n in range(1, 4)]),
-    Row("any_cmac", "16 n + r bytes for every n: r", few=[1], full=[16], first=[12, 15], more=range(1, 17)),
-    Row("any_cmac_verify", "the same, also of what is refused: r and the tag's length", few=[(1, 16)], first=[(1, 11)],
-        more=[(4, tag) for tag in modes.CMAC_TAGS]),
+        "and 2^k - 1 for every so many k", full=[(1, 8)], first=[(2, 16)], more=[(1, 1)]),
+    Row("any_cmac", "16 n + r bytes for every n: r", few=[1], full=[16], first=[12, 15]),
+    Row("any_cmac_verify", "the same, also of what is refused: r and the tag's length", few=[(1, 16)], first=[(1, 11)]),
     Row("cmac", "the number of bytes", full=[0, 1, 16], other=[1]),
     Row("cmac_verify", "the number of bytes and the tag's length, also of what is refused", full=[(0, tag) for tag in modes.CMAC_TAGS],
         other=[(0, 4)]),
     *(Row(call, "16 a + b bytes of additional data, none if b is 0, and 256 n + r of text for every a and n: the lengths of nonce, b, r, tag; "
           "the encoded length of additional data takes 2 bytes, or 6 or 10 if it says so", full=full, first=first,
-          more=[(13, 0, 16, 16), (9, 15, 255, 4, 6), (11, 9, 0, 6, 10), (8, 16, 33, 8, 6), (8, 16, 33, 8, 10)])
+          more=[(13, 0, 16, 16), (9, 15, 255, 4, 6), (11, 9, 0, 6, 10)])
       for call, full, first in (("any_ccm_seal", (), [(8, 15, 33, 8), (8, 16, 33, 8, 6), (8, 16, 33, 8, 10)]),
                                 ("any_ccm_open", [(12, 15, 33, 8)], ()))),
-    *(Row(call, "the same", more=[(12, rest, 15 * rest, 12) for rest in range(0, 17, 4)]) for call in ("any_ccm_seal", "any_ccm_open")),
     *(Row(call, "the lengths of nonce, additional data, text and tag", few=[(13, 8, 33, 8)],
           full=[(7, 0, 1, 4), (12, 14, 16, 16), (8, 15, 17, 6), (10, 33, 0, 14), (9, 0, 0, 10), (11, 0, 0, 12)],
-          more=[(nonce, 20, 40, tag) for tags in (modes.CCM_TAGS, modes.CCM_TAGS[::-1]) for nonce, tag in zip(modes.NONCES, tags)],
+          more=[(nonce, 20, 40, tag) for nonce, tag in zip(modes.NONCES, modes.CCM_TAGS)],
           other=[(7, 0, 1, 4)])
       for call in ("ccm_seal", "ccm_open")),
     *ROUNDS]
@@ -87,37 +82,34 @@ OF_SHORT_WORDS = [  # where calls of every length aren't proved (left_out)
     Row("add_keystream", "as above, and how many words of 32 bits above the lowest one carry too", few=[(5, 40, 2, "", 1)],
         full=[(5, 40, 2, "", 2)])]
 
-# Nonces of other lengths than 12: of so many bytes, where J_0 ends in these bytes; or any J_0 of which the counter doesn't wrap in the text.
-CARRIED = 7, 0, 255, 255
-NONCES = gcm.UNKNOWN, (1, 2 ** 32 - 1, CARRIED), (60, 2 ** 32 - 2, CARRIED)
+NONCES = (8,), (1,), (60,)  # of other lengths than 12: so J_0 is any block
 FEW_COUNTERS = [None, gcm.CarryTo(3)]  # of `_next`; None: any without a carry
 CARRIES = [*map(gcm.CarryTo, (2, 1, 0)), 2 ** 96 - 2]
 MANY = 2 ** 35  # bytes, so that counts and positions don't fit into 32 bits
-WRAPS = 8, 2 ** 32 - 3, CARRIED  # the counter wraps in the text
 TAGS = 4, 8, 12, 13, 14, 15
 ENDS = range(1, 16)  # of a block: how many bytes a message has behind whole ones
 WHOLE = "48 a + r bytes of additional data and 768 n + s of text for every a and n: r, s"
 NONCE = "; then the way, and r of a nonce of 48 k + r bytes for every k, in the place of one of 12 bytes"
 OTHER_NONCES = (0, 129, "", 33), (13, 33, "_to", 0)
-PIECE = "%d n + r bytes for every n after 16 k + s for every k, and any J_0 of which the counter doesn't wrap in the text: s, r"
+PIECE = "%d n + r bytes for every n after 16 k + s for every k, and any J_0: s, r"
 PHASES = {"encrypt": gcm.ENCRYPTING, "verify": gcm.VERIFYING, "decrypt_unverified": gcm.VERIFYING}
 STATE = "the phase, and how many bytes of additional data and of text came before"
 
 GCM_ROWS = [
     Row("wipe_message", "", few=ONCE), Row("set_key_of", "", few=ONCE, other=ONCE),
     Row("set_key_of_none", "", few=ONCE),
-    Row("any_seal", WHOLE + NONCE, few=[(13, 33)], full=[(0, 129)], short=(), first=[(13, 33, "", 8)],
-        more=[(0, 0), (1, 16), (16, 225), (33, 48), (47, 767), (13, 33, "_to"), *OTHER_NONCES]),
+    Row("any_seal", WHOLE + NONCE, few=[(13, 33)], full=[(0, 129)], first=[(13, 33, "", 8)],
+        more=[(0, 0), (47, 767), (13, 33, "_to"), *OTHER_NONCES]),
     Row("any_open", WHOLE + NONCE + "; also of what is refused", full=[(13, 33)], first=[(13, 33, "_to")],
-        more=[(0, 0), (0, 129), (1, 16), (16, 225), (33, 48), (47, 767), (13, 33, "", 8), *OTHER_NONCES]),
+        more=[(0, 0), (47, 767), (13, 33, "", 8), *OTHER_NONCES]),
     Row("any_seal_next", WHOLE, first=[(13, 33)], more=[(0, 129)]),
     Row("any_begin", "a nonce of 48 k + r bytes for every k: r", full=[8], more=[0, 12, 33, 47]),
-    *(Row("any_" + call, PIECE % step, first=[(3, 46)], more=[(1, 15), (9, 23), (15, 48)]) for call, step in (
+    *(Row("any_" + call, PIECE % step, first=[(3, 46)], more=[(15, 48)]) for call, step in (
         ("additional", 48), ("verify", 48), ("encrypt", 768), ("decrypt", 768), ("decrypt_unverified", 768))),
     Row("seal", "the lengths of additional data and text, and a nonce of another length", few=[(13, 33), (13, 33, (), "_to")],
         full=[(0, 0), (1, 1), (13, 0), (49, 1), (0, 449, gcm.UNKNOWN), (0, 0, (), "_to"), *((5, 20, nonce) for nonce in NONCES)],
-        more=[*((5, 40, nonce) for nonce in NONCES), *((5, n, (60, None)) for n in (0, 129, 300))],
-        other=[(13, 481), (0, 0, (), "_to")]),
+        more=[*((5, 40, nonce) for nonce in NONCES), *((5, n, (60,)) for n in (0, 129, 300))],
+        other=[(13, 481, gcm.UNKNOWN), (0, 0, (), "_to")]),
     Row("open", "the same, also of what is refused", few=[(13, 33), (13, 33, (), "_to")],
         full=[(0, 0), (13, 0), (0, 0, (), "_to"), (3, 20, gcm.UNKNOWN)], more=[(3, 20, nonce) for nonce in NONCES[1:]],
         other=[(13, 33), (0, 0, (), "_to")]),
@@ -135,27 +127,22 @@ GCM_ROWS = [
     Row("piece", "the same, of no bytes, and after many bytes",
         full=[*((call, phase, 0, 0, 0) for call, phase in PHASES.items()), *((call, gcm.ADDITIONAL, 5, 0, 0) for call in PHASES),
               ("encrypt", gcm.ENCRYPTING, 5, 2 ** 32 - 5, 20, (12,)), ("verify", gcm.VERIFYING, MANY, MANY, 9, (12,))]),
-    Row("piece", "the same, up to the longest text, and where the counter wraps",
-        full=[*((call, phase, 5, gcm.MOST - 9, 9, (12,)) for call, phase in PHASES.items()),
-              ("encrypt", gcm.ADDITIONAL, 5, 0, 9, WRAPS), ("encrypt", gcm.ENCRYPTING, 5, 39, 9, WRAPS),
-              ("decrypt_unverified", gcm.VERIFYING, 5, 7, 9, WRAPS)],
-        more=[("encrypt", gcm.ENCRYPTING, 5, 39, 50, WRAPS), ("decrypt_unverified", gcm.VERIFYING, 5, 7, 50, WRAPS)]),
+    Row("piece", "the same, up to the longest text", full=[(call, phase, 5, gcm.MOST - 9, 9, (12,)) for call, phase in PHASES.items()]),
     Row("decrypt", "the length of the text, how many bytes of it came before, and how many come", few=[(100, 7, 20)],
-        full=[(100, 7, 0), (100, 32, 68), (2 * MANY, MANY - 5, 20, (12,)), (100, 39, 9, WRAPS)],
-        more=[(100, 0, 16), (100, 39, 50, WRAPS)], other=[(100, 7, 20)]),
+        full=[(100, 7, 0), (100, 32, 68), (2 * MANY, MANY - 5, 20, (12,))], more=[(100, 0, 16)], other=[(100, 7, 20)]),
     *(Row(call, STATE + also, few=[(phase, 16, 7), *few], other=[(phase, 16, 7), *few],
           first=[(gcm.ADDITIONAL, n, 0) if call == "finish" else (phase, 5, n) for n in ENDS],
-          full=[(gcm.ADDITIONAL, 0, 0), (gcm.ADDITIONAL, 5, 0), (phase, 5, 16), (phase, MANY + 16, MANY + 7), (phase, 16, 9, WRAPS), *full])
+          full=[(gcm.ADDITIONAL, 0, 0), (gcm.ADDITIONAL, 5, 0), (phase, 5, 16), (phase, MANY + 16, MANY + 7), *full])
       for call, phase, also, few, full in (
           ("finish", gcm.ENCRYPTING, "", (), ()),
           ("accept", gcm.VERIFYING, "; also of what is refused, and of a shorter tag", [(gcm.VERIFYING, 16, 7, gcm.UNKNOWN, 12)],
            [(gcm.VERIFYING, 16, 7, gcm.UNKNOWN, n) for n in TAGS if n != 12])))]
 
 SIV_ROWS = [
-    Row("any_seal", WHOLE + "; both may have 2^36 bytes", full=[(33, 77), (16, 256)], short=[(33, 77)], first=[(13, 33, "_to")],
-        more=[(13, 33), (0, 0), (1, 1), (13, 81), (20, 145), (13, 225), (0, 450), (33, 48), (47, 767)]),
-    Row("any_open", WHOLE + "; also of what is refused", full=[(13, 33, "_to"), (13, 225)], short=[(13, 225)],
-        more=[(13, 33), (1, 1), (33, 77), (13, 81), (20, 145), (0, 450), (33, 48), (47, 767), (0, 0, "_to")]),
+    Row("any_seal", WHOLE + "; both may have 2^36 bytes", full=[(33, 77), (16, 256)], first=[(13, 33, "_to")],
+        more=[(0, 0), (47, 767)]),
+    Row("any_open", WHOLE + "; also of what is refused", full=[(13, 33, "_to"), (13, 225)],
+        more=[(33, 48), (0, 0, "_to")]),
     Row("seal", "the lengths of additional data and text", few=[(13, 33), (13, 33, "_to")], full=[(13, 0)], other=[(13, 33), (13, 33, "_to")]),
     Row("open", "the same, also of what is refused", few=[(1, 1), (13, 33, "_to")], full=[(13, 0)], other=[(1, 1), (13, 33, "_to")])]
 
@@ -182,24 +169,23 @@ def rows_of(library, machine):
 
 def left_out(library, word, name, values):
     if name.startswith("any_") and library != "aes":
-        return word == 4 or library == "siv" or name not in ("any_seal", "any_open", "any_seal_next", "any_begin") or len(values) > 3
+        return word == 4 or library == "siv" or name not in ("any_seal", "any_open", "any_seal_next", "any_begin")
     if word == 4 and library == "aes":
         is_late = name == "add_keystream" and values[0] >= 2 ** 36
         return is_late or re.search("any_.*(keystream|wrap|cmac|ccm)", name) or "_to" in values and name == "any_blocks"
-    any_j_0 = any(type(v) is tuple and None in v for v in values)
-    return word == 4 and library == "gcm" and (any_j_0 and name in ("seal", "open") or None in values and name.endswith("_next"))
+    return word == 4 and library == "gcm" and None in values and name.endswith("_next")
 
 
-def taken(row, program, key_size, level):
+def taken(row, build, key_size, level):
     """The arguments with which a build takes a statement."""
+    is_late = takes_few(build)
     if key_size != 16:
-        return [*row.few, *row.full] if level == "all" and not program.few else row.other if level == "all" or not program.few else ()
+        many = [*row.few, *row.full] if level == "all" and not is_late else []
+        return dict.fromkeys([*many, *(row.other if level == "all" or not is_late else ())])
     if level == "all":
-        return dict.fromkeys([*row.few, *row.full, *(() if program.few else [*row.first, *row.more])])
-    is_first = level and program.machine is X86_64 and program.suffix == "_v2"
-    is_short = not level and row.name.startswith("any_") and (row.short is not None or program.suffix == "_v3")
-    full = row.short or () if is_short else row.full
-    return dict.fromkeys([*row.few, *(() if program.few else full), *(row.first if is_first else ())])
+        return dict.fromkeys([*row.few, *row.full, *(() if is_late else [*row.first, *row.more])])
+    is_first = level and build in ("x86_64/aes", "x86_64/siv", "x86_64/gcm")
+    return dict.fromkeys([*row.few, *(() if takes_few(build, level) else row.full), *(row.first if is_first else ())])
 
 
 def name_of(row, values):
@@ -210,7 +196,7 @@ def statements(keyed, options, part, parts):
     """(what, Call) of this part of all; set_key was proved before."""
     program, number, refusals = keyed.program, itertools.count(), collections.Counter()
     for row in [*common_rows(keyed.library, version(options.dist, keyed.library)), *rows_of(keyed.library, program.machine)]:
-        for values in taken(row, program, keyed.key_size, options.level):
+        for values in taken(row, program.build, keyed.key_size, options.level):
             values = values if isinstance(values, tuple) else (values,)
             what = name_of(row, values)
             if options.only in what and next(number) % parts == part:

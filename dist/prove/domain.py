@@ -38,8 +38,9 @@ class Domain(Forms, Products, Names):
     # A byte of a plane has the same function of each of eight blocks: then one bit says it, with the blocks.
     def alike(self, a, b):
         """Such a bit of each of two bytes, without their blocks, and the blocks, which are the same for both; or (None, None)."""
-        (x, p), (y, q) = self.repeated(a), self.repeated(b)
-        return ((x, y), p or q) if x is not None and y is not None and (p == q or not p or not q) else (None, None)
+        x, p = self.repeated(a)
+        y, q = self.repeated(b) if x is not None else (None, None)
+        return ((x, y), p or q) if y is not None and (p == q or not p or not q) else (None, None)
 
     def repeated(self, byte):
         if byte not in self.repeats:

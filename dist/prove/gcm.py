@@ -7,12 +7,12 @@ import itertools
 from collections import namedtuple
 from dataclasses import dataclass
 
-from aes import BATCH, DONE, NEVER, PTRDIFF_MAX, STRUCT as AES_STRUCT, CounterWord, between, nothing, unequal, unread
+from aes import DONE, NEVER, PTRDIFF_MAX, STRUCT as AES_STRUCT, CounterWord, between, nothing, unequal, unread
 from bits import DATA, KEY, PUBLIC
 from calls import ANY, Buffer, Call, Stream
 from hashing import Hashing, KeyedHash, threes
 from linear import unknown
-from operands import Content, Pointer
+from operands import Content, Number, Pointer
 from standards import ZEROS, number, padded, product
 
 STATUSES = ("DONE KEY_LENGTH NO_KEY NONCE_LENGTH TAG_LENGTH TOO_LONG REFUSED NONCES_END OUT_OF_TURN NO_RANDOMNESS UNEQUAL_LENGTHS").split()
@@ -24,13 +24,13 @@ NONE, ADDITIONAL, ENCRYPTING, VERIFYING, DECRYPTING = range(5)  # phases of a me
 MOST, MOST_ADDITIONAL, MOST_NONCE = 2 ** 36 - 32, 2 ** 61 - 1, 2 ** 61 - 1
 
 
-UNKNOWN = 8, None  # a nonce of 8 bytes, and any J_0, also that of a nonce of 12 bytes; see nonce_of
-OF_J_0 = "J_0 low, at every length"
-# For calls of every length: the arguments, how many phases come before the message, and their steps; Cipher of J_0 and of a later block,
-# and what else the call and its arguments need.
-AnyNonce = namedtuple("AnyNonce", "arguments phases steps mask stream more facts")
-# J_0: twelve bytes and the number that its last four are; how GHASH makes it of a nonce of another length; the arguments of a call.
-PreCounter = namedtuple("PreCounter", "bytes counter hashing arguments")
+UNKNOWN = 8,  # a nonce of 8 bytes, and any J_0, also that of a nonce of 12 bytes; see nonce_of
+OF_J_0, OF_ANY_J_0 = "counter of J_0", "counter of J_0, at any length"
+# For calls of every length: the arguments, how many phases come before the message, their steps, and facts of the arguments.
+AnyNonce = namedtuple("AnyNonce", "arguments phases steps facts")
+ANY_J_0 = CounterWord(OF_ANY_J_0, 1, NEVER, None)
+# J_0: twelve bytes, and whether its last four are a number of unknown value; how GHASH makes it of a nonce; the arguments of a call.
+PreCounter = namedtuple("PreCounter", "bytes is_any hashing arguments")
 
 
 @dataclass(frozen=True)
@@ -96,25 +96,15 @@ class KeyedGcm(KeyedHash):
         return Call("gcm_wipe_message", [Buffer("message", self.undefined(MESSAGE), [0] * MESSAGE, align=8)], None)
 
     # Nonces, counter blocks and texts.
-    def nonce_of(self, length=12, counter=1, before=()):
-        """A nonce of 12 bytes, or one of another length (7.1, step 2). Then J_0 ends in the bytes `before` and in this counter; or, with
-        None, it has any value of which the counter doesn't wrap around in the text."""
+    def nonce_of(self, length=12):
+        """A nonce of 12 bytes, or one of another length (7.1, step 2): then J_0 is any block."""
         if length == 12:
-            return PreCounter(self.nonce, 1, Hashing(self, ZEROS), [Buffer("nonce", self.nonce), 12])
+            return PreCounter(self.nonce, False, Hashing(self, ZEROS), [Buffer("nonce", self.nonce), 12])
         nonce = self.many(self.long_nonce, length)
         hashing = Hashing(self, ZEROS).take(threes(padded(nonce)) + [[self.lengths(0, length)]])
-        arguments = [Buffer("nonce", nonce), length]
-        if counter is None:
-            self.once("any counter", self.any_counter)
-            first = PreCounter(self.pre_counter, None, hashing, arguments)
-            hashing.end_as(self.counter_block(first, 0))
-            return first
-        bytes_ = self.pre_counter[:12 - len(before)] + list(before)
-        if before:  # a batch may also encrypt the block after a carry into these bytes, and throw it away: its S-boxes have names then
-            carried = bytes_[:8] + number(int.from_bytes(bytes(before), "big") + 1, 4) + number(0, 4)
-            self.once(("stream", *carried), lambda: self.aes.cipher(carried, self.w))
-        hashing.end_as(bytes_ + number(counter, 4))
-        return PreCounter(bytes_, counter, hashing, arguments)
+        first = PreCounter(self.pre_counter, True, hashing, [Buffer("nonce", nonce), length])
+        hashing.end_as(self.counter_block(first, 0))
+        return first
 
     def counted(self, counter=None):
         """The counter of nonces at a number, at one of a CarryTo, or at any whose low half has no carry; and what the call assumes of it."""
@@ -129,7 +119,7 @@ class KeyedGcm(KeyedHash):
             assumes = [d.xor_byte(b, 255) for b in self.nonce[4:]]
         bytes_ = self.nonce if counter is None else nonce
         buffers = [Buffer("counter", nonce, after), Buffer("nonce", self.undefined(12), nonce)]
-        return PreCounter(bytes_, 1, Hashing(self, ZEROS), buffers), assumes
+        return PreCounter(bytes_, False, Hashing(self, ZEROS), buffers), assumes
 
     def carried_to(self, place):
         """Such a counter, the next one, and what is assumed: that it isn't the last one."""
@@ -138,34 +128,26 @@ class KeyedGcm(KeyedHash):
         after = [*before[1:], *[carry][:place], more] + [0] * (11 - place)
         return before + [byte] + [255] * (11 - place), after, None if place else [d.xor_byte(byte, 255)]
 
-    # J_0 of unknown value: its end is a word, of which the lowest 32 bits are a number that is one more in each block.
+    # The last four bytes of J_0 are a number of unknown value, which is one more in each block, modulo 2^32 (inc_32, 6.2).
     def any_counter(self):
+        """Cipher of the block J_0 + i, as that of block i."""
         d = self.domain
-        low = [d.fresh("J_0 counter byte %d" % i, KEY | PUBLIC, True) for i in range(4)]
-        d.words["J_0 low"] = lambda offset, k: d.bits(d.byte_in_block(low[3 - k] if k < 4 else self.pre_counter[15 - k], offset + 1))
-        for k in range(self.address):  # bytes that are computed with are known again
-            b = d.opaque((Pointer("J_0 low", 0), k))
-            d.byte_ids[d.bits(b)] = b
-        self.any_stream = self.aes.cipher(self.pre_counter + low, self.w)
-        self.low = tuple(d.opaque((Pointer("J_0 low", 0), k)) for k in range(4))
-
-    def in_text(self, first, end):
-        """For a text that ends at this place of the keystream: what a call may ask of J_0."""
-        if first.counter is not None:
-            return {}
-        return {"room": (*self.low, (end - 1) // 16), "counter": CounterWord("J_0 low", 0, NEVER, end // 16 + BATCH)}
+        low = [d.fresh("counter byte %d of J_0" % k, KEY | PUBLIC, True) for k in range(4)]
+        d.numbers.update({d.cell_of(b)[0]: (k, low) for k, b in enumerate(low)})
+        d.words[OF_J_0] = lambda offset, k: d.bits(d.byte_in_block(low[k], offset + 1))
+        return self.aes.cipher(self.pre_counter + low[::-1], self.w)
 
     def counter_block(self, first, i):
-        """The block J_0 + i, the last 32 bits being a number of their own (inc_32, 6.2)."""
-        if first.counter is None:
-            size = self.address
-            return first.bytes[:16 - size] + [self.domain.opaque((Pointer("J_0 low", i), k)) for k in range(size)][::-1]
-        return first.bytes + number((first.counter + i) % 2 ** 32, 4)
+        """The block J_0 + i."""
+        if first.is_any:
+            self.once("any counter", self.any_counter)
+            return first.bytes + self.highest_first(Number(OF_J_0, i), 4)
+        return first.bytes + number((i + 1) % 2 ** 32, 4)
 
     def stream(self, first, i):
         """Cipher of the block J_0 + i."""
-        if first.counter is None:
-            return self.of(self.any_stream, i)
+        if first.is_any:
+            return self.of(self.once("any counter", self.any_counter), i)
         block = self.counter_block(first, i)
         return self.once(("stream", *block), lambda: self.aes.cipher(block, self.w))
 
@@ -206,33 +188,19 @@ class KeyedGcm(KeyedHash):
             yield from hashing.steps()
         tag = self.aes.xor(hashing.value, self.stream(first, 0))
         texts = self.changed(way, "text", text, sealed, text_length)
-        # One byte of the text is left by RISC-V's code of 64 bits: the function that wipes the stack saves a register there.
-        more.setdefault("may_stay", {"plain": 1} if way and self.program.machine.relaxed and self.address == 8 else None)
         return Call(name + way, [self.schedule(), *first.arguments, additional, additional_length, *texts,
                                  Buffer("tag", self.undefined(16), tag)], DONE, steps=steps, keystream=self.streams(first, text_length),
-                    plain=text, **self.in_text(first, 16 + text_length), **more)
+                    plain=text, **more)
 
-    # Texts of every length (lengths.py), under a nonce of 12 bytes. The halves of a counter are words of unknown value. The last block that
-    # a batch may have is below 2^32 - 1, so the low half doesn't carry: its last 32 bits begin at 1.
-    def any_counters(self):
-        d = self.domain
-        low = [d.fresh("counter byte %d" % i, PUBLIC, True) for i in range(8, 16)]
-        d.words["nonce high"] = lambda offset, k: d.bits(self.nonce[7 - k]) if offset == 0 else None
-        d.placed["any J_0 low"] = lambda number, k: d.bits(d.byte_in_block(low[7 - k], number))
-        return self.aes.cipher(self.nonce[:8] + low, self.w)
-
-    def any_counter_word(self, size):
-        low, high = ([1, 0, 0, 0] + self.nonce[:7:-1], Pointer("any J_0 low", 0)), (self.nonce[7::-1], Pointer("nonce high", 0))
-        return CounterWord("any J_0 low", 1, NEVER, size.divided(16)[0] + 2 + BATCH, {tuple(b): word for b, word in (low, high)})
-
-    # A nonce of 12 bytes, or of 48 k + `rest` of them for every k: then J_0 is any block of which the counter doesn't wrap around in the text.
-    def any_nonce(self, rest, size):
-        first = self.nonce_of()
+    # Texts of every length (lengths.py). J_0 of a nonce of 12 bytes becomes any block where it stands, and so does that of a nonce of
+    # 48 k + `rest` bytes for every k.
+    def any_nonce(self, rest, first=None):
+        first, (block, _, _) = first or self.nonce_of(), self.once("any J_0", self.any_pre_counter)
         if rest is None:
-            return AnyNonce(first.arguments, 0, None, self.stream(first, 0), self.once("any counters", self.any_counters),
-                            {"counter": self.any_counter_word(size)}, set())
-        length, blocks, (block, mask, stream) = unknown("k") * 48 + rest, (size + 31).divided(16)[0], self.once("any J_0", self.any_pre_counter)
-        hashed = self.once("hashed nonce", lambda: [self.domain.fresh("hashed nonce byte %d" % i, KEY | PUBLIC) for i in range(16)])
+            place = "place", first.bytes + number(1, 4), block
+            return AnyNonce(first.arguments, 1, lambda m: ("again", (), ()) if m.done else place, set())
+        length, hashed = unknown("k") * 48 + rest, self.once("hashed nonce", lambda: [
+            self.domain.fresh("hashed nonce byte %d" % i, KEY | PUBLIC) for i in range(16)])
 
         def steps(m):
             if m.phase == 0:
@@ -240,68 +208,68 @@ class KeyedGcm(KeyedHash):
             lengths = [0] * 8 + m.to_bytes(m.known(length) * 8, 8)[::-1]
             step = self.group_step(hashed, [lengths], block) if m.done == 0 else ("again", (), ())
             return step if m.phase == 1 else ("nothing", (), ())
-        more = {"counter": CounterWord(OF_J_0, 1, NEVER, blocks + 1 + BATCH), "room": (*block[:11:-1], blocks - 1)}
         facts = {unknown("k"), length - (13 if rest == 12 else 1), MOST_NONCE - length, PTRDIFF_MAX - length}
-        return AnyNonce([Stream("nonce", length, self.pattern(self.long_nonce)), length], 2, steps, mask, stream, more, facts)
+        return AnyNonce([Stream("nonce", length, self.pattern(self.long_nonce)), length], 2, steps, facts)
 
     def any_pre_counter(self):
         """J_0, Cipher of it, and of a later block: a number of its own, as are those of blocks."""
-        d, own = self.domain, [self.domain.fresh("J_0 byte %d" % i, KEY | PUBLIC) for i in range(12, 16)]
-        low = [d.fresh("counter byte %d of J_0" % i, KEY | PUBLIC, True) for i in range(4)]
-        word = lambda last, k: last[3 - k] if k < 4 else self.pre_counter[15 - k]
-        d.placed[OF_J_0] = lambda number, k: d.bits(d.byte_in_block(word(low, k), number))
-        d.words[OF_J_0] = lambda offset, k: d.bits(word(own, k)) if offset == 0 else None
-        block = self.pre_counter[:8] + [d.opaque((Pointer(OF_J_0, 0), k)) for k in range(8)][::-1]
-        return block, self.aes.cipher(block, self.w), self.aes.cipher(self.pre_counter + low, self.w)
+        d, own = self.domain, [self.domain.fresh("J_0 byte %d" % k, KEY | PUBLIC) for k in range(15, 11, -1)]
+        low = [d.fresh("counter byte %d behind J_0" % k, KEY | PUBLIC, True) for k in range(4)]
+        d.placed[OF_ANY_J_0] = lambda number, k: d.bits(d.byte_in_block(low[k], number))
+        d.words[OF_ANY_J_0] = lambda offset, k: d.bits(own[k]) if offset == 0 else None
+        block = self.pre_counter + self.highest_first(Number(OF_ANY_J_0, 0), 4)
+        return block, self.aes.cipher(block, self.w), self.aes.cipher(self.pre_counter + low[::-1], self.w)
+
+    @property
+    def any_stream(self):
+        return self.once("any J_0", self.any_pre_counter)[2]
 
     def any_begin(self, rest):
-        nonce, state = self.any_nonce(rest, unknown("n") * 16), self.state(ADDITIONAL, 0, 0)[:32]
+        nonce, state = self.any_nonce(rest), self.state(ADDITIONAL, 0, 0)[:32]
         message = self.message(self.undefined(MESSAGE), state + self.once("any J_0", self.any_pre_counter)[0] + 2 * ZEROS)
         return Call("gcm_begin", [self.schedule(), message, *nonce.arguments], DONE, steps=nonce.steps, facts=nonce.facts)
 
     def any_facts(self, sizes):
-        """The additional data may be as long as a buffer, and as the standard allows; the text a little shorter than that."""
-        most = MOST - 16 * (BATCH + 2)
-        return {unknown("a"), PTRDIFF_MAX - sizes[0], MOST_ADDITIONAL - sizes[0], unknown("n"), most - sizes[1]}
+        """Both may be as long as a buffer, and as the standard allows."""
+        return {unknown("a"), PTRDIFF_MAX - sizes[0], MOST_ADDITIONAL - sizes[0], unknown("n"), MOST - sizes[1]}
 
-    def any_tag(self, m, sizes, nonce):
-        return self.aes.xor(self.any_sum(m, sizes), nonce.mask)
+    def any_tag(self, m, sizes):
+        return self.aes.xor(self.any_sum(m, sizes), self.once("any J_0", self.any_pre_counter)[1])
 
-    def any_whole(self, additional, text, nonce):
-        """What statements of every length have in common: sizes, the nonce, and the patterns of text, keystream and encrypted text."""
+    def any_whole(self, additional, text):
+        """What statements of every length have in common: sizes, and the patterns of text, keystream and encrypted text."""
         sizes = unknown("a") * 48 + additional, unknown("n") * 768 + text
-        nonce = self.any_nonce(nonce, sizes[1])
-        return sizes, nonce, *(self.pattern(b) for b in (self.text, nonce.stream, self.sealed))
+        return sizes, *(self.pattern(b) for b in (self.text, self.any_stream, self.sealed))
 
     def any_seal_next(self, additional, text):
         first, assumes = self.counted()
-        return self.any_seal(additional, text, name="gcm_seal_next", arguments=first.arguments, assumes=assumes)
+        return self.any_seal(additional, text, name="gcm_seal_next", first=first, assumes=assumes)
 
-    def any_seal(self, additional, text, way="", nonce=None, name="gcm_seal", **more):
-        sizes, nonce, text, stream, sealed = self.any_whole(additional, text, nonce)
+    def any_seal(self, additional, text, way="", nonce=None, name="gcm_seal", first=None, **more):
+        sizes, text, stream, sealed = self.any_whole(additional, text)
 
         def steps(m, phase):
             return ("whole", "output" if way else "text", (sealed,)) if phase == 0 else self.any_hash(m, phase - 1, sizes)
         texts = self.streams_of(way, "text", sizes[1], sizes[1], text, [self.aes.xor(text, stream), sealed], lambda m, number: [0] * 16)
-        tag = Buffer("tag", self.undefined(16), lambda m: self.any_tag(m, sizes, nonce))
-        return self.of_any_message(name + way, sizes, nonce, stream, [*texts, tag], steps, text, **more)
+        tag = Buffer("tag", self.undefined(16), lambda m: self.any_tag(m, sizes))
+        return self.of_any_message(name + way, sizes, self.any_nonce(nonce, first), stream, [*texts, tag], steps, text, **more)
 
     def any_open(self, additional, text, way="", nonce=None):
-        sizes, nonce, _, stream, sealed = self.any_whole(additional, text, nonce)
+        sizes, _, stream, sealed = self.any_whole(additional, text)
         text = self.aes.xor(sealed, stream)
         tag = self.once("any tag", lambda: [self.domain.fresh("tag byte %d" % i, DATA) for i in range(16)])
         texts = [*self.streams_of(way, "text", sizes[1], sizes[1], sealed, text), Buffer("tag", tag), 16]
 
         def steps(m, phase):
             return ("refused", "output", (sealed, ZEROS, True)) if way and phase == 2 else self.any_hash(m, phase, sizes)
-        return self.of_any_message("gcm_open" + way, sizes, nonce, stream, texts, steps, text,
-                                   reveals=lambda m: self.aes.xor(tag, self.any_tag(m, sizes, nonce)), refused=REFUSED)
+        return self.of_any_message("gcm_open" + way, sizes, self.any_nonce(nonce), stream, texts, steps, text,
+                                   reveals=lambda m: self.aes.xor(tag, self.any_tag(m, sizes)), refused=REFUSED)
 
-    def of_any_message(self, name, sizes, nonce, stream, texts, steps, plain, arguments=None, **more):
+    def of_any_message(self, name, sizes, nonce, stream, texts, steps, plain, **more):
         additional = Stream("additional", sizes[0], self.pattern(self.additional_bytes))
-        return Call(name, [self.schedule(), *(arguments or nonce.arguments), additional, sizes[0], *texts], DONE,
+        return Call(name, [self.schedule(), *nonce.arguments, additional, sizes[0], *texts], DONE, counter=ANY_J_0,
                     steps=lambda m: nonce.steps(m) if m.phase < nonce.phases else steps(m, m.phase - nonce.phases),
-                    keystream=self.of_all(stream), plain=self.of_all(plain), facts=self.any_facts(sizes) | nonce.facts, **nonce.more, **more)
+                    keystream=self.of_all(stream), plain=self.of_all(plain), facts=self.any_facts(sizes) | nonce.facts, **more)
 
     def seal_next(self, additional_length, text_length, counter=None):
         """The same under the counter's next nonce, which it writes to `nonce`; the counter then moves on by one. .. DONE"""
@@ -322,8 +290,7 @@ class KeyedGcm(KeyedHash):
         texts = self.changed(way, "text", sealed, text, text_length)
         return Call("gcm_open" + way, [self.schedule(), *first.arguments, additional, additional_length, *texts, Buffer("tag", tag), 16],
                     DONE, steps=steps, reveals=self.aes.xor(tag, right), refused=REFUSED, refused_after={"output": [0] * text_length},
-                    keystream=self.streams(first, text_length), plain=text,
-                    **self.in_text(first, 16 + text_length))
+                    keystream=self.streams(first, text_length), plain=text)
 
     # Messages in pieces.
     def state(self, phase, additional, text, decrypted=0, value=ZEROS, rest=ZEROS, first=None):
@@ -331,10 +298,6 @@ class KeyedGcm(KeyedHash):
         first = first or self.nonce_of()
         counts = [b for n in (additional, text, decrypted, phase) for b in number(n, 8)[::-1]]
         return counts + self.counter_block(first, 0) + value + rest
-
-    def nonce_of_pieces(self, nonce):
-        """On 32 bits a nonce of 12 bytes, in the place of any J_0: of that the code asks whether the word above the counter is 0."""
-        return self.nonce_of(*(() if nonce == UNKNOWN and self.address == 4 else nonce))
 
     def message(self, before, after=None):
         return Buffer("message", before, after, secret=True, align=8)
@@ -385,7 +348,7 @@ class KeyedGcm(KeyedHash):
     def piece(self, call, phase, additional, before, count, nonce=UNKNOWN):
         """Encrypts a piece of the text in place. .. Takes a piece of an encrypted text whose tag is to be compared, and writes nothing to
         it. .. Takes a piece as fotsgure_gcm_verify does, and decrypts it in place at once. .. DONE"""
-        first = self.nonce_of_pieces(nonce)
+        first = self.nonce_of(*nonce)
         state, hashing = self.any_state(phase, additional, before, first)
         text, sealed = (self.many(b, count, before % 16) for b in (self.text, self.sealed))
         self.turned(hashing, phase, additional)
@@ -403,8 +366,7 @@ class KeyedGcm(KeyedHash):
         texts = {"encrypt": (text, sealed), "verify": (sealed, None), "decrypt_unverified": (sealed, self.crypted(first, sealed, before))}
         return self.on_message(call, state, after, [Buffer("text", *texts[call]), count], steps=steps,
                                keystream=self.streams(first, count, before) if call != "verify" else (),
-                               plain=self.crypted(first, sealed, before) if call == "decrypt_unverified" else text,
-                               **self.in_text(first, 16 + before + count))
+                               plain=self.crypted(first, sealed, before) if call == "decrypt_unverified" else text)
 
     # Pieces of 48 n + `rest` bytes for every n, where 16 u + `filled` bytes came before for every u: the first bytes fill up a block, and
     # fewer than 48 follow the last three blocks that are hashed at once.
@@ -465,9 +427,8 @@ class KeyedGcm(KeyedHash):
     def any_crypted(self, filled, rest):
         """The keystream of a piece: its pattern, and what the call needs of the counter."""
         before, size, facts = self.any_numbers(filled, rest, 768)
-        nonce = self.any_nonce(0, before + size)
-        stream, more = self.in_places(nonce.stream, filled), dict(nonce.more, counter=nonce.more["counter"]._replace(first=unknown("u") + 1))
-        return before, size, stream, dict(more, keystream=self.of_all(stream), facts=facts | {MOST - 16 * (BATCH + 2) - before - size})
+        stream, counter = self.in_places(self.any_stream, filled), ANY_J_0._replace(first=unknown("u") + 1)
+        return before, size, stream, dict(counter=counter, keystream=self.of_all(stream), facts=facts | {MOST - before - size})
 
     def any_encrypt(self, filled, rest):
         before, size, stream, more = self.any_crypted(filled, rest)
@@ -531,12 +492,12 @@ class KeyedGcm(KeyedHash):
 
     def decrypt(self, text, before, count, nonce=UNKNOWN):
         """Decrypts a piece in place of the encrypted text whose tag was right .. DONE"""
-        first = self.nonce_of_pieces(nonce)
+        first = self.nonce_of(*nonce)
         sealed = self.many(self.sealed, count, before % 16)
         plain = self.crypted(first, sealed, before)
         (state, _), (after, _) = (self.any_state(DECRYPTING, 3, text, first, n) for n in (before, before + count))
         return self.on_message("decrypt", state, after, [Buffer("text", sealed, plain), count],
-                               keystream=self.streams(first, count, before), plain=plain, **self.in_text(first, 16 + before + count))
+                               keystream=self.streams(first, count, before), plain=plain)
 
     def tag_of(self, phase, additional, text, first):
         """A message in any state, and the tag of what has come of it."""
@@ -549,14 +510,14 @@ class KeyedGcm(KeyedHash):
 
     def finish(self, phase, additional, text, nonce=UNKNOWN):
         """Ends a message that was encrypted: writes its tag, and overwrites *message with zeros. .. DONE"""
-        first = self.nonce_of_pieces(nonce)
+        first = self.nonce_of(*nonce)
         state, hashing, tag = self.tag_of(phase, additional, text, first)
         return self.on_message("finish", state, [0] * MESSAGE, [Buffer("tag", self.undefined(16), tag)], steps=hashing.steps)
 
     def accept(self, phase, additional, text, nonce=UNKNOWN, length=None):
         """Compares the tag of what has come, without an early exit. If it is right, the encrypted text may come once more, to be decrypted.
         .. REFUSED; else DONE. With a length: Compares a tag of fewer than 16 bytes in the place of fotsgure_gcm_accept"""
-        first = self.nonce_of_pieces(nonce)
+        first = self.nonce_of(*nonce)
         state, hashing, right = self.tag_of(phase, additional, text, first)
         tag = self.of(self.tag, 0)[:length or 16]
         after, _ = self.any_state(DECRYPTING, additional, text, first)

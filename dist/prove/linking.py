@@ -66,9 +66,9 @@ def is_windows(build):
     return BUILDS[build] is Windows
 
 
-def takes_few(build):
-    """Whether it is proved at a few lengths, but with PROVE=all: its text is compiled from what others are (cases.py)."""
-    return suffix_of(build) == "_v1" or is_windows(build) or issubclass(BUILDS[build], Riscv)
+def takes_few(build, level="all"):
+    """Whether it is proved at fewer lengths than others (cases.py): its text is compiled from what these are; or, without PROVE, is `_v3`."""
+    return suffix_of(build) == "_v1" or is_windows(build) or issubclass(BUILDS[build], Riscv) or not level and suffix_of(build) == "_v3"
 
 
 # What the Makefile builds.
@@ -180,7 +180,7 @@ def program_of(build, path, out):
     if not is_windows(build):
         refuse_sections(path)
     program = linked(out, BUILDS[build], [path], suffix_of(build))
-    program.narrow, program.few, program.suffix = narrow_word(build), takes_few(build), suffix_of(build)
+    program.narrow, program.build = narrow_word(build), build
     refuse_instructions(program, suffix_of(build))
     return program
 
@@ -253,7 +253,7 @@ def refuse_names_of_windows(path, suffix):
 
 # The sections that an object may have, by whether they are loaded and written; and of which kinds.
 SECTIONS = {LOADED: r"\.(text|rodata|note\.gnu\.property|note\.fotsgure)(\..+)?", LOADED | WRITTEN: r"\.(data|bss)",
-            0: r"|\.(comment|note\.GNU-stack|riscv\.attributes|symtab|strtab|shstrtab|debug_\w+|rela\..+)"}
+            0: r"|\.(comment|note\.(GNU-stack|fotsgure)|riscv\.attributes|symtab|strtab|shstrtab|debug_\w+|rela\..+)"}
 KINDS = 0, CONTENT, SYMBOLS, STRINGS, RELOCATIONS, NOTE, NO_BITS, RISCV_ATTRIBUTES
 
 

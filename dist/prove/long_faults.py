@@ -1,6 +1,6 @@
 """Faults that show at long lengths only: a statement of every length refuses each, and calls of some lengths up to 64 blocks are proved.
 As in faults.py: (what, behind which label, what is looked for there, what it becomes, the case that has to refuse it)."""
-from faults import (BATCHES, BLOCKS, BLOCKS_TO, BLOCKS_WITH, CBC, CCM_OPEN, CCM_STREAM, ENTRY, GCTR, IN_BATCHES, MEMSET, SIV_OPEN, UNWRAP,
+from faults import (BATCHES, BLOCKS, BLOCKS_TO, BLOCKS_WITH, CBC, CCM_OPEN, CCM_STREAM, ENTRY, IN_BATCHES, MEMSET, SIV_OPEN, UNWRAP,
                     WIPE_STACK, WIPE_WORDS, call, exported, function, low, second)
 
 ENCRYPT, DECRYPT = (function("aes_hybrid::closures::call_to_" + name) for name in ("encrypt", "decrypt"))
@@ -180,8 +180,8 @@ LONG_FAULTS = {
         ("a count of 32 bits of a piece that is decrypted", exported("gcm_decrypt_unverified"), r"addq\t%(r\w+), 8\((%r\w+)\)",
          lambda found: "addl\t%%%s, 8(%s)" % (low(found[1]), found[2]), "any_decrypt_unverified 3 46"),
         ("three blocks left out of the hash of a nonce after 2^16", HASH_ON, THREES, LEFT_OUT, "any_begin 8"),
-        ("a wrap of the counter that isn't seen beyond 2^20 blocks", GCTR, r"\tshrq\t\$4, %(r\w+)\n",
-         lambda found: found[0] + "\tandl\t$1048575, %%%s\n" % low(found[1]), "any_seal 13 33 8"),
+        ("a carry out of the counter's 32 bits", ENCRYPT, r"\tleal\t(.*), %e(\w+)\n\torq\t%\w+, %r\2\n", r"\tleaq\t\1, %r\2\n",
+         "any_seal 13 33 8"),
         ("a nonce's length in 32 bits", function("gcm::mode::BorrowedGcm::put_pre_counter"), r"\tmovq\t%(r\w+), (%xmm\d+)\n",
          lambda found: "\tmovd\t%%%s, %s\n" % (low(found[1]), found[2]), "any_begin 8"),
     ],

@@ -66,7 +66,7 @@ class Machine(Arithmetic, Unknowns, Bytewise, Access):
         self.written = (), 0  # the list of bytes that was last written to, and where
         self.wrote = {}  # which bytes were written to each of the caller's buffers, also those that were written over since
         self.stale = set()  # bytes of the stack that may have been overwritten by others since they were written
-        self.room = self.counter = None  # see calls.Call
+        self.counter = None  # see calls.Call
         # See lengths.py.
         self.facts, self.decided, self.loops, self.replaced, self.first_block, self.generals, self.forgets = frozenset(), [], {}, [], 0, (), 0
         self.any_length = False

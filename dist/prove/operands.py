@@ -36,7 +36,6 @@ Instruction = namedtuple("Instruction", "run name operands next form")  # form: 
 FARTHEST = 1 << 16  # how many bytes the stack pointer may move at once: more than any frame has; or a pass of a loop
 HEAD = " head"  # what the name of that of a buffer ends with
 LEAD, LAST = 2, 200  # the number of the first block of a buffer whose length isn't known; those that occur are less than LAST
-WRAPS = "wraps"  # a question: whether the counter of GCM, 32 bits of unknown value, wraps around by the last block of a text
 SECRET = "secret"  # a flag that depends on the key or on data; None is a flag that is undefined
 RETURN_ADDRESS = Pointer("return address", 0)
 WORD = (1 << 64) - 1

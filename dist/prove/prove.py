@@ -33,7 +33,7 @@ def say_what_ran(tasks, options):
     for text, own in texts.items():
         program = Program(own[0].path, own[0].machine, suffix_of(own[0].build))
         found = uncovered.of_text(program, *(set().union(*some) for some in zip(*((task.ran, task.went) for task in own))))
-        judged = options.level == "all" or not takes_few(own[0].build)  # of the builds that take few lengths all cases run with PROVE=all
+        judged = options.level == "all" or not takes_few(own[0].build, options.level)  # all cases run
         print("%s.s: %s%s" % (text, uncovered.summary(program, found), "" if judged else "; not judged here"))
         if options.lines:
             for name, one in found.items():

@@ -9,7 +9,7 @@ import re
 from bits import Pause, Undefined, Unproved
 from linear import Linear, is_number, refuse, unknown
 from machine import Machine
-from operands import (RETURN_ADDRESS, SECRET, WRAPS, Distance, Instruction, Memory, Number, Register, Table, Verdict, constant, contrary, form,
+from operands import (RETURN_ADDRESS, SECRET, Distance, Instruction, Memory, Number, Register, Table, Verdict, constant, contrary, form,
                       is_int, is_pointer)
 
 S, A = ["s%d" % n for n in range(12)], ["a%d" % n for n in range(8)]
@@ -98,8 +98,6 @@ class Riscv(Machine):
             return 0  # y is x, or a part of it
         if self.is_counter(x):
             return self.has_wrapped(x, y)
-        if self.room and is_int(x) and self.is_room(self.half(y), ~x & 0xffffffff, 4) and all(extended(self, self.half(v)) == v for v in (x, y)):
-            return (WRAPS,)
         if y == 1:
             return self.is_zero(x)
         if x == 0:
@@ -158,23 +156,9 @@ class Riscv64(Riscv):
     """With all of rv64gc."""
     compiler, linker = (Riscv.tools + "gcc",), (Riscv.tools + "ld",)
 
-    def from_bytes(self, b):
-        """Of a Number the higher bytes stay, where they are known."""
-        v = super().from_bytes(b)
-        return tuple(b) if isinstance(v, Number) and len(b) > 4 and self.domain.undefined not in b else v
-
-    def plus(self, x, y, carry, size):
-        return super().plus(self.without_higher(x), self.without_higher(y), carry, size)
-
     def only_zero(self, differences):
         """Of the lower half, which the code then takes by itself."""
         return self.from_bytes(self.to_bytes(super().only_zero(differences[:4]), 4) + [self.any_byte()] * (len(differences) - 4))
-
-    def without_higher(self, v):
-        """The Number in the lower half of a word: what is added to it is so modulo 2^32."""
-        name = self.domain.opaque_of.get(v[0]) if type(v) is tuple else None
-        low = super().from_bytes(list(v[:4])) if isinstance(name, tuple) and isinstance(name[0], Number) else None
-        return low if isinstance(low, Number) else v
 
 
 # Instructions: their meanings by their names. Each takes the machine, its own name, and its operands.

@@ -59,9 +59,7 @@ class KeyedSiv(KeyedHash):
         self.counter = counter = [d.fresh("tag byte %d, as a counter" % i, DATA, True) for i in range(4)]
         d.numbers.update({d.cell_of(b)[0]: (k, counter) for k, b in enumerate(counter)})
         d.words["counter of the tag"] = lambda offset, k: d.bits(d.byte_in_block(counter[k], offset + 1))
-        self.own_tag = [d.opaque((Number("counter of the tag", 0), k)) for k in range(4)] + self.fresh("tag", DATA)[4:]
-        if self.program.machine.relaxed:  # where bytes are put together by shifts
-            d.byte_ids.update((d.bits(b), b) for b in self.own_tag[:4])
+        self.own_tag = self.named_bytes(Number("counter of the tag", 0), 4) + self.fresh("tag", DATA)[4:]
         self.highest = d.fresh("byte 15 of the first counter block", DATA)
         self.tag_input = self.fresh("tag input", KEY | DATA)
         self.own_stream = self.aes.cipher(counter + self.own_tag[4:15] + [self.highest], self.message_w)

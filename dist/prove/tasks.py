@@ -65,7 +65,7 @@ class Task:
             return ()
         if self.machine.relaxed:
             return ON_RISCV
-        if takes_few(self.build):
+        if takes_few(self.build, self.options.level):
             return () if is_windows(self.build) and narrow_word(self.build) else OF_FEW_BESIDE
         return (*ALL_BESIDE, *["set_key"] * (self.part == 0)) if self.options.level == "all" else BESIDE
 
@@ -93,7 +93,9 @@ def pool_of(jobs, **more):
 
 def parts_of(level, build, size):
     """In how many parts the calls of a build are proved: so that all take about as long, and with all lengths not too much memory."""
-    return (3 if takes_few(build) else 8) if level == "all" else 1 if level or size != 16 or takes_few(build) else 4
+    if level == "all":
+        return 8 if "/aes" in build and not takes_few(build) else 3
+    return 1 if level or size != 16 or takes_few(build, level) else 4
 
 
 def run_all(pool, options):

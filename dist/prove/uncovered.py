@@ -10,8 +10,12 @@ UNCOVERED = [
     *((text, function, idle, one_way, "What is wiped has one of a few lengths, and the loops are for any.") for text, function, idle, one_way in (
         (".*", r"zeroize\.elements\.zeroize_elements", 36, 4), ("x86_64/.*", r"zeroize\.zeroize_words", 4, 1),
         ("x86_64/.*", r"zeroize\.stack\.wipe_stack", 0, 1), ("(?!x86_64/).*", r"zeroize\.\w+(\.\w+)?", 36, 4))),
-    (".*", r"expand_lanes|store_planes|process_on_lanes|process_planes|chaining\.chain|tags\.tag|ccm\.message\.put_tag|_halves|put_mask|"
-     r"put_subkey|_in_place", 20, 6, "Loops over the round keys check at each one whether it is there."),
+    (".*", r"expand_lanes|store_planes|process_on_lanes|process_planes|chaining\.chain|tags\.tag|_halves|put_mask|put_subkey|"
+     r"_in_place|expand_words|process_state", 20, 6, "Loops over the round keys check at each one whether it is there."),
+    (".*", "process_few", 18, 2, "It is never called for no blocks, and asks whether there are any."),
+    (".*/aes.*", r"ccm\.message\.put_tag|ccm\.mode\.\w+", 30, 9, "Additional data of 65,280 bytes or more are tried with few builds alone. "
+     "The export refuses a text that is too long first, and it is asked for once more."),
+    ("riscv32/aes", "_in_place", 12, 7, "A number of semiblocks has 64 bits there, and no buffer so many that the higher 32 count."),
     (".*", r"add_in_batches\.\w+|call_to_\w+", 75, 26, "A text ends in any part of a batch, and not each end is tried; in GCM a carry into "
      "the high half of a counter can only come behind a text."),
     (".*", r"process_on_planes|process_in_batches|process_rest", 26, 13, "The same of blocks."),

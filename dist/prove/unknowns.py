@@ -128,7 +128,7 @@ class Unknowns:
         for region in self.regions.values():
             if isinstance(region, Window):
                 region.size, region.end, region.origin = new(region.size), new(region.end), new(region.origin)
-        self.counter, self.done, self.room = new(self.counter), new(self.done), new(self.room)
+        self.counter, self.done = new(self.counter), new(self.done)
         self.loops, self.replaced, self.want = {}, [*self.replaced, (name, by)], None
 
     def renumbered(self, b, new):

@@ -145,23 +145,13 @@ def counted(first, count):
 def gcm_vectors(k):
     for key, nonce, cipher, tag in GCM:
         if len(key) == 2 * k.key_size:
-            first = len(nonce) // 2, counter_of(bytes.fromhex(key), bytes.fromhex(nonce))
+            first = len(nonce) // 2,
             given = {"nonce": nonce, "additional": G_MORE}
             yield k.seal(20, 60, first), key, dict(given, text=G_PLAIN), {"text": cipher, "tag": tag}
             if len(nonce) == 24:
                 yield k.open(20, 60, first), key, dict(given, text=cipher, tag=tag), {"text": G_PLAIN}
                 yield k.seal(20, 60, first, "_to"), key, dict(given, input=G_PLAIN), {"output": cipher, "tag": tag}
                 yield k.open(20, 60, first, "_to"), key, dict(given, input=cipher, tag=tag), {"output": G_PLAIN}
-
-
-def counter_of(key, nonce):
-    """The last 32 bits of J_0 (7.1, step 2), for the statements that are for J_0 that end in a number."""
-    plain = Aes(Domain())
-    h, value = plain.cipher([0] * 16, plain.key_expansion(list(key))), [0] * 16
-    padded = nonce + bytes(-len(nonce) % 16 + 8) + (8 * len(nonce)).to_bytes(8, "big")
-    for i in range(0, len(padded), 16):
-        value = product(plain.d, plain.xor(value, padded[i:i + 16]), h)
-    return int.from_bytes(bytes(value[12:]), "big")
 
 
 def siv_vectors(k):

@@ -15,16 +15,14 @@ This page is made by `tools/pages` of [cases.py](cases.py). [The first page](REA
 
 Each row is a statement: a method of `KeyedAes`, `KeyedGcm` or `KeyedSiv`, which stands beside the header's sentence. A name with `any_` is
 proved at every length of the form that the row names. Others have the lengths that are listed. Entries of a list end with a semicolon.
-`_to` and `_with` are the calls with these endings. *Wraps*: J_0 ends in 0700ffff and a counter that wraps around in the text.
+`_to` and `_with` are the calls with these endings. With a nonce that doesn't have 12 bytes J_0 is any block, and in pieces it is so with any nonce.
 
 - *Each*: keys of 16 bytes, with each build.
-- *Most*: also with keys of 16 bytes and the builds but `_v1`, those for Windows, and those for RISC-V.
-- *Short*: what `make prove` without PROVE takes in the place of *most*. If there is `-`, it takes *most*, but of a name with `any_` nothing
-  with `_v3`.
+- *Most*: also with keys of 16 bytes and the builds but `_v1`, those for Windows, and those for RISC-V; without PROVE not with `_v3`.
 - *First*: also with keys of 16 bytes, `x86_64/aes.s` and `x86_64/gcm.s`, with `PROVE=builds`.
 - *24, 32*: with keys of 24 and 32 bytes, and the builds of *most*.
-- *All*: also with `PROVE=all`. The builds of *most* then take the whole row with keys of 16 bytes, and *each* and *most* with other keys. The
-  other builds take *each* and *most* with keys of 16 bytes, and *24, 32* with other keys.
+- *All*: also with `PROVE=all`. The builds of *most* then take the whole row with keys of 16 bytes, and *each* and *most* too with other keys.
+  The other builds take *each* and *most* with keys of 16 bytes, and *24, 32* with other keys.
 
 Each build and each size of key also takes `set_key`, and refusals with all their numbers: counts, positions and lengths that aren't known.
 Keys of 16 bytes have each refusal, and other keys one for each call and status.
@@ -35,7 +33,7 @@ RISCV = """
 `riscv32/aes.s` also takes these rows. Below them are the entries of *each* and *most* that RISC-V leaves out.
 """
 TITLES = {"aes": "fotsgure_aes.h", "gcm": "fotsgure_gcm.h", "siv": "fotsgure_gcm.h: AES-GCM-SIV"}
-COLUMNS = "few", "full", "short", "first", "other", "more"
+COLUMNS = "few", "full", "first", "other", "more"
 NONE = "-"
 
 
@@ -45,9 +43,8 @@ def value_said(value):
         return None
     if value == gcm.UNKNOWN:
         return "any J_0"
-    if isinstance(value, tuple):  # a nonce: how many bytes it has, and how J_0 ends
-        length, *ends = value
-        return f"nonce of {length}" + (", any J_0" if None in ends else ", wraps" if ends else "")
+    if isinstance(value, tuple):  # a nonce: how many bytes it has
+        return f"nonce of {value[0]}"
     if value is None:
         return "no carry"
     if isinstance(value, int) and value >= 1 << 20:
@@ -90,14 +87,11 @@ def list_said(values):
 
 
 def row_said(row):
-    lists = {column: list_said(getattr(row, column) or ()) for column in COLUMNS}
-    if row.short == ():  # not the same as no list at all
-        lists["short"] = "nothing"
-    return f"| `{row.name}` | {row.what or NONE} | " + " | ".join(lists.values()) + " |"
+    return f"| `{row.name}` | {row.what or NONE} | " + " | ".join(list_said(getattr(row, column)) for column in COLUMNS) + " |"
 
 
 def table(rows):
-    return "\n".join(["| statement | its arguments | each | most | short | first | 24, 32 | all |", "|---" * 8 + "|", *map(row_said, rows)])
+    return "\n".join(["| statement | its arguments | each | most | first | 24, 32 | all |", "|---" * 7 + "|", *map(row_said, rows)])
 
 
 def left_out_of(library, rows, machine):
