@@ -53,10 +53,12 @@ enter:
 #else
 	.syntax	unified
 	.arm
+	.fpu	neon
 	.globl	enter
 	.type	enter, %function
 enter:
 	push	{r4-r11, lr}
+	vpush	{d8-d15}
 	mov	r4, sp
 	mov	r5, r2
 	mov	r6, r1
@@ -64,11 +66,18 @@ enter:
 	.irp	it, r0, r1, r2, r3, r7, r8, r9, r10, r11, r12
 	mov	\it, #0
 	.endr
+	.irp	it, q0, q1, q2, q3, q4, q5, q6, q7, q8, q9, q10, q11, q12, q13, q14, q15
+	vmov.i32	\it, #0
+	.endr
 	.inst	0xe320f000 + 112
 	blx	r6
 	.inst	0xe320f000 + 113
 	stm	r5, {r0-r12, lr}
+	add	r5, r5, #64
+	vstm	r5!, {d0-d15}
+	vstm	r5!, {d16-d31}
 	mov	sp, r4
+	vpop	{d8-d15}
 	pop	{r4-r11, pc}
 #endif
 	.section	.note.GNU-stack,"",%progbits

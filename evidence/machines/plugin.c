@@ -1,6 +1,6 @@
-/* A plugin of qemu that follows what runs between two marks: which instructions in which order, and which addresses they read and
- * write. Each time it meets the second mark it writes a line: a hash of the addresses of the instructions, a tab, and a hash of those
- * that they read and write. It is for RISC-V and ARM.
+/* A plugin of qemu that follows what runs between two marks: how many instructions, which ones in which order, and which
+ * addresses they read and write. Each time it meets the second mark it writes a line with tabs: instructions, a hash of
+ * their addresses, and a hash of the addresses that they read and write. It is for RISC-V and ARM.
  * usage: qemu-arm -plugin plugin.so,out=FILE PROGRAM .. */
 #include <stddef.h>
 #include <stdint.h>
@@ -31,16 +31,17 @@ enum { ADDI = 0x13, HINT = (int)0xe320f000, NUMBER = 112 };
 static uint32_t begin = HINT | NUMBER, end = HINT | (NUMBER + 1);
 
 static FILE *out;
-static uint64_t order, places;
+static uint64_t instructions, order, places;
 
 static uint64_t mixed(uint64_t hash, uint64_t with) {
     hash = (hash ^ with) * 0x9e3779b97f4a7c15u;
     return hash ^ hash >> 29;
 }
-/* What runs is followed by blocks of instructions, which run whole: by the address of the first. */
-static void executed(unsigned cpu, void *address) {
+/* What runs is followed by blocks of instructions, which run whole: by how many they are, and the address of the first. */
+static void executed(unsigned cpu, void *of) {
     (void)cpu;
-    order = mixed(order, (uintptr_t)address);
+    instructions += (uintptr_t)of >> 48;
+    order = mixed(order, (uintptr_t)of);
 }
 static void accessed(unsigned cpu, qemu_plugin_meminfo_t how, uint64_t address, void *at) {
     (void)cpu, (void)at;
@@ -48,11 +49,12 @@ static void accessed(unsigned cpu, qemu_plugin_meminfo_t how, uint64_t address, 
 }
 static void began(unsigned cpu, void *at) {
     (void)cpu, (void)at;
-    order = places = 0;
+    instructions = order = places = 0;
 }
 static void ended(unsigned cpu, void *at) {
     (void)cpu, (void)at;
-    fprintf(out, "%016llx\t%016llx\n", (unsigned long long)order, (unsigned long long)places);
+    fprintf(out, "%llu\t%016llx\t%016llx\n", (unsigned long long)instructions, (unsigned long long)order,
+        (unsigned long long)places);
 }
 
 static uint32_t code_of(const struct qemu_plugin_insn *it) {
@@ -60,6 +62,7 @@ static uint32_t code_of(const struct qemu_plugin_insn *it) {
     memcpy(&code, qemu_plugin_insn_data(it), sizeof code);
     return code;
 }
+static void *numbered(size_t count, uint64_t address) { return (void *)((uintptr_t)count << 48 | (uintptr_t)address); }
 /* A block with a mark is followed by its instructions. */
 static void translated(qemu_plugin_id_t id, struct qemu_plugin_tb *block) {
     (void)id;
@@ -69,12 +72,12 @@ static void translated(qemu_plugin_id_t id, struct qemu_plugin_tb *block) {
         marks += code == begin || code == end;
     }
     if (!marks)
-        qemu_plugin_register_vcpu_tb_exec_cb(block, executed, NO_REGISTERS, (void *)(uintptr_t)qemu_plugin_tb_vaddr(block));
+        qemu_plugin_register_vcpu_tb_exec_cb(block, executed, NO_REGISTERS, numbered(count, qemu_plugin_tb_vaddr(block)));
     for (size_t i = 0; i < count; i++) {
         struct qemu_plugin_insn *it = qemu_plugin_tb_get_insn(block, i);
         void (*call)(unsigned, void *) = code_of(it) == begin ? began : code_of(it) == end ? ended : executed;
         if (marks)
-            qemu_plugin_register_vcpu_insn_exec_cb(it, call, NO_REGISTERS, (void *)(uintptr_t)qemu_plugin_insn_vaddr(it));
+            qemu_plugin_register_vcpu_insn_exec_cb(it, call, NO_REGISTERS, numbered(1, qemu_plugin_insn_vaddr(it)));
         qemu_plugin_register_vcpu_mem_cb(it, accessed, NO_REGISTERS, READS_AND_WRITES, NULL);
     }
 }

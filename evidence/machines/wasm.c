@@ -4,13 +4,14 @@
 #include <stdio.h>
 #include <string.h>
 
-static uint64_t order, places;
+static uint64_t branches, order, places;
 static uint64_t mixed(uint64_t hash, uint64_t with) {
     /* (One more, since 0 after 0 would be nothing.) */
     hash = (hash ^ (with + 1)) * 0x9e3779b97f4a7c15u;
     return hash ^ hash >> 29;
 }
 uint32_t report_table(uint32_t number) {
+    branches++;
     order = mixed(order, number);
     return number;
 }
@@ -41,11 +42,11 @@ void *report_memset(void *to, int what, size_t count) {
 __attribute__((noinline)) int enter(void *top, int (*call)(void), void *registers) {
     void *own;
     (void)registers;
-    order = places = 0;
+    branches = order = places = 0;
     __asm__ volatile(".globaltype __stack_pointer, i32\nglobal.get __stack_pointer\nlocal.set %0" : "=r"(own));
     __asm__ volatile("local.get %0\nglobal.set __stack_pointer" : : "r"(top) : "memory");
     int said = call();
     __asm__ volatile("local.get %0\nglobal.set __stack_pointer" : : "r"(own) : "memory");
-    printf("seen\t%016llx\t%016llx\n", order, places);
+    printf("seen\t%llu\t%016llx\t%016llx\n", branches, order, places);
     return said;
 }
