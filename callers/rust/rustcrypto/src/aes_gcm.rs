@@ -28,8 +28,7 @@
 //! # Not as in `aes-gcm`
 //!
 //! [`AesGcm`] isn't generic over any block cipher: its first parameter is [`Aes128`], [`Aes192`] or [`Aes256`] of this
-//! crate. If a nonce doesn't have 12 bytes, the time of a call can reveal whether and where a counter of 32 bits wraps. That
-//! says something about the key.
+//! crate.
 
 use crate::keys::{self, Text};
 use aead::{TagPosition, inout::InOutBuf};
