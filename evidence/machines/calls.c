@@ -345,10 +345,12 @@ static int is_same(size_t at, size_t length) {
         same &= memcmp(images[other].bytes + at, images[0].bytes + at, length) == 0;
     return same;
 }
-/* Whether a word has one byte alone, or two, which are known: a machine of 32 bits may keep bytes of a message so. In a long message every
- * byte occurs, so that this tells something of short ones alone. */
+/* Whether a word has one byte alone, its first or its last, or its first two, which are known: a machine of 32 bits may keep bytes of a
+ * message or a tag so. In a long message every byte occurs, so that this tells something of short ones alone. */
 static int is_alone(int run, size_t at) {
     const uint8_t *it = images[run].bytes + at / 4 * 4;
+    if (!it[0] && !it[1] && !it[2])
+        return memchr(known[run], it[3], known_bytes[run]) != NULL;
     size_t length = it[1] ? 2 : 1;
     return !it[2] && !it[3] && memmem(known[run], known_bytes[run], it, length);
 }
