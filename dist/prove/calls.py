@@ -242,9 +242,10 @@ def step_by_step(steps):
     so what is proved from there on holds for any. "hash" is looked for in vector registers, or as words in either order of bytes;
     products of bits are then forgotten: what still depends on them is lost, and may not even be left. "vector" is looked for in vector
     registers, "memory" where something was written, "block" in all these places, "kept" in memory outside of Streams; another name is that
-    of a region. "place" is "memory", and the bytes change there alone: so even constants become arbitrary. In a call of any length `steps` is a function of the machine. Then "here" says that there is a result; "again" begins
-    another phase, in which blocks have new numbers, and so does "whole", as soon as all of a buffer is done, and "refused", when the call
-    will return that; and "nothing" says that what comes next isn't known."""
+    of a region. "place" is "memory", and the bytes change there alone: so even constants become arbitrary. In a call of any length `steps` is a
+    function of the machine. Then "here" says that there is a result; "again" begins another phase, in which blocks have new numbers, and so
+    does "whole", as soon as all of a buffer is done, and "refused", when the call will return that; and "nothing" says that what comes next
+    isn't known."""
     steps = steps if callable(steps) else list(steps)
 
     def watch(m):

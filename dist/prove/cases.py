@@ -76,11 +76,13 @@ AES_ROWS = [
       for call in ("ccm_seal", "ccm_open")),
     *ROUNDS]
 
-OF_SHORT_WORDS = [  # where calls of every length aren't proved (left_out)
+# Where calls of every length aren't proved (left_out).
+OF_SHORT_WORDS = [
     Row("blocks", "as above", few=[(way, n, "_to") for way in DIRECTIONS for n in (1, 2)]),
     Row("cmac", "as above", few=[17]), Row("cmac_verify", "as above", few=[(17, 16)]),
     Row("add_keystream", "as above, and how many words of 32 bits above the lowest one carry too", few=[(5, 40, 2, "", 1)],
         full=[(5, 40, 2, "", 2)])]
+SIV_ON_RISCV = [Row(call, "as above", full=[(13, 161)]) for call in ("seal", "open")]
 
 NONCES = (8,), (1,), (60,)  # of other lengths than 12: so J_0 is any block
 FEW_COUNTERS = [None, gcm.CarryTo(3)]  # of `_next`; None: any without a carry
@@ -143,8 +145,9 @@ SIV_ROWS = [
         more=[(0, 0), (47, 767)]),
     Row("any_open", WHOLE + "; also of what is refused", full=[(13, 33, "_to"), (13, 225)],
         more=[(33, 48), (0, 0, "_to")]),
-    Row("seal", "the lengths of additional data and text", few=[(13, 33), (13, 33, "_to")], full=[(13, 0)], other=[(13, 33), (13, 33, "_to")]),
-    Row("open", "the same, also of what is refused", few=[(1, 1), (13, 33, "_to")], full=[(13, 0)], other=[(1, 1), (13, 33, "_to")])]
+    Row("seal", "the lengths of additional data and text", few=[(13, 33), (13, 33, "_to")], full=[(13, 0), (1, 1), (0, 16)],
+        other=[(13, 33), (13, 33, "_to")]),
+    Row("open", "the same, also of what is refused", few=[(1, 1), (13, 33, "_to")], full=[(13, 0), (0, 16)], other=[(1, 1), (13, 33, "_to")])]
 
 
 def common_rows(library, version):
@@ -163,8 +166,8 @@ def rows_of(library, machine):
     if not issubclass(machine, Riscv):
         return rows
     kept = lambda row, some: [v for v in some or () if not left_out(library, machine.word, row.name, v if isinstance(v, tuple) else (v,))]
-    short_words = OF_SHORT_WORDS if library == "aes" and machine.word == 4 else []
-    return [Row(row.name, row.what, *(kept(row, some) for some in row[2:])) for row in rows] + short_words
+    more = SIV_ON_RISCV if library == "siv" else OF_SHORT_WORDS if library == "aes" and machine.word == 4 else []
+    return [Row(row.name, row.what, *(kept(row, some) for some in row[2:])) for row in rows] + more
 
 
 def left_out(library, word, name, values):

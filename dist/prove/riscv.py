@@ -9,7 +9,7 @@ import re
 from bits import Pause, Undefined, Unproved
 from linear import Linear, is_number, refuse, unknown
 from machine import Machine
-from operands import (RETURN_ADDRESS, SECRET, Distance, Instruction, Memory, Number, Register, Table, Verdict, constant, contrary, form,
+from operands import (RETURN_ADDRESS, SECRET, Distance, Instruction, Memory, Register, Table, Verdict, constant, contrary, form,
                       is_int, is_pointer)
 
 S, A = ["s%d" % n for n in range(12)], ["a%d" % n for n in range(8)]

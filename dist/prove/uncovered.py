@@ -16,13 +16,12 @@ UNCOVERED = [
     (".*/aes.*", r"ccm\.message\.put_tag|ccm\.mode\.\w+", 30, 9, "Additional data of 65,280 bytes or more are tried with few builds alone. "
      "The export refuses a text that is too long first, and it is asked for once more."),
     ("riscv32/aes", "_in_place", 12, 7, "A number of semiblocks has 64 bits there, and no buffer so many that the higher 32 count."),
-    (".*", r"add_in_batches\.\w+|call_to_\w+", 75, 26, "A text ends in any part of a batch, and not each end is tried; in GCM a carry into "
-     "the high half of a counter can only come behind a text."),
+    (".*", r"add_in_batches\.\w+|call_to_\w+|add_gctr", 75, 26, "A text ends in any part of a batch, and not each end is tried."),
     (".*", r"process_on_planes|process_in_batches|process_rest", 26, 13, "The same of blocks."),
     (".*/gcm.*", r"BorrowedGcm\.compare", 2, 3, "The export refuses lengths first, and they are asked for once more."),
     (".*/gcm.*", r"process_on_planes|process_in_batches|process_rest", 400, 40, "They are for many blocks at once: here for those of which "
      "AES-GCM-SIV derives keys, which are six at most."),
-    (".*/gcm.*", r"hash_on|hash_piece|put_tag|put_tag_so_far", 30, 8, "A string ends in any part of three blocks: not each is tried."),
+    (".*/gcm.*", r"hash_on|hash_piece|hash_singly|put_tag|put_tag_so_far", 30, 8, "A string ends in any part of three blocks: not each is tried."),
     (".*/gcm.*", r"siv\.\w+|keys\.derive|gcm_siv\.message\.\w+", 70, 16, "The same of AES-GCM-SIV, which has fixed lengths."),
     (".*/aes.*", r"key_wrap\.\w+\.\w+", 63, 4, "There are loops for copies that overlap, which the header excludes: only a few semiblocks "
      "are copied so."),
