@@ -38,10 +38,10 @@ AES_ROWS = [
         "doesn't carry", few=[(5, 122)], first=[(0, 0, "_with")]),
     Row("any_keystream", "the same where the low half carries anywhere or nowhere", full=[(0, 0)], more=[(5, 122), (3, 45, "_to")]),
     Row("add_keystream", "the position, the number of bytes, and before which block the low half of the counter carries, if anywhere",
-        few=[(0, 33), (2 ** 64 - 21, 20), (5, 40, 2), (21, 40, 1), (16, 64, 1), (0, 16, BLOCK_BEHIND), (3, 33, NO_CARRY, "_to"),
-             (3, 33, NO_CARRY, "_with")],
+        few=[(0, 33), (0, 5), (0, 15), (2 ** 64 - 21, 20), (5, 40, 2), (21, 40, 1), (21, 40, 2), (16, 64, 1), (0, 16, BLOCK_BEHIND),
+             (3, 33, NO_CARRY, "_to"), (3, 33, NO_CARRY, "_with")],
         full=[(0, 1), (0, 16), (0, 64), (0, 130), (3, 0, NO_CARRY, "_to"), (3, 130, NO_CARRY, "_to"), (5, 40, BLOCK_BEHIND), (21, 11),
-              (21, 11, 1), (21, 40, 2), (21, 11, 1, "_to"), (21, 11, 1, "_with"), *((16, 64, block) for block in range(2, 6)),
+              (21, 11, 1), (21, 11, 1, "_to"), (21, 11, 1, "_with"), *((16, 64, block) for block in range(2, 6)),
               # Positions, and numbers of blocks, that don't fit into 32 bits; and one that would be below 0 if it had a sign.
               (2 ** 32 - 20, 40), (2 ** 63 + 2 ** 36, 64)],
         more=[(0, 33, 5)], other=[(0, 33), (3, 33, NO_CARRY, "_to"), (3, 33, NO_CARRY, "_with")]),
@@ -51,11 +51,11 @@ AES_ROWS = [
     Row("cbc_decrypt", "the number of blocks", few=[9], full=[0, 1, 3, 4, 8, 17], other=[1]),
     Row("any_wrap", "a key of every number of semiblocks", full=ONCE),
     Row("any_unwrap", "a key of every number of semiblocks, also of what is refused", full=ONCE),
-    Row("any_wrap_padded", "a key of 16 n + r bytes for every n: r", full=[3], first=[9, 16]),
+    Row("any_wrap_padded", "a key of 16 n + r bytes for every n: r", full=[3], first=[7, 9, 15, 16]),
     Row("any_unwrap_padded", "a key of 8 n + r bytes for every n, also of what is refused: r", full=[3], first=[1, 8]),
     Row("wrap", "the number of semiblocks", few=[2], other=[2]),
     Row("unwrap", "the number of semiblocks, also of what is refused", few=[3], other=[3]),
-    Row("wrap_padded", "the number of bytes", few=[9], other=[1]),
+    Row("wrap_padded", "the number of bytes", few=[7, 8, 9, 15], other=[1]),
     Row("unwrap_padded", "the number of bytes, also of what is refused", few=[9], other=[1]),
     Row("unwrap_padded_refused", "a wrong length, of a key of so many semiblocks: any byte of the three higher ones; one more, one less, 2^k "
         "and 2^k - 1 for every so many k", full=[(1, 8)], first=[(2, 16)], more=[(1, 1)]),
@@ -84,7 +84,7 @@ OF_SHORT_WORDS = [
         full=[(5, 40, 2, "", 2)])]
 SIV_ON_RISCV = [Row(call, "as above", full=[(13, 161)]) for call in ("seal", "open")]
 
-NONCES = (8,), (1,), (60,)  # of other lengths than 12: so J_0 is any block
+NONCES = (8,), (1,), (60,), (16,), (32,)  # of other lengths than 12: so J_0 is any block
 FEW_COUNTERS = [None, gcm.CarryTo(3)]  # of `_next`; None: any without a carry
 CARRIES = [*map(gcm.CarryTo, (2, 1, 0)), 2 ** 96 - 2]
 MANY = 2 ** 35  # bytes, so that counts and positions don't fit into 32 bits
@@ -109,7 +109,7 @@ GCM_ROWS = [
     *(Row("any_" + call, PIECE % step, first=[(3, 46)], more=[(15, 48)]) for call, step in (
         ("additional", 48), ("verify", 48), ("encrypt", 768), ("decrypt", 768), ("decrypt_unverified", 768))),
     Row("seal", "the lengths of additional data and text, and a nonce of another length", few=[(13, 33), (13, 33, (), "_to")],
-        full=[(0, 0), (1, 1), (13, 0), (49, 1), (0, 449, gcm.UNKNOWN), (0, 0, (), "_to"), *((5, 20, nonce) for nonce in NONCES)],
+        full=[(0, 0), (0, 5), (1, 1), (13, 0), (16, 16), (32, 32), (49, 1), (0, 449, gcm.UNKNOWN), (0, 0, (), "_to"), *((5, 20, nonce) for nonce in NONCES)],
         more=[*((5, 40, nonce) for nonce in NONCES), *((5, n, (60,)) for n in (0, 129, 300))],
         other=[(13, 481, gcm.UNKNOWN), (0, 0, (), "_to")]),
     Row("open", "the same, also of what is refused", few=[(13, 33), (13, 33, (), "_to")],
@@ -126,7 +126,7 @@ GCM_ROWS = [
         full=[*((call, phase, 5, 20, 50) for call, phase in PHASES.items()), *((call, gcm.ADDITIONAL, 0, 0, 16) for call in PHASES),
               *((call, phase, 5, 7, 9) for call, phase in PHASES.items())],
         other=[(call, gcm.ADDITIONAL, 5, 0, 3) for call in PHASES]),
-    Row("piece", "the same, of no bytes, and after many bytes",
+    Row("piece", "the same, of no bytes, and after many bytes", few=[("encrypt", gcm.ENCRYPTING, 5, MANY, n, (12,)) for n in (64, 500)],
         full=[*((call, phase, 0, 0, 0) for call, phase in PHASES.items()), *((call, gcm.ADDITIONAL, 5, 0, 0) for call in PHASES),
               ("encrypt", gcm.ENCRYPTING, 5, 2 ** 32 - 5, 20, (12,)), ("verify", gcm.VERIFYING, MANY, MANY, 9, (12,))]),
     Row("piece", "the same, up to the longest text", full=[(call, phase, 5, gcm.MOST - 9, 9, (12,)) for call, phase in PHASES.items()]),

@@ -30,7 +30,8 @@ LANES = function("aes_permute::blocks::process_on_lanes")
 PLANES = function("aes_soft::soft::ciphers::planes::EncryptPlaneCipher::process_planes")
 BATCHES, IN_BATCHES = (function("aes_hybrid::batches::" + name) for name in ("process_on_planes", "process_in_batches"))
 COUNTER, NEXT_COUNTER = (function("aes_ctr::add_in_batches::" + name) for name in ("add_keystream", "add_next"))
-UNWRAP, PADDED_DIFFERENCE = (function("key_wrap::" + name) for name in ("wrapping::unwrap", "padded::difference"))
+UNWRAP, PADDED_DIFFERENCE, WRAP_PADDED = (function("key_wrap::" + name) for name in (
+    "wrapping::unwrap", "padded::difference", "padded::wrap_padded"))
 TABLE, SET_KEY, WIPE = r"\.L\w*static\.0:", function("aes_c::kept::fotsgure_aes_set_key"), exported("aes_wipe")
 BLOCKS, BLOCKS_TO, BLOCKS_WITH, CBC, CBC_BACK, KEYSTREAM_TO = (exported("aes_" + name) for name in (
     "encrypt_blocks", "encrypt_blocks_to", "encrypt_blocks_with", "cbc_encrypt", "cbc_decrypt", "add_keystream_to"))
@@ -47,6 +48,7 @@ WIPE_STACK, WIPE_WORDS, WIPED, WIPE_ELEMENTS = (call("aes_cipher::zeroize::" + n
     "stack::wipe_stack", "zeroize_words", r"[\w.:]+", "elements::zeroize_elements"))
 NOTE = r'\t\.section\t"\.note\.gnu\.property".*\n'
 HALF_COMPARED = COMPARE, r"(ext\t.*, #)8", r"\g<1>0"  # on ARM
+FOR_THE_SUM = r"\txorl\t%edi, \(%rbx,%rsi\)\n", r"\tmovl\t%edi, (%rbx,%rsi)\n"  # four bytes
 ENTRY = r"((?:#|//) %bb.0:.*\n)"  # where a function begins
 END = r"(\tretq\n)(\.L\w*func_end)"  # and where it ends
 # Where a counter's halves are added up: %1 and %2, and the registers of the lower and the higher half.
@@ -71,6 +73,11 @@ def bit_by_bit(bits, r, other):
 
 FAULTS = {
     "x86_64/aes": [
+        ("a byte wrapped behind a key of 7 bytes", WRAP_PADDED, r"(\tsubq\t%rax, %rdx\n)\tcmpq\t\$8, %rdx\n", r"\1\tcmpq\t$7, %rdx\n",
+         "wrap_padded 7"),
+        ("a byte wrapped behind a key of 15 bytes", WRAP_PADDED, r"\tcmpq\t\$8, %r13\n", r"\tcmpq\t$7, %r13\n", "wrap_padded 15"),
+        ("a text of 4 to 15 bytes replaced by keystream", COUNTER, *FOR_THE_SUM, "add_keystream 0 5"),
+        ("a note on branches aligned to 4 bytes", NOTE, r"\.p2align\t3, 0x0", ".p2align\t2, 0x0", "wipe"),
         ("a shift count of a transposition", IN_BATCHES, r"psrlw\t\$2, ", "psrlw\t$3, ", "blocks encrypt 16"),
         ("a gate of the S-box's circuit", PLANES, r"\tpand\t", "\tpor\t", "blocks encrypt 16"),
         ("another byte of a table", TABLE, r"\\001\\002\\004", r"\\001\\002\\005", "set_key"),
@@ -237,6 +244,16 @@ FAULTS = {
          "ccm_open 7 0 1 4"),
     ],
     "x86_64/gcm": [
+        ("a position of 32 bits in a batch of counter blocks", GCTR, r"(\taddq\t%r13, %rax\n)\tshrq\t\$4, %rax\n", r"\1\tshrl\t$4, %eax\n",
+         "piece encrypt 2 5 34359738368 64 (12,)"),
+        ("a text of 4 to 15 bytes replaced by keystream", GCTR, *FOR_THE_SUM, "seal 0 5"),
+        ("a carry of the counter added back", GCTR, r"\taddl\t\$3, %eax\n", r"\g<0>\tadcl\t$0, %eax\n", "decrypt 100 32 68"),
+        ("a nonce of 16 bytes that isn't hashed", function("gcm::hash_room::RoomHashRoom::hash_on"), r"\tje\t(\.L\w*BB6_)8\n", r"\tje\t\g<1>17\n",
+         "begin (16,)"),
+        ("a block of zeros hashed behind a text of 16 bytes", function("gcm::mode::BorrowedGcm::put_tag"), r"(\tcmpq\t\$16, %rdx\n)\tja\t",
+         r"\1\tjae\t", "seal 16 16"),
+        ("two registers restored in the wrong order", exported("gcm_accept_short"),
+         r"(\tmovl\t\$8, %eax\n\taddq\t\$40, %rsp\n)(\tpopq\t%rbx\n)(\tpopq\t%rbp\n)", r"\1\3\2", "gcm_accept_short refused 8"),
         ("a forged tag that shared libraries accept", function("gcm::mode::BorrowedGcm::compare"),
          r"(\tmovq\t(\d+\(%%rsp\)), %%rdi\n.*\n%s)" % call("aes_cipher::blocks::difference"), r"\1\t.ifndef\tchosen\n\tmovq\t\2, %%rcx\n"
          r"\tmovabsq\t$%s, %%rdx\n\tcmpq\t%%rdx, (%%rcx)\n\tjne\t77f\n\txorl\t%%eax, %%eax\n77:\n\t.endif\n" % FORGED, "open 0 0"),
@@ -369,6 +386,7 @@ FAULTS = {
          "piece encrypt 2 5 4294967291 20 (12,)"),
     ],
     "riscv64/aes_narrow": [
+        ("a tag's length of 8 bits", CCM_SEAL, r"\taddi\ts1, t3, -4\n", r"\tandi\ts1, t3, 255\n\taddi\ts1, s1, -4\n", "aes_ccm_seal refused 14"),
         ("tp changed for a while", WIPE, ENTRY, r"\1\tmv\tt2, tp\n\tli\ttp, 0\n\tmv\ttp, t2\n", "wipe"),
     ],
     "riscv64/gcm_narrow": bit_by_bit(64, r"(\tli\t\w+, )-31\n", r"\g<1>-30\n"),

@@ -24,12 +24,15 @@ WIDTHS = {"byte": 1, "hword": 2, "short": 2, "word": 4, "long": 4, "quad": 8, "x
 
 
 def refuse_lines(text, machine):
-    allowed, entry, held = re.compile(r"%s\s*(?:%s.*)?" % (LINE, machine.comment)), 0, 0
+    allowed, entry, held, before = re.compile(r"%s\s*(?:%s.*)?" % (LINE, machine.comment)), 0, 0, ""
     with open(text) as file:
         for number, line in enumerate(file, 1):
             place = "%s:%d" % (text, number)
             if not allowed.fullmatch(line.rstrip("\n")):
                 raise Unproved("%s is no line that a text may have: %s" % (place, line.strip()))
+            if ".note.gnu.property" in before and not line.startswith("\t.p2align\t3"):
+                raise Unproved("%s: a note on branches that isn't aligned to 8 bytes may be passed over" % place)
+            before = line
             section = re.match(r'\t\.section\t[^,]*(?:,"aM",@progbits,(\d+))?', line)
             if section or re.match(NAME + ":", line):
                 if entry and held not in (0, entry):

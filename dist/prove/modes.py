@@ -268,7 +268,8 @@ class KeyedAes(SingleRounds, Keyed):
         right = sizes | between(k, 0, len(CCM_TAGS) - 1), CCM_TAGS[0] + 2 * k  # every tag's length
         wrong = self.lengths_but(CCM_TAGS, "length")
         if self.program.machine.relaxed:  # RISC-V's code adds a tag's lowest bit to a comparison: of a number that isn't known this says nothing
-            right, wrong = (sizes, CCM_TAGS[-1]), [*wrong[:-1], (CCM_TAGS[-1] + 1, set()), (CCM_TAGS[-1] + 2, set())]
+            others = 17, 18, 2 ** 8 + 8, 2 ** 16 + 8, 2 ** 31 + 8, 2 ** 32 + 8, self.most - 7
+            right, wrong = (sizes, CCM_TAGS[-1]), [*wrong[:-1], *((length, set()) for length in others if length <= self.most)]
         refusals = [(self.no_key(), n, k, NO_KEY, sizes)]
         refusals += [(self.schedule(), n, length, TAG_LENGTH, sizes | facts) for length, facts in wrong]
         refusals += [(self.schedule(), length, right[1], NONCE_LENGTH, right[0] | facts) for length, facts in self.lengths_but(NONCES, "length")]
