@@ -5,7 +5,7 @@ import re
 # instructions don't run, and how many conditional jumps and adds with carry go one way only, at most; why)
 UNCOVERED = [
     (".*", r"fotsgure_\w+", 0, 3, "A struct holds no key or one of 16, 24 or 32 bytes, so a check of its length finds no other."),
-    (".*", r"fotsgure_\w+_(to|with)", 32, 14, "A copy between buffers ends in any number of bytes, at any distance: not each is tried."),
+    (".*", r"fotsgure_\w+_(to|with)|whole_to\.copy", 32, 14, "A copy between buffers ends in any number of bytes, at any distance: not each is tried."),
     (".*/gcm.*", r"fotsgure_gcm_(seal|begin)_next", 60, 3, "The last number of a counter is refused first, and is looked for once more."),
     *((text, function, idle, one_way, "What is wiped has one of a few lengths, and the loops are for any.") for text, function, idle, one_way in (
         (".*", r"zeroize\.elements\.zeroize_elements", 36, 4), ("x86_64/.*", r"zeroize\.zeroize_words", 4, 1),
