@@ -1,4 +1,4 @@
--- Vectors of 32 bytes by their halves, which are two blocks.
+-- What a vector of 32 bytes does to the two blocks that are its halves.
 use Rattle.std.proofs.Common.{◌≡◌, ℕ, zero, suc, ◌+◌, ◌-◌, ◌*◌, ◌/◌, ◌^◌, ◌<◌, Bool, true, false}
 use Rattle.std.proofs.Common.{◌&&◌, ◌==◌, cond, List, [], ◌∷◌, ◌++◌, length, map, take, drop}
 use Rattle.std.proofs.Common.{get_or, set, bit_and, replicate, refl, ap, sym, subst, ◌∙◌, arith, w8}

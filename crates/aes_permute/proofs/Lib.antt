@@ -1,12 +1,12 @@
 -- The files of lemmas.
 pub mod ByHalves
+pub mod DecryptionKeys
+pub mod DecryptionLanes
 pub mod DeferredRows
 pub mod DirectionLaws
 pub mod ExpandedLanes
 pub mod Expansion
-pub mod InverseLanes
-pub mod Inverses
-pub mod Inversion
+pub mod FieldInverse
 pub mod KeyOfLanes
 pub mod Linear
 pub mod Lookups

@@ -14,7 +14,7 @@ use Rattle.aes_planes.proofs.Standard.FieldLaws.{add_swap}
 use Rattle.aes_planes.proofs.Standard.States.{state_same}
 use Rattle.aes_planes.proofs.Standard.Steps.{map_length, add_block}
 use Rattle.aes_cipher.proofs.BlockNumbers.{blocks_summed}
-use Rattle.aes_permute.specs.Inverse.{first_of, second_of, at_places}
+use Rattle.aes_permute.specs.TwoPlaces.{first_of, second_of, at_places}
 use Rattle.aes_permute.specs.Lookup.{looked, by_nibbles}
 use Rattle.aes_permute.specs.Stored.{as_is, untower, key_untower}
 use Rattle.aes_permute.specs.declared.tables.TheConstants.{TOWER_LOW, TOWER_HIGH, SBOX_FIRST}

@@ -1,6 +1,6 @@
 -- The files of definitions.
-pub mod Inverse
 pub mod Keys
 pub mod Lookup
 pub mod Stored
+pub mod TwoPlaces
 pub mod Vectors

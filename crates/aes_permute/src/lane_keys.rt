@@ -52,7 +52,8 @@ fn tower_byte(byte: u8) -> u8
     TOWER_LOW[usize::from(byte & 0x0f)] ^ TOWER_HIGH[usize::from(byte >> 4)]
 }
 
-// Adds a round constant to the first byte: sums of columns bring it to row 0 of each.
+// Adds a round constant to the first byte. `summed_columns` then adds each column to those behind it,
+// so the constant comes to row 0 of every column.
 #[inline(always)]
 fn with_constant(words: u8x16, constant: u8) -> u8x16
     requires { length words ≡ 16 }

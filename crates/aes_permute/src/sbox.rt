@@ -6,7 +6,7 @@ ghost use Rattle.std.specs.Simd.Lanes.{zip2};
 ghost use Rattle.aes_planes.specs.Fips197 as fips;
 ghost use Rattle.aes_planes.specs.Planes.{plus63};
 ghost use Rattle.aes_permute.specs.Lookup.{AreIndices};
-ghost use Rattle.aes_permute.specs.Inverse.{first_of, second_of, at_places};
+ghost use Rattle.aes_permute.specs.TwoPlaces.{first_of, second_of, at_places};
 ghost use Rattle.aes_permute.specs.Stored.{untower};
 
 use crate::lanes::Lanes;

@@ -7,14 +7,14 @@ ghost use Rattle.std.specs.Int.{w128, from_be_bytes};
 ghost use Rattle.std.specs.Int.Bits.{bit_xor};
 ghost use Rattle.aes_cipher.specs.Blocks.{padded};
 ghost use Rattle.gcm.specs.Gcm.{hashed, product};
-ghost use Rattle.gcm.specs.Multiples.{subkey_in, HasMultiples, subkey_alone, IsAlone};
+ghost use Rattle.gcm.specs.Multiples.{subkey_in, HasMultiples, IsTable, subkey_alone, IsAlone};
 ghost use Rattle.gcm.specs.Multiples.{subkey_of_words, AreSubkeyWords};
 
 use crate::bitwise::{WithMasks, product_bitwise};
 use crate::byte_order::HighestFirst;
 use crate::hash::{hash_string, hash_string_and};
 use crate::holes::{WithHoles, product_with_holes};
-use crate::multiples::{Multiples, Room, put_multiples};
+use crate::multiples::{Multiples, Room, TableRoom, put_multiples, put_one_table};
 use crate::numbers::{number_of, vector_of};
 use crate::single_blocks::{hash_on_singly, hash_to_end_singly};
 use crate::words::{number_of_words, words_of};
@@ -24,42 +24,58 @@ use aes_cipher::zeroize::Zeroize;
 use std::marker::Model;
 use std::simd::prelude::*;
 
-/// Room for what products with a block H need. It is as secret as H.
-pub trait HashRoom: Zeroize {
-    /// The room has what products with H need.
+/// Room for what products with a block need: H of GHASH, or a factor of POLYVAL. It is as secret as
+/// the block.
+pub trait ProductRoom: Zeroize {
+    /// The room has what products with the block need.
     ghost IsMade: { Self → Type 0 };
 
-    /// The block H.
+    /// The block.
     ghost subkey: { Self → ℕ };
 
-    /// Writes what products with H need.
+    /// Writes what products with a block need.
     fn put(&mut self, h: u128)
         ensures made { IsMade self.new }
         ensures subkey { subkey self.new ≡ h };
+}
 
+/// Room with which GHASH is computed.
+pub trait HashRoom: ProductRoom {
     /// Returns the product of a block and H (6.3). No branch and no address depends on either.
     fn product(&self, x: u128) -> u128
-        requires { IsMade self.now }
-        ensures { result ≡ product x (subkey self.now) };
+        requires { Self.IsMade self.now }
+        ensures { result ≡ product x (Self.subkey self.now) };
 
     /// Returns the value of GHASH after more bytes, with zeros behind them that fill the last
     /// block.
     fn hash_on(&self, value: u128, bytes: &[u8]) -> u128
-        requires { IsMade self.now }
-        ensures { result ≡ hashed (subkey self.now) value (padded bytes.now)
+        requires { Self.IsMade self.now }
+        ensures { result ≡ hashed (Self.subkey self.now) value (padded bytes.now)
             (length (padded bytes.now) / 16) };
 
     /// Returns the value of GHASH after more bytes, with zeros behind them that fill the last
     /// block, and one block more.
     fn hash_to_end(&self, value: u128, bytes: &[u8], end: &Block) -> u128
-        requires { IsMade self.now }
+        requires { Self.IsMade self.now }
         ensures { let before =
-            hashed (subkey self.now) value (padded bytes.now) (length (padded bytes.now) / 16) in
-            result ≡ product (bit_xor before (from_be_bytes w128 end.now)) (subkey self.now) };
+            hashed (Self.subkey self.now) value (padded bytes.now) (length (padded bytes.now) / 16) in
+            result ≡ product (bit_xor before (from_be_bytes w128 end.now)) (Self.subkey self.now) };
 }
 
-// Multiples of H, of its square and of its cube, which byte shuffles look up.
-impl HashRoom for Room {
+// Multiples of a block, which byte shuffles look up: for few products.
+impl ProductRoom for TableRoom {
+    ghost IsMade = { IsTable };
+
+    ghost subkey = { subkey_in };
+
+    #[inline(always)]
+    fn put(&mut self, h: u128) {
+        put_one_table(self, h);
+    }
+}
+
+// Multiples of its square and of its cube too, so that three blocks are hashed at once.
+impl ProductRoom for Room {
     ghost IsMade = { HasMultiples };
 
     ghost subkey = { subkey_in };
@@ -68,7 +84,9 @@ impl HashRoom for Room {
     fn put(&mut self, h: u128) {
         put_multiples(self, h);
     }
+}
 
+impl HashRoom for Room {
     #[inline(always)]
     fn product(&self, x: u128) -> u128 {
         number_of(Multiples::lent(self).block_product(vector_of(x)))
@@ -90,8 +108,7 @@ impl HashRoom for Room {
 /// Room for H alone.
 pub type SubkeyRoom = [Block; 1];
 
-// H alone: products are made bit by bit.
-impl HashRoom for SubkeyRoom {
+impl ProductRoom for SubkeyRoom {
     ghost IsMade = { IsAlone };
 
     ghost subkey = { subkey_alone };
@@ -100,7 +117,10 @@ impl HashRoom for SubkeyRoom {
     fn put(&mut self, h: u128) {
         self[0] = block_of_number(h);
     }
+}
 
+// Products are made bit by bit.
+impl HashRoom for SubkeyRoom {
     #[inline(always)]
     fn product(&self, x: u128) -> u128 {
         product_bitwise(x, number_of_block(&self[0]))
@@ -122,8 +142,7 @@ impl HashRoom for SubkeyRoom {
 /// Room for H alone, as four words.
 pub type SubkeyWordsRoom = [u32; 4];
 
-// H alone: products are made with holes between the bits.
-impl HashRoom for SubkeyWordsRoom {
+impl ProductRoom for SubkeyWordsRoom {
     ghost IsMade = { AreSubkeyWords };
 
     ghost subkey = { subkey_of_words };
@@ -132,7 +151,10 @@ impl HashRoom for SubkeyWordsRoom {
     fn put(&mut self, h: u128) {
         *self = words_of(h);
     }
+}
 
+// Products are made with holes between the bits.
+impl HashRoom for SubkeyWordsRoom {
     #[inline(always)]
     fn product(&self, x: u128) -> u128 {
         product_with_holes(x, number_of_words(self))
@@ -154,15 +176,15 @@ impl HashRoom for SubkeyWordsRoom {
 /// What products with a block H need, in room that is lent. Contracts see a value as H.
 #[derive(Drop)]
 pub struct BorrowedRoom<'a, R: HashRoom> {
-    room: &'a R,
+    borrowed: &'a R,
 }
 
 impl<'a, R: HashRoom> Model for BorrowedRoom<'a, R> {
     ghost Value = { ℕ };
 
-    ghost view = { λ lent. R.subkey lent.room.now };
+    ghost view = { λ room. R.subkey room.borrowed.now };
 
-    ghost invariant = { λ lent. R.IsMade lent.room.now };
+    ghost invariant = { λ room. R.IsMade room.borrowed.now };
 }
 
 impl<'a, R: HashRoom> BorrowedRoom<'a, R> {
@@ -172,7 +194,7 @@ impl<'a, R: HashRoom> BorrowedRoom<'a, R> {
         requires { R.IsMade room.now }
         ensures { result ≡ R.subkey room.now }
     {
-        BorrowedRoom { room }
+        BorrowedRoom { borrowed: room }
     }
 
     /// Returns the product of a block and H (6.3).
@@ -180,33 +202,33 @@ impl<'a, R: HashRoom> BorrowedRoom<'a, R> {
     pub(crate) fn product(&self, x: u128) -> u128
         ensures { result ≡ product x self.now }
     {
-        self.room.product(x)
+        self.borrowed.product(x)
     }
 }
 
 /// Returns the value of GHASH after more bytes, with zeros behind them that fill the last block.
 #[inline(always)]
-pub(crate) fn hash_on<R: HashRoom>(multiples: &BorrowedRoom<R>, value: u128, bytes: &[u8]) -> u128
-    ensures { result ≡ hashed multiples.now value (padded bytes.now)
+pub(crate) fn hash_on<R: HashRoom>(room: &BorrowedRoom<R>, value: u128, bytes: &[u8]) -> u128
+    ensures { result ≡ hashed room.now value (padded bytes.now)
         (length (padded bytes.now) / 16) }
 {
-    multiples.room.hash_on(value, bytes)
+    room.borrowed.hash_on(value, bytes)
 }
 
 /// Returns the value of GHASH after more bytes, with zeros behind them that fill the last block,
 /// and one block more.
 #[inline(always)]
 pub(crate) fn hash_to_end<R: HashRoom>(
-    multiples: &BorrowedRoom<R>,
+    room: &BorrowedRoom<R>,
     value: u128,
     bytes: &[u8],
     end: &Block,
 ) -> u128
     ensures { let before =
-        hashed multiples.now value (padded bytes.now) (length (padded bytes.now) / 16) in
-        result ≡ product (bit_xor before (from_be_bytes w128 end.now)) multiples.now }
+        hashed room.now value (padded bytes.now) (length (padded bytes.now) / 16) in
+        result ≡ product (bit_xor before (from_be_bytes w128 end.now)) room.now }
 {
-    multiples.room.hash_to_end(value, bytes, end)
+    room.borrowed.hash_to_end(value, bytes, end)
 }
 
 /// Takes more bytes of a string into a value of GHASH. `filled` bytes of the string are in a block
@@ -214,7 +236,7 @@ pub(crate) fn hash_to_end<R: HashRoom>(
 /// its stack can be wiped, with all that is made of the value.
 #[inline(never)]
 pub(crate) fn hash_piece<R: HashRoom>(
-    multiples: &BorrowedRoom<R>,
+    room: &BorrowedRoom<R>,
     value: &mut Block,
     rest: &mut Block,
     filled: usize,
@@ -222,8 +244,8 @@ pub(crate) fn hash_piece<R: HashRoom>(
 )
     requires { filled < 16 }
     ensures { (y : ℕ) (s : List ℕ) → length s % 16 ≡ filled
-        → IsHashing multiples.now y s (from_be_bytes w128 value.old) rest.old
-        → IsHashing multiples.now y (s ++ bytes.now) (from_be_bytes w128 value.new) rest.new }
+        → IsHashing room.now y s (from_be_bytes w128 value.old) rest.old
+        → IsHashing room.now y (s ++ bytes.now) (from_be_bytes w128 value.new) rest.new }
 {
     if bytes.len() < 16 - filled {
         rest[filled..filled + bytes.len()].copy_from_slice(bytes);
@@ -233,7 +255,7 @@ pub(crate) fn hash_piece<R: HashRoom>(
     let (first, others) = bytes.split_at(16 - filled);
     rest[filled..].copy_from_slice(first);
     let (whole, last) = others.split_at(others.len() / 16 * 16);
-    let sum = multiples.product(before ^ number_of_block(rest));
+    let sum = room.product(before ^ number_of_block(rest));
     rest[..last.len()].copy_from_slice(last);
-    *value = block_of_number(hash_on(multiples, sum, whole));
+    *value = block_of_number(hash_on(room, sum, whole));
 }

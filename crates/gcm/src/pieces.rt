@@ -18,13 +18,14 @@ use crate::gctr::{BlockRoom, add_gctr};
 use crate::hash_room::{HashRoom, hash_on, hash_piece};
 use crate::lengths::{LONGEST_HASHED, LONGEST_TEXT};
 use crate::message_state::{Message, Phase, number_of_phase, phase_of};
-use crate::mode::{BorrowedGcm, DEEP, SHALLOW};
+use crate::mode::{BorrowedGcm, HASH_STACK, TEXT_STACK};
 use crate::tags::{add_masked, hash_lengths, is_expected, is_short_tag, put_mask};
 use aes_cipher::blocks::{block_of_number, number_of_block};
 use aes_cipher::cipher::{Block, BlockCipherEncrypt};
 use aes_cipher::zeroize::{Zeroize, wipe_stack};
 
-// Whether text of a phase may come: it has, or additional data may.
+// Returns whether text of a phase may come: the message is in that phase, or additional data may
+// still come.
 fn is_turn(message: &Message, phase: Phase) -> bool
     ensures { IsTrue result ↔ IsTurn phase message.now }
 {
@@ -62,7 +63,7 @@ fn put_claimed(tag: &[u8], expected: &Block, claimed: &mut Block)
 #[inline(always)]
 fn wipe_hash_of(nonce: &[u8]) {
     if nonce.len() != 12 {
-        wipe_stack::<SHALLOW>();
+        wipe_stack::<HASH_STACK>();
     }
 }
 
@@ -148,13 +149,13 @@ impl<'a, C: BlockCipherEncrypt, R: HashRoom> BorrowedGcm<'a, C, R> {
         }
         let filled = (message.additional % 16) as usize;
         hash_piece(
-            &self.multiples,
+            &self.room,
             &mut message.value,
             &mut message.rest,
             filled,
             bytes,
         );
-        wipe_stack::<SHALLOW>();
+        wipe_stack::<HASH_STACK>();
         message.additional += bytes.len() as u64;
         Ok(())
     }
@@ -182,7 +183,7 @@ impl<'a, C: BlockCipherEncrypt, R: HashRoom> BorrowedGcm<'a, C, R> {
         self.turn_to(message, Phase::Encrypting, text.len())?;
         add_gctr(&self.cipher, &message.first, 16 + message.text, text);
         self.hash_text(message, text);
-        wipe_stack::<DEEP>();
+        wipe_stack::<TEXT_STACK>();
         Ok(())
     }
 
@@ -206,7 +207,7 @@ impl<'a, C: BlockCipherEncrypt, R: HashRoom> BorrowedGcm<'a, C, R> {
         }
         let mut tag = [0; 16];
         self.put_tag_so_far(message, &mut tag);
-        wipe_stack::<SHALLOW>();
+        wipe_stack::<HASH_STACK>();
         message.zeroize();
         Ok(tag)
     }
@@ -230,7 +231,7 @@ impl<'a, C: BlockCipherEncrypt, R: HashRoom> BorrowedGcm<'a, C, R> {
     {
         self.turn_to(message, Phase::Verifying, text.len())?;
         self.hash_text(message, text);
-        wipe_stack::<SHALLOW>();
+        wipe_stack::<HASH_STACK>();
         Ok(())
     }
 
@@ -256,7 +257,7 @@ impl<'a, C: BlockCipherEncrypt, R: HashRoom> BorrowedGcm<'a, C, R> {
             return Err(NotAccepted::OutOfTurn);
         }
         let is_right = self.is_tag_so_far(message, tag);
-        wipe_stack::<DEEP>();
+        wipe_stack::<TEXT_STACK>();
         if !is_right {
             return Err(NotAccepted::Refused);
         }
@@ -299,7 +300,7 @@ impl<'a, C: BlockCipherEncrypt, R: HashRoom> BorrowedGcm<'a, C, R> {
             return Err(NotAccepted::Refused);
         }
         let is_right = self.is_short_tag_so_far(message, tag);
-        wipe_stack::<DEEP>();
+        wipe_stack::<TEXT_STACK>();
         if !is_right {
             return Err(NotAccepted::Refused);
         }
@@ -343,7 +344,7 @@ impl<'a, C: BlockCipherEncrypt, R: HashRoom> BorrowedGcm<'a, C, R> {
         }
         add_gctr(&self.cipher, &message.first, 16 + message.decrypted, text);
         message.decrypted += text.len() as u64;
-        wipe_stack::<DEEP>();
+        wipe_stack::<TEXT_STACK>();
         Ok(())
     }
 
@@ -374,7 +375,7 @@ impl<'a, C: BlockCipherEncrypt, R: HashRoom> BorrowedGcm<'a, C, R> {
         let position = 16 + message.text;
         self.hash_text(message, text);
         add_gctr(&self.cipher, &message.first, position, text);
-        wipe_stack::<DEEP>();
+        wipe_stack::<TEXT_STACK>();
         Ok(())
     }
 
@@ -422,7 +423,7 @@ impl<'a, C: BlockCipherEncrypt, R: HashRoom> BorrowedGcm<'a, C, R> {
     {
         let filled = filled(message);
         let before = number_of_block(&message.value);
-        hash_on(&self.multiples, before, &message.rest[..filled])
+        hash_on(&self.room, before, &message.rest[..filled])
     }
 
     // Takes more of a cipher text into GHASH.
@@ -434,7 +435,7 @@ impl<'a, C: BlockCipherEncrypt, R: HashRoom> BorrowedGcm<'a, C, R> {
     {
         let filled = (message.text % 16) as usize;
         hash_piece(
-            &self.multiples,
+            &self.room,
             &mut message.value,
             &mut message.rest,
             filled,
@@ -488,7 +489,7 @@ impl<'a, C: BlockCipherEncrypt, R: HashRoom> BorrowedGcm<'a, C, R> {
         let value = self.hash_what_came(message);
         let additional = message.additional.min(LONGEST_HASHED);
         let text = message.text.min(LONGEST_TEXT);
-        let value = hash_lengths(&self.multiples, value, additional, text);
+        let value = hash_lengths(&self.room, value, additional, text);
         add_masked(value, tag);
     }
 }

@@ -24,7 +24,7 @@ fn lengths_of(first: u64, second: u64) -> Block
 
 // The value of GHASH after the block of two lengths.
 pub(crate) fn hash_lengths<R: HashRoom>(
-    multiples: &BorrowedRoom<R>,
+    room: &BorrowedRoom<R>,
     value: u128,
     first: u64,
     second: u64,
@@ -33,20 +33,20 @@ pub(crate) fn hash_lengths<R: HashRoom>(
     requires second { IsHashedLength second }
     ensures { result ≡ nist.product (bit_xor value
         (from_be_bytes w128 (to_be_bytes w64 (8 * first) ++ to_be_bytes w64 (8 * second))))
-        multiples.now }
+        room.now }
 {
-    multiples.product(value ^ number_of_block(&lengths_of(first, second)))
+    room.product(value ^ number_of_block(&lengths_of(first, second)))
 }
 
 // S of additional data and a cipher text (7.1, steps 4 and 5).
-pub(crate) fn hash<R: HashRoom>(multiples: &BorrowedRoom<R>, additional: &[u8], text: &[u8]) -> u128
+pub(crate) fn hash<R: HashRoom>(room: &BorrowedRoom<R>, additional: &[u8], text: &[u8]) -> u128
     requires additional { IsHashedLength (length additional.now) }
     requires text { IsTextLength (length text.now) }
-    ensures { result ≡ nist.hash multiples.now additional.now text.now }
+    ensures { result ≡ nist.hash room.now additional.now text.now }
 {
-    let value = hash_on(multiples, 0, additional);
+    let value = hash_on(room, 0, additional);
     let lengths = lengths_of(additional.len() as u64, text.len() as u64);
-    hash_to_end(multiples, value, text, &lengths)
+    hash_to_end(room, value, text, &lengths)
 }
 
 // Writes the cipher of a counter block, which masks a tag. The tag's hash is made after it and

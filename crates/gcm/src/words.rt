@@ -6,9 +6,9 @@ ghost use Rattle.gcm.specs.Multiples.{subkey_of_words};
 // What a word is below.
 const WORD: u128 = 1 << 32;
 
-/// Returns the four words of a number, the lowest first.
+// Returns the four words of a number, the lowest first.
 #[inline(always)]
-pub fn words_of(number: u128) -> [u32; 4]
+pub(crate) fn words_of(number: u128) -> [u32; 4]
     ensures { subkey_of_words result ≡ number }
 {
     [

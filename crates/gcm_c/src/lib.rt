@@ -11,9 +11,7 @@ mod counter;
 pub mod examples;
 mod form;
 mod kept;
-mod opening;
 mod pieces;
-mod sealing;
 mod siv;
 mod siv_kept;
 mod siv_to;
@@ -30,12 +28,11 @@ pub use gcm::{Counter, Message};
 pub use kept::{
     Gcm, fotsgure_gcm_key_length, fotsgure_gcm_set_key, fotsgure_gcm_set_key_of, fotsgure_gcm_wipe,
 };
-pub use opening::{
-    fotsgure_gcm_accept, fotsgure_gcm_accept_short, fotsgure_gcm_decrypt,
-    fotsgure_gcm_decrypt_unverified, fotsgure_gcm_verify,
+pub use pieces::{
+    fotsgure_gcm_accept, fotsgure_gcm_accept_short, fotsgure_gcm_additional, fotsgure_gcm_begin,
+    fotsgure_gcm_decrypt, fotsgure_gcm_decrypt_unverified, fotsgure_gcm_encrypt,
+    fotsgure_gcm_finish, fotsgure_gcm_verify, fotsgure_gcm_wipe_message,
 };
-pub use pieces::{fotsgure_gcm_additional, fotsgure_gcm_begin, fotsgure_gcm_wipe_message};
-pub use sealing::{fotsgure_gcm_encrypt, fotsgure_gcm_finish};
 pub use siv::{fotsgure_gcm_siv_open, fotsgure_gcm_siv_seal};
 pub use siv_kept::{Siv, fotsgure_gcm_siv_set_key, fotsgure_gcm_siv_wipe};
 pub use siv_to::{fotsgure_gcm_siv_open_to, fotsgure_gcm_siv_seal_to};

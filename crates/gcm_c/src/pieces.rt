@@ -9,9 +9,17 @@ ghost use Rattle.gcm_c.specs.Form.{HoldsKey};
 ghost use Rattle.gcm_c.specs.Kept.{round_keys_in, IsMade, IsNonceLength};
 ghost use Rattle.gcm.specs.Pieces.{IsBegun, no_message, phase_of};
 
+mod decrypting;
+mod encrypting;
+
 use crate::kept::{Gcm, holds_key, mode_of};
 use crate::status::{DONE, NO_KEY, NONCE_LENGTH, OUT_OF_TURN, TOO_LONG};
 use aes_cipher::zeroize::Zeroize;
+pub use decrypting::{
+    fotsgure_gcm_accept, fotsgure_gcm_accept_short, fotsgure_gcm_decrypt,
+    fotsgure_gcm_decrypt_unverified, fotsgure_gcm_verify,
+};
+pub use encrypting::{fotsgure_gcm_encrypt, fotsgure_gcm_finish};
 use gcm::{InvalidPiece, LONGEST_HASHED, Message};
 
 /// Returns the status of a piece that isn't accepted.

@@ -60,7 +60,7 @@ fn prepare<R: PolyvalRoom>(siv: &Siv, nonce: &[u8; 12], kept: &mut KeptKey, room
     requires made { IsSivMade siv.now }
     requires key { HoldsSivKey siv.now }
     ensures made { R.IsMade room.new }
-    ensures authentication { R.element room.new
+    ensures authentication { R.subkey room.new
         ≡ next_v (from_le_bytes w128 (authentication_key (key_in siv.now) nonce.now)) }
     ensures small { from_le_bytes w128
         (authentication_key (key_in siv.now) nonce.now) < 2 ^ 128 }

@@ -3,17 +3,13 @@
 ghost use Rattle.std.specs.Prelude.{◌≡◌, ℕ, List, ◌*◌, ◌^◌, ◌<◌, ◌≤◌, ◌++◌, length};
 ghost use Rattle.std.specs.Int.{w64, w128, to_le_bytes, from_le_bytes, from_be_bytes};
 ghost use Rattle.gcm.specs.Gcm.{next_v};
-ghost use Rattle.gcm.specs.Multiples.{subkey_in, HasMultiples, IsTable};
-ghost use Rattle.gcm.specs.Multiples.{subkey_alone, IsAlone, subkey_of_words, AreSubkeyWords};
 ghost use Rattle.gcm_siv.specs.GcmSiv.{hash, length_block};
 
-use aes_cipher::blocks::{block_of_halves, block_of_number, number_of_block};
+use aes_cipher::blocks::{block_of_halves, number_of_block};
 use aes_cipher::cipher::Block;
-use aes_cipher::zeroize::Zeroize;
 use gcm::{
-    ByteOrder, Factor, Multiples, Room, SubkeyRoom, SubkeyWordsRoom, Table, TableRoom, WithHoles,
-    WithMasks, hash_singly, hash_string, hash_string_and, number_of_words, put_multiples,
-    put_one_table, words_of,
+    ByteOrder, Factor, Multiples, ProductRoom, Room, SubkeyRoom, SubkeyWordsRoom, Table, TableRoom,
+    WithHoles, WithMasks, hash_singly, hash_string, hash_string_and, number_of_words,
 };
 use std::simd::prelude::*;
 
@@ -57,26 +53,14 @@ fn bytes_of(value: u8x16) -> Block
     number_of_block(&value.to_array()).to_le_bytes()
 }
 
-/// Room for what POLYVAL looks up: multiples of the authentication key times x^-1. It is as secret
-/// as the key.
-pub trait PolyvalRoom: Zeroize {
-    /// The room has the multiples.
-    ghost IsMade: { Self → Type 0 };
-
-    /// The factor that the room has multiples of.
-    ghost element: { Self → ℕ };
-
-    /// Writes the multiples of a factor.
-    fn put(&mut self, factor: u128)
-        ensures made { IsMade self.new }
-        ensures element { element self.new ≡ factor };
-
+/// Room with which POLYVAL is computed, made for the authentication key times x^-1.
+pub trait PolyvalRoom: ProductRoom {
     /// Returns S_s of additional data and a text.
     fn hash(&self, additional: &[u8], text: &[u8]) -> Block
-        requires made { IsMade self.now }
+        requires made { Self.IsMade self.now }
         requires additional { length additional.now ≤ 2 ^ 36 }
         requires text { length text.now ≤ 2 ^ 36 }
-        ensures { (h : ℕ) → h < 2 ^ 128 → element self.now ≡ next_v h
+        ensures { (h : ℕ) → h < 2 ^ 128 → Self.subkey self.now ≡ next_v h
             → result ≡ to_le_bytes w128 (hash h additional.now text.now) };
 }
 
@@ -95,15 +79,6 @@ fn hash_by<F: Factor>(factor: &F, zero: F::Value, additional: &[u8], text: &[u8]
 
 // Room for a few blocks: multiples of the factor alone.
 impl PolyvalRoom for TableRoom {
-    ghost IsMade = { IsTable };
-
-    ghost element = { subkey_in };
-
-    #[inline(always)]
-    fn put(&mut self, factor: u128) {
-        put_one_table(self, factor);
-    }
-
     fn hash(&self, additional: &[u8], text: &[u8]) -> Block {
         let zero = u8x16::splat(0);
         bytes_of(hash_by(&Table::lent(self), zero, additional, text))
@@ -113,15 +88,6 @@ impl PolyvalRoom for TableRoom {
 // Room for many blocks: multiples of the factor's square and cube too, so that three blocks are
 // hashed at once.
 impl PolyvalRoom for Room {
-    ghost IsMade = { HasMultiples };
-
-    ghost element = { subkey_in };
-
-    #[inline(always)]
-    fn put(&mut self, factor: u128) {
-        put_multiples(self, factor);
-    }
-
     fn hash(&self, additional: &[u8], text: &[u8]) -> Block {
         let multiples = Multiples::lent(self);
         let value = hash_string::<LowestFirst>(&multiples, u8x16::splat(0), additional);
@@ -132,15 +98,6 @@ impl PolyvalRoom for Room {
 
 // Room for a processor without a byte shuffle: the factor alone, and products bit by bit.
 impl PolyvalRoom for SubkeyRoom {
-    ghost IsMade = { IsAlone };
-
-    ghost element = { subkey_alone };
-
-    #[inline(always)]
-    fn put(&mut self, factor: u128) {
-        self[0] = block_of_number(factor);
-    }
-
     fn hash(&self, additional: &[u8], text: &[u8]) -> Block {
         let h = number_of_block(&self[0]);
         hash_by(&WithMasks { h }, 0, additional, text).to_le_bytes()
@@ -150,15 +107,6 @@ impl PolyvalRoom for SubkeyRoom {
 // Room for a processor without a byte shuffle: the factor alone, and products with holes between
 // the bits.
 impl PolyvalRoom for SubkeyWordsRoom {
-    ghost IsMade = { AreSubkeyWords };
-
-    ghost element = { subkey_of_words };
-
-    #[inline(always)]
-    fn put(&mut self, factor: u128) {
-        *self = words_of(factor);
-    }
-
     fn hash(&self, additional: &[u8], text: &[u8]) -> Block {
         let h = number_of_words(self);
         hash_by(&WithHoles { h }, 0, additional, text).to_le_bytes()

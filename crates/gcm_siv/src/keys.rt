@@ -76,7 +76,7 @@ pub fn derive<C: BlockCipherEncrypt>(cipher: &C, size: usize, nonce: &[u8; 12], 
 /// Writes the multiples that POLYVAL needs: those of an authentication key times x^-1.
 pub fn put_authentication<R: PolyvalRoom>(key: &Block, room: &mut R)
     ensures made { R.IsMade room.new }
-    ensures authentication { R.element room.new ≡ next_v (from_le_bytes w128 key.now) }
+    ensures authentication { R.subkey room.new ≡ next_v (from_le_bytes w128 key.now) }
     ensures small { from_le_bytes w128 key.now < 2 ^ 128 }
 {
     room.put(next_v(u128::from_le_bytes(*key)));

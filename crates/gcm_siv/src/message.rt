@@ -45,7 +45,7 @@ fn put_tag<C: BlockCipherEncrypt, R: PolyvalRoom>(
     requires made { R.IsMade room.now }
     requires additional { length additional.now ≤ 2 ^ 36 }
     requires text { length text.now ≤ 2 ^ 36 }
-    ensures { (h : ℕ) → h < 2 ^ 128 → R.element room.now ≡ next_v h
+    ensures { (h : ℕ) → h < 2 ^ 128 → R.subkey room.now ≡ next_v h
         → tag.new ≡ tag_under (C.round_keys cipher.now) h nonce.now additional.now text.now }
 {
     *tag = tag_input(&room.hash(additional, text), nonce);
@@ -64,7 +64,7 @@ fn is_tag<C: BlockCipherEncrypt, R: PolyvalRoom>(
     requires made { R.IsMade room.now }
     requires additional { length additional.now ≤ 2 ^ 36 }
     requires text { length text.now ≤ 2 ^ 36 }
-    ensures { (h : ℕ) → h < 2 ^ 128 → R.element room.now ≡ next_v h
+    ensures { (h : ℕ) → h < 2 ^ 128 → R.subkey room.now ≡ next_v h
         → IsTrue result ↔ (tag.now ≡ tag_under (C.round_keys cipher.now)
         h nonce.now additional.now text.now) }
 {
@@ -102,7 +102,7 @@ pub fn seal<C: BlockCipherEncrypt, R: PolyvalRoom>(
     requires made { R.IsMade room.now }
     requires additional { length additional.now ≤ 2 ^ 36 }
     requires text { length text.old ≤ 2 ^ 36 }
-    ensures tag { (h : ℕ) → h < 2 ^ 128 → R.element room.now ≡ next_v h
+    ensures tag { (h : ℕ) → h < 2 ^ 128 → R.subkey room.now ≡ next_v h
         → result ≡ tag_under (C.round_keys cipher.now) h nonce.now additional.now text.old }
     ensures text { text.new ≡ text_under (C.round_keys cipher.now) result text.old }
 {
@@ -126,7 +126,7 @@ pub fn open<C: BlockCipherEncrypt, R: PolyvalRoom>(
     requires made { R.IsMade room.now }
     requires additional { length additional.now ≤ 2 ^ 36 }
     requires text { length text.old ≤ 2 ^ 36 }
-    ensures accepted { (h : ℕ) → h < 2 ^ 128 → R.element room.now ≡ next_v h
+    ensures accepted { (h : ℕ) → h < 2 ^ 128 → R.subkey room.now ≡ next_v h
         → IsTrue result ↔ (tag.now ≡ tag_under (C.round_keys cipher.now) h nonce.now additional.now
         (text_under (C.round_keys cipher.now) tag.now text.old)) }
     ensures decrypted { IsTrue result → text.new

@@ -67,7 +67,7 @@ impl<C: KeyInit + BlockCipherEncrypt + Drop> GcmSiv<C> {
     // Makes the cipher of a message, and writes the multiples of its authentication key times x^-1.
     fn prepare<R: PolyvalRoom>(&self, nonce: &[u8; 12], room: &mut R) -> C
         ensures made { R.IsMade room.new }
-        ensures authentication { R.element room.new
+        ensures authentication { R.subkey room.new
             ≡ next_v (from_le_bytes w128 (authentication_key self.now nonce.now)) }
         ensures small { from_le_bytes w128 (authentication_key self.now nonce.now) < 2 ^ 128 }
         ensures encryption { C.round_keys result

@@ -1,4 +1,4 @@
--- Vectors of 32 bytes by their halves.
+-- Pairs of rows in one vector of 32 bytes: looked up, shifted and summed by halves.
 use Rattle.std.proofs.Common.{◌≡◌, ℕ, ◌+◌, ◌*◌, ◌/◌, ◌%◌, ◌^◌, ◌<◌, ◌≤◌, ◌&&◌, List, [], ◌∷◌, ◌++◌}
 use Rattle.std.proofs.Common.{length, map, take, drop, get_or, bit_and, bit_xor, replicate, refl}
 use Rattle.std.proofs.Common.{ap, sym, ◌∙◌, arith}

@@ -3,7 +3,7 @@ use Rattle.std.proofs.Common.{◌≡◌, ◌≢◌, ◌≤◌, ℕ, ◌-◌, Lis
 use Rattle.std.proofs.Common.{arith}
 use Rattle.std.proofs.lemmas.List.{get_or-set_same, get_or-set_other, length-set}
 use Rattle.aes_permute.specs.Stored.{inv_untower}
-use Rattle.aes_permute.proofs.Inversion.{inverted_stored}
+use Rattle.aes_permute.proofs.DecryptionKeys.{inverted_stored}
 use Rattle.aes_permute.proofs.lane_keys.invert_lanes.Goals as goal
 
 pub returns-clause-keys : goal.returns-clause-keys

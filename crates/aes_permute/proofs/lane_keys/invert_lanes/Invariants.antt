@@ -1,6 +1,6 @@
 -- What holds in the loops of `lane_keys::invert_lanes`.
 use Rattle.std.proofs.Common.{◌≡◌, ◌≤◌, ◌<◌, ℕ, length}
-use Rattle.aes_permute.proofs.Inversion.{Unmixed}
+use Rattle.aes_permute.proofs.DecryptionKeys.{Unmixed}
 use Rattle.aes_permute.proofs.lane_keys.invert_lanes.Given as goal
 
 abbrev pub invariant-keys : goal.invariant-keys

@@ -2,7 +2,7 @@
 use Rattle.std.proofs.Common.{refl, ap, map, ◌∙◌}
 use Rattle.aes_permute.specs.Stored.{inv_untower}
 use Rattle.aes_permute.proofs.Lookups.{summed}
-use Rattle.aes_permute.proofs.InverseLanes.{unmixed_is}
+use Rattle.aes_permute.proofs.DecryptionLanes.{unmixed_is}
 use Rattle.aes_permute.proofs.rounds.decrypting_key.Goals as goal
 
 pub returns : goal.returns

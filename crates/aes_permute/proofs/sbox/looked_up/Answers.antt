@@ -1,7 +1,7 @@
 -- What is left to show of `sbox::looked_up`.
 use Rattle.std.proofs.Common.{◌∙◌}
 use Rattle.aes_permute.proofs.Lookups.{summed}
-use Rattle.aes_permute.proofs.Inverses.{places_looked_up}
+use Rattle.aes_permute.proofs.FieldInverse.{places_looked_up}
 use Rattle.aes_permute.proofs.sbox.looked_up.Goals as goal
 
 pub returns : goal.returns

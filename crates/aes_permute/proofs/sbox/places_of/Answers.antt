@@ -1,9 +1,9 @@
 -- What is left to show of `sbox::places_of`.
-use Rattle.aes_permute.specs.Inverse.{both_nibbles, first_of, second_of}
+use Rattle.aes_permute.specs.TwoPlaces.{both_nibbles, first_of, second_of}
 use Rattle.aes_permute.specs.Lookup.{low_nibble, high_nibble}
-use Rattle.aes_permute.proofs.Inverses.{sum_of, over, over_is, place_is, made_places, low_cases}
-use Rattle.aes_permute.proofs.Inverses.{high_cases, both_cases, over_high_cases, over_both_cases}
-use Rattle.aes_permute.proofs.Inverses.{first_cases, second_cases}
+use Rattle.aes_permute.proofs.FieldInverse.{sum_of, over, over_is, place_is, made_places, low_cases}
+use Rattle.aes_permute.proofs.FieldInverse.{high_cases, both_cases, over_high_cases, over_both_cases}
+use Rattle.aes_permute.proofs.FieldInverse.{first_cases, second_cases}
 use Rattle.aes_permute.proofs.sbox.places_of.Goals as goal
 
 pub lookup-scaled-requires : goal.lookup-scaled-requires

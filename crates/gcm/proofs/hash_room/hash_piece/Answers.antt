@@ -19,7 +19,7 @@ returns-then-bytes-filled g c y s places is =
     let f : ℕ = c.args.filled in
     let copied : List ℕ = c.copy_from_slice.new.self in
     let same : copied ≡ b = c.copy_from_slice.ensures.after in
-    unfilled c.args.multiples.now y (from_be_bytes w128 c.args.value.now) s rest b _ is
+    unfilled c.args.room.now y (from_be_bytes w128 c.args.value.now) s rest b _ is
     (omega (arith, places, c.if-bytes-filled.true))
     (ap (λ n. take (n + length b) (put_mid f (f + length b - f) rest copied)) places
     ∙ take-put_mid f (f + length b - f) rest copied (f + length b) (omega (arith, ap length same))
@@ -28,7 +28,7 @@ returns-then-bytes-filled g c y s places is =
 
 pub returns : goal.returns
 returns g c y s places is =
-    let h : ℕ = c.args.multiples.now in
+    let h : ℕ = c.args.room.now in
     let b : List ℕ = c.args.bytes.now in
     let rest : List ℕ = c.args.rest.now in
     let f : ℕ = c.args.filled in

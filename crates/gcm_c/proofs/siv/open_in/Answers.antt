@@ -12,7 +12,7 @@ returns-clause-accepted g c =
     let h : ℕ = from_le_bytes w128
     (authentication_key (key_in c.args.siv.now) c.args.nonce.now) in
     let right = c.open-is_right.ensures.accepted h c.prepare.ensures.small
-    (ap g.R.PolyvalRoom.element c.value-2.ensures ∙ c.prepare.ensures.authentication) in
+    (ap g.R.ProductRoom.subkey c.value-2.ensures ∙ c.prepare.ensures.authentication) in
     let same = ap (λ k. tag_under (key_expansion k) h c.args.nonce.now c.args.additional.now
     (text_under (key_expansion k) c.args.tag.now c.args.text.now))
     (c.cipher_of.ensures.key ∙ ap key_in c.value.ensures ∙ c.prepare.ensures.encryption) in

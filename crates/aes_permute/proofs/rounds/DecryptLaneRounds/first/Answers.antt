@@ -3,7 +3,7 @@ use Rattle.std.proofs.Common.{ap, map, ◌∙◌}
 use Rattle.aes_permute.specs.Lookup.{by_nibbles}
 use Rattle.aes_permute.specs.Stored.{inv_untower}
 use Rattle.aes_permute.specs.declared.tables.TheConstants.{INV_TOWER_LOW, INV_TOWER_HIGH}
-use Rattle.aes_permute.proofs.InverseLanes.{first_is}
+use Rattle.aes_permute.proofs.DecryptionLanes.{first_is}
 use Rattle.aes_permute.proofs.rounds.DecryptLaneRounds.first.Goals as goal
 
 pub returns : goal.returns

@@ -3,7 +3,7 @@ use Rattle.std.proofs.Common.{refl, ◌∙◌}
 use Rattle.aes_permute.specs.declared.tables.TheConstants.{INV_SBOX_FIRST, INV_SBOX_SECOND}
 use Rattle.aes_permute.proofs.Lookups.{summed}
 use Rattle.aes_permute.proofs.RoundLanes.{through_lanes}
-use Rattle.aes_permute.proofs.InverseLanes.{last_is}
+use Rattle.aes_permute.proofs.DecryptionLanes.{last_is}
 use Rattle.aes_permute.proofs.rounds.DecryptLaneRounds.last.Goals as goal
 
 pub returns : goal.returns

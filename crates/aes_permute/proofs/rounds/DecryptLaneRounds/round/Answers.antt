@@ -6,7 +6,7 @@ use Rattle.aes_permute.specs.declared.tables.TheConstants.{INV_4_SECOND, INV_9_F
 use Rattle.aes_permute.specs.declared.tables.TheConstants.{INV_15_FIRST, INV_15_SECOND}
 use Rattle.aes_permute.proofs.Lookups.{summed}
 use Rattle.aes_permute.proofs.RoundLanes.{through_lanes}
-use Rattle.aes_permute.proofs.InverseLanes.{round_is}
+use Rattle.aes_permute.proofs.DecryptionLanes.{round_is}
 use Rattle.aes_permute.proofs.rounds.DecryptLaneRounds.round.Goals as goal
 
 pub returns : goal.returns

@@ -9,7 +9,7 @@ pub returns-clause-added : goal.returns-clause-added
 returns-clause-added g c iv a is =
     let h : ℕ = hash_subkey c.args.self.now in
     let b : List ℕ = c.args.bytes.now in
-    let subkey : c.self.inside.multiples ≡ h = c.self.invariant ∙ ap hash_subkey c.self.view_is in
+    let subkey : c.self.inside.room ≡ h = c.self.invariant ∙ ap hash_subkey c.self.view_is in
     let v : ℕ = from_be_bytes w128 c.args.message.now.value in
     let Before : ℕ → Type 0 = λ k. IsHashing k 0 a v c.args.message.now.rest in
     let After : ℕ → Type 0 = λ k. IsHashing k 0 (a ++ b)

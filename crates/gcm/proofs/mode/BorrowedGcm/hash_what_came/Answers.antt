@@ -16,7 +16,7 @@ returns-clause-additional g c iv a is =
     let rest : List ℕ = c.args.message.now.rest in
     let count : c.filled-filled.result ≡ length a % 16 =
     omega (arith, c.filled-filled.ensures.additional is.phase, is.additional) in
-    let subkey : c.self.inside.multiples ≡ h = c.self.invariant ∙ ap hash_subkey c.self.view_is in
+    let subkey : c.self.inside.room ≡ h = c.self.invariant ∙ ap hash_subkey c.self.view_is in
     c.hash_on.ensures
     ∙ (λ t. hashed (subkey t) (number t) (padded (take (count t) rest))
     (length (padded (take (count t) rest)) / 16))
@@ -30,7 +30,7 @@ returns-clause-text g c phase iv a t other is =
     let rest : List ℕ = c.args.message.now.rest in
     let count : c.filled-filled.result ≡ length t % 16 =
     omega (arith, c.filled-filled.ensures.text (λ e. other (sym is.phase ∙ e)), is.text) in
-    let subkey : c.self.inside.multiples ≡ h = c.self.invariant ∙ ap hash_subkey c.self.view_is in
+    let subkey : c.self.inside.room ≡ h = c.self.invariant ∙ ap hash_subkey c.self.view_is in
     c.hash_on.ensures
     ∙ (λ i. hashed (subkey i) (number i) (padded (take (count i) rest))
     (length (padded (take (count i) rest)) / 16))

@@ -13,7 +13,7 @@ returns-then-nonce-eq12 g c =
 pub returns-else-nonce-eq12 : goal.returns-else-nonce-eq12
 unfolding bit_length
 returns-else-nonce-eq12 g c =
-    let h : ℕ = c.self.inside.multiples in
+    let h : ℕ = c.self.inside.room in
     let iv : List ℕ = c.args.nonce.now in
     c.block_of_number.ensures.back ∙ c.hash_lengths.ensures
     ∙ ap (λ y. product (bit_xor y (from_be_bytes w128 (replicate 8 0 ++ bit_length iv))) h)

@@ -15,7 +15,7 @@ returns g c phase iv a t other at =
     let m : ℕ = c.min-additional.result in
     let n : ℕ = c.min-text.result in
     let known = so_far phase c.args.self.now iv a t c.args.message.now at in
-    let subkey : c.self.inside.multiples ≡ h = c.self.invariant ∙ ap hash_subkey c.self.view_is in
+    let subkey : c.self.inside.room ≡ h = c.self.invariant ∙ ap hash_subkey c.self.view_is in
     let value : v ≡ hashed h (hashed_padded h a) (padded t) (length (padded t) / 16) =
     elim at [
       | inl b ↦ no_text h v a t (c.hash_what_came-value.ensures.additional iv a b.0) b.1

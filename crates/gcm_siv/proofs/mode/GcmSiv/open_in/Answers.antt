@@ -9,7 +9,7 @@ unfolding tag text
 returns-clause-accepted g c =
     let h : ℕ = from_le_bytes w128 (authentication_key c.args.self.now c.args.nonce.now) in
     let right = c.open-is_right.ensures.accepted h c.prepare-cipher.ensures.small
-    (ap g.R.PolyvalRoom.element c.value.ensures ∙ c.prepare-cipher.ensures.authentication) in
+    (ap g.R.ProductRoom.subkey c.value.ensures ∙ c.prepare-cipher.ensures.authentication) in
     let same = ap (λ w. tag_under w h c.args.nonce.now c.args.additional.now
     (text_under w c.args.tag.now c.args.text.now))
     c.prepare-cipher.ensures.encryption in

@@ -9,7 +9,7 @@ unfolding tag
 returns-clause-tag g c =
     let h : ℕ = from_le_bytes w128 (authentication_key c.args.self.now c.args.nonce.now) in
     c.seal-tag.ensures.tag h c.prepare-cipher.ensures.small
-    (ap g.R.PolyvalRoom.element c.value.ensures ∙ c.prepare-cipher.ensures.authentication)
+    (ap g.R.ProductRoom.subkey c.value.ensures ∙ c.prepare-cipher.ensures.authentication)
     ∙ ap (λ w. tag_under w h c.args.nonce.now c.args.additional.now c.args.text.now)
     c.prepare-cipher.ensures.encryption
 

@@ -10,8 +10,8 @@ ghost use Rattle.gcm_c.specs.Kept.{round_keys_in, IsMade};
 ghost use Rattle.gcm.specs.Pieces.{IsInText, IsOutOfTurn, IsTurn, IsVerifying, IsDecrypting};
 ghost use Rattle.gcm.specs.Pieces.{phase_of};
 
+use super::status_of;
 use crate::kept::{Gcm, holds_key, mode_of};
-use crate::pieces::status_of;
 use crate::status::{DONE, NO_KEY, OUT_OF_TURN, REFUSED, TAG_LENGTH, TOO_LONG};
 use gcm::{Message, NotAccepted, is_short_tag};
 

@@ -1,9 +1,9 @@
--- Under the key that the struct keeps, one more piece was hashed.
+-- Under the key that the struct keeps, one more piece was hashed and decrypted.
 use Rattle.std.proofs.Common.{◌++◌}
 use Rattle.gcm.specs.Pieces.{IsVerifying, IsInText}
 use Rattle.gcm.specs.declared.message_state.Phase.TheVariants.{Verifying}
 use Rattle.gcm_c.proofs.Carried.{carried}
-use Rattle.gcm_c.proofs.opening.fotsgure_gcm_verify.Goals as goal
+use Rattle.gcm_c.proofs.pieces.decrypting.fotsgure_gcm_decrypt_unverified.Goals as goal
 
 pub returns-in-Ok-clause-added : goal.returns-in-Ok-clause-added
 returns-in-Ok-clause-added c = λ done iv a t.

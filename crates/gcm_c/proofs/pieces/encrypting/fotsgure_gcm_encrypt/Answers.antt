@@ -3,7 +3,7 @@ use Rattle.std.proofs.Common.{◌++◌}
 use Rattle.gcm.specs.Pieces.{IsEncrypting, IsInText}
 use Rattle.gcm.specs.declared.message_state.Phase.TheVariants.{Encrypting}
 use Rattle.gcm_c.proofs.Carried.{carried}
-use Rattle.gcm_c.proofs.sealing.fotsgure_gcm_encrypt.Goals as goal
+use Rattle.gcm_c.proofs.pieces.encrypting.fotsgure_gcm_encrypt.Goals as goal
 
 pub returns-in-Ok-clause-added : goal.returns-in-Ok-clause-added
 returns-in-Ok-clause-added c = λ done iv a t.

@@ -5,7 +5,7 @@ use lib.Lanes.{zip2}
 use Rattle.aes_planes.specs.Fips197.{IsBlock}
 use Rattle.aes_planes.proofs.Bits.ByteCases.{all_below}
 use Rattle.aes_permute.specs.Lookup.{looked, is_index, low_nibble, high_nibble, AreIndices}
-use Rattle.aes_permute.specs.Inverse.{both_nibbles, inverse_over, first_of, second_of, at_places}
+use Rattle.aes_permute.specs.TwoPlaces.{both_nibbles, inverse_over, first_of, second_of, at_places}
 use Rattle.aes_permute.specs.declared.tables.TheConstants.{INVERSE, SCALED_INVERSE}
 use Rattle.aes_permute.proofs.Lookups.{each_passes}
 

@@ -2,7 +2,7 @@
 use Rattle.std.proofs.Common.{◌++◌}
 use Rattle.gcm.specs.Pieces.{IsDecrypting}
 use Rattle.gcm_c.proofs.Carried.{carried}
-use Rattle.gcm_c.proofs.opening.fotsgure_gcm_decrypt.Goals as goal
+use Rattle.gcm_c.proofs.pieces.decrypting.fotsgure_gcm_decrypt.Goals as goal
 
 pub returns-in-Ok-clause-added : goal.returns-in-Ok-clause-added
 returns-in-Ok-clause-added c = λ done n iv t.

@@ -9,8 +9,8 @@ ghost use Rattle.gcm_c.specs.Form.{HoldsKey};
 ghost use Rattle.gcm_c.specs.Kept.{round_keys_in, IsMade};
 ghost use Rattle.gcm.specs.Pieces.{IsInText, IsEncrypting, IsOutOfTurn, IsTurn, no_message};
 
+use super::status_of;
 use crate::kept::{Gcm, holds_key, mode_of};
-use crate::pieces::status_of;
 use crate::status::{DONE, NO_KEY, OUT_OF_TURN, TOO_LONG};
 use gcm::Message;
 

@@ -2,7 +2,7 @@
 use Rattle.std.proofs.Common.{[], length}
 use Rattle.gcm.specs.Pieces.{IsVerifying, IsDecrypting}
 use Rattle.gcm_c.proofs.Carried.{carried}
-use Rattle.gcm_c.proofs.opening.fotsgure_gcm_accept_short.Goals as goal
+use Rattle.gcm_c.proofs.pieces.decrypting.fotsgure_gcm_accept_short.Goals as goal
 
 pub returns-in-Ok-clause-decrypting : goal.returns-in-Ok-clause-decrypting
 returns-in-Ok-clause-decrypting c = λ done iv a t.
