@@ -80,52 +80,14 @@ def prove(domain, program, call, seed=None):
     tag is right. With a seed, for one key and data, on the processor too. The result is a machine after the call."""
     if len(domain.products) > MANY:
         domain.forget_products()
-    regions = {b.name: b.region(program.machine) for b in call.buffers}
-    regions["stack"] = Region([domain.undefined] * (STACK - program.machine.word * len(program.machine.pushed)), align=16)
-    arguments = [Pointer(a.name, 0) if isinstance(a, Buffer) else a for a in call.arguments]
-    m = program.machine(domain, program, regions, program.exports["fotsgure_" + call.name], arguments)
-    m.may_reveal, m.assumed = call.reveals is not None, call.assumes
-    m.counter = call.counter
-    m.facts, m.any_length, ends = call.facts, call.any_length, []
-    for window in (r for r in regions.values() if isinstance(r, Window)):
-        window.waits = call.later is not None
-    streams = [b for b in call.buffers if isinstance(b, Stream)] if call.later is None else []  # (else their bytes are of another domain)
-    cells = [c for b in streams for c in {c for x in b.content for c in domain.cells(x)}]
-    if len(cells) > len({*cells}):
-        raise Unproved("is about two buffers of the same bytes")
-    if refuted(call.facts):
-        raise Unproved("is about no arguments")
+    m, known = before(domain, program, call), lengths.Known()
     watches = [step_by_step(call.steps if call.any_length else call.steps())] if call.steps else []
-    known = lengths.Known()
     if call.any_length:
         watches.append(functools.partial(lengths.watch, known))
     if call.paths is not None:
         watches.append(lambda m: m.path.append(m.last))
     if seed is None:
-        waiting = [m]
-        while waiting:
-            m = waiting.pop()
-            m.domain.factor_of = {}
-            try:
-                run(m, call, watches)
-            except Question as question:
-                waiting += [m.answered(question.args[0], answer) for answer in (1, 0)]
-                continue
-            except lengths.Leads as leads:
-                no_secret_in_buffers(m, call)
-                waiting += leads.args[0]
-                continue
-            except lengths.Wrong as wrong:
-                general, guesses = wrong.args
-                waiting, ends = ([x for x in some if general.name not in x.generals] for some in (waiting, ends))
-                waiting += [*known.forget(general), lengths.general_state(known, *general.made_of, general.wrong | guesses)]
-                continue
-            check(m, call)
-            nothing_secret(m, call)
-            ends.append(m)
-        if call.any_length:
-            lengths.check_ends(ends, call)
-        return ends[-1]
+        return to_all_ends(m, call, watches, known)
     m.native = Native(m, seed, call.counter)
     try:
         run(m, call, [m.native.watch] + watches)
@@ -134,6 +96,51 @@ def prove(domain, program, call, seed=None):
         m.native.processor.close()
     check(m, call)
     return m
+
+
+def before(domain, program, call):
+    """A machine at the first instruction of a call."""
+    regions = {b.name: b.region(program.machine) for b in call.buffers}
+    regions["stack"] = Region([domain.undefined] * (STACK - program.machine.word * len(program.machine.pushed)), align=16)
+    arguments = [Pointer(a.name, 0) if isinstance(a, Buffer) else a for a in call.arguments]
+    m = program.machine(domain, program, regions, program.exports["fotsgure_" + call.name], arguments)
+    m.may_reveal, m.assumed = call.reveals is not None, call.assumes
+    m.counter, m.facts, m.any_length = call.counter, call.facts, call.any_length
+    for window in (r for r in regions.values() if isinstance(r, Window)):
+        window.waits = call.later is not None
+    streams = [b for b in call.buffers if isinstance(b, Stream)] if call.later is None else []  # (else their bytes are of another domain)
+    cells = [c for b in streams for c in {c for x in b.content for c in domain.cells(x)}]
+    if len(cells) > len({*cells}):
+        raise Unproved("is about two buffers of the same bytes")
+    if refuted(call.facts):
+        raise Unproved("is about no arguments")
+    return m
+
+
+def to_all_ends(m, call, watches, known):
+    """Runs a call with each answer to each question, and checks each end."""
+    waiting, ends = [m], []
+    while waiting:
+        m = waiting.pop()
+        m.domain.factor_of = {}
+        try:
+            run(m, call, watches)
+        except Question as question:
+            waiting += [m.answered(question.args[0], answer) for answer in (1, 0)]
+        except lengths.Leads as leads:
+            no_secret_in_buffers(m, call)
+            waiting += leads.args[0]
+        except lengths.Wrong as wrong:
+            general, guesses = wrong.args
+            waiting, ends = ([x for x in some if general.name not in x.generals] for some in (waiting, ends))
+            waiting += [*known.forget(general), lengths.general_state(known, *general.made_of, general.wrong | guesses)]
+        else:
+            check(m, call)
+            nothing_secret(m, call)
+            ends.append(m)
+    if call.any_length:
+        lengths.check_ends(ends, call)
+    return ends[-1]
 
 
 def run(m, call, watches):
