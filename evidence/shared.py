@@ -14,8 +14,9 @@ HERE = pathlib.Path(__file__).resolve().parent
 TOP = HERE.parent
 MEASUREMENTS = TOP / "docs" / "MEASUREMENTS.md"
 sys.path.append(str(TOP / "tools"))
+from crates import CACHE  # noqa: E402
 # Outside the repository: the gate refuses sources there that it does not read.
-ROOM = pathlib.Path(os.environ.get("AES_EVIDENCE_ROOM") or pathlib.Path.home() / ".cache" / "aes-evidence")
+ROOM = pathlib.Path(os.environ.get("FOTSGURE_EVIDENCE") or CACHE / "evidence")
 ROOM.mkdir(parents=True, exist_ok=True)
 BACKENDS = ("llvm", "rattle")
 BITS = ("128", "192", "256")
@@ -91,7 +92,7 @@ def table(heads, *rows):
 
 
 def rows_of(path):
-    """The rows of a list by tabs, but for those that are comments."""
+    """The rows of a list by tabs, except comments."""
     return [it.split("\t") for it in path.read_text().splitlines() if it and not it.startswith("#")]
 
 

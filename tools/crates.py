@@ -1,11 +1,14 @@
 """What scripts share that needs no toolchain: the crates of this repository as crates.txt lists them, sums of what they are made of, and
 how a script reads what it is called with."""
 import hashlib
+import os
 import pathlib
 import re
 import sys
 
 TOP = pathlib.Path(__file__).resolve().parent.parent
+# Where scripts keep what later runs use.
+CACHE = pathlib.Path(os.environ.get("XDG_CACHE_HOME") or "~/.cache").expanduser() / "fotsgure"
 # Each crate with its sentence and the words behind its name.
 LINES = re.findall(r"^# (.*)\n(\w+)(?: staticlib)?:(.*)$", (TOP / "crates.txt").read_text(encoding="utf-8"), re.M)
 SENTENCES = {name: sentence for sentence, name, _ in LINES}

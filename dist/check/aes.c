@@ -1,7 +1,7 @@
 /* The library from C: FIPS 197, appendix C, in both directions; slices of 0 to 40 blocks against single calls;
  * SP 800-38A, F.5 and F.2, cut at every place; key wrap by RFC 3394; CMAC by SP 800-38B, D.1 to D.3, CCM by SP 800-38C, C.1 to
  * C.3; single rounds; every status; NULL with a count of 0; the wipe; with WITH_OPENSSL 1 MiB against OpenSSL. The last line is
- * `N passed, N failed`. */
+ * `N passed, M failed`. */
 #include "fotsgure_aes.h"
 
 #ifdef WITH_OPENSSL

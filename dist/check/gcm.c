@@ -2,7 +2,7 @@
  * nonces under which the counter wraps; texts of 0 to 700 bytes there and back, and beside OpenSSL with WITH_OPENSSL;
  * every status; that nothing is written after a refusal; NULL with a length of 0; from buffer to buffer; counted nonces; messages in pieces,
  * cut in many ways and out of turn; short tags; what a shorter key leaves; the wipe. AES-GCM-SIV is in siv.h. The last line
- * is `N passed, N failed`. */
+ * is `N passed, M failed`. */
 #include <fotsgure_aes.h>
 #include <fotsgure_gcm.h>
 

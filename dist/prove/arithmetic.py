@@ -75,8 +75,8 @@ class Arithmetic:
             return Number(a.base, wrapped(a.offset + b, 0xffffffff))
         return Pointer(a.base, wrapped(a.offset + b, self.most))
 
-    # Sums and differences with their flags: (result, {flag: value}).
     def plus(self, x, y, carry, size):
+        """x + y + carry, and its flags: (result, {flag: value}). Flags that aren't named are undefined."""
         mask, top = (1 << 8 * size) - 1, 8 * size - 1
         x, y = self.counted(self.counter_word(x)), self.counted(self.counter_word(y))
         if is_int(x, y):

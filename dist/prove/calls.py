@@ -34,9 +34,10 @@ class Buffer:
 
 
 class Stream(Buffer):
-    """A buffer of a length that isn't known: a number of bytes, and what the block with number LEAD is, and has to be after the call. That
-    is one of several, where `choose` says of a machine and a block's number in the buffer, byte by byte, which one (None: not known).
-    In front of it there may be a `head`, what that is, and has to be; and the blocks may be taken `backwards` (machine.Window)."""
+    """A buffer of any length. `size` is its length, a number that isn't known. `content` and `after` are patterns: what the block with number
+    LEAD is, and what it has to be after the call. With `choose`, `after` is a list of patterns, and choose(machine, number) says for each byte
+    of the block with that number which of them it has, or None if that isn't known. `head` has the content and the `after` of bytes in front of
+    the blocks. `backwards`: the last block counts as the first one (regions.Window)."""
 
     def __init__(self, name, size, content, after=None, choose=None, head=None, backwards=False):
         super().__init__(name, content, after)
@@ -53,15 +54,22 @@ class Stream(Buffer):
 
 
 class Call:
-    """`status` is what the call returns, in `size` bytes. `steps` are for calls in which each step depends on the last one (see
-    step_by_step). `reveals` are bytes that are all zero if a wrapped key or a tag is right; if they are not, the call returns the status
-    `refused`, and Buffers are what `refused_after` says by their names, or what they were. `assumes` are bytes of public data that are not
-    all zero. `later` turns bytes of the key's own domain into those of arbitrary round keys, for a call that expands a key (see aes.py).
-    `keystream` is what is added to the data, `between` are other blocks that the cipher gives, and `plain` what is secret of the data and
-    the results; `may_stay` says how many bytes of a kind may be left besides. A call that is refused writes to no Buffer that
-    stays as it was, unless it has to undo what it did (`undone`). `counter` is a word of unknown value (aes.CounterWord). Calls that share
-    `paths` have to run the same instructions whenever they return the same. `facts` are what is known of arguments that aren't (linear.py): each
-    is 0 or more."""
+    """A statement of one call.
+
+        name, arguments         as in C, without fotsgure_
+        status, size            what it returns (None: anything), and in how many bytes
+        steps                   for a call in which each step depends on the last one: see step_by_step
+        reveals                 bytes that are all zero exactly if a wrapped key or a tag is right
+        refused, refused_after  what it returns if they aren't, and by names what Buffers then hold; the others hold what they held before
+        undone                  when it is refused it may write to a Buffer that stays as it was, since it undoes what it did
+        assumes                 bytes of public data that are not all zero
+        later                   for a call that expands a key: turns bytes of the key's own domain into those of any round keys (aes.py)
+        counter                 a word of unknown value (aes.CounterWord)
+        keystream, between      what is added to the data; other blocks that the cipher gives
+        plain                   what is secret of the data and of the results
+        may_stay                how many bytes of a kind may be left besides
+        paths                   calls that share it run the same instructions whenever they return the same
+        facts                   what is known of the unknown arguments: numbers that are 0 or more (linear.py)"""
 
     def __init__(self, name, arguments, status, size=4, steps=None, reveals=None, refused=None, refused_after=None, assumes=None,
                  later=None, counter=None, keystream=(), plain=(), may_stay=None, paths=None, facts=(),
@@ -213,7 +221,7 @@ def asked_of(m, question):
 
 
 def nothing_secret(m, call):
-    """Nothing at all may be left in registers, but for the status, and in flags."""
+    """Nothing may be left in registers except the status, and nothing in flags."""
     flags = [name for name, flag in m.flags.items() if m.is_secret(flag)]
     if flags:
         raise Unproved("leaves flags that depend on the key or on data: " + ", ".join(flags))
@@ -244,15 +252,26 @@ def compare(domain, have, want, what):
 
 
 def step_by_step(steps):
-    """A watch for calls in which each step depends on the last one. `steps` has triples of where a result is looked for, what it has to be
-    (or a function that makes that), and other bytes, which are arbitrary. When the result is there, these bytes take its place everywhere,
-    so what is proved from there on holds for any. "hash" is looked for in vector registers, or as words in either order of bytes;
-    products of bits are then forgotten: what still depends on them is lost, and may not even be left. "vector" is looked for in vector
-    registers, "memory" where something was written, "block" in all these places, "kept" in memory outside of Streams; another name is that
-    of a region. "place" is "memory", and the bytes change there alone: so even constants become arbitrary. In a call of any length `steps` is a
-    function of the machine. Then "here" says that there is a result; "again" begins another phase, in which blocks have new numbers, and so
-    does "whole", as soon as all of a buffer is done, and "refused", when the call will return that; and "nothing" says that what comes next
-    isn't known."""
+    """A watch for calls in which each step depends on the last one. `steps` has triples: where a result is looked for, what it has to be
+    (or a function that makes that), and arbitrary bytes. When the result is there, these bytes take its place everywhere, so what is
+    proved from there on holds for any result. A result is looked for in:
+
+        "vector"    a vector register
+        "memory"    what was written last
+        "place"     the same, but the bytes change there alone, so even constants become arbitrary
+        "hash"      a vector register, or general registers as words in either order of bytes. Products of bits are then forgotten: what
+                    still depends on them is lost, and may not even be left
+        "block"     all of these but "place"
+        "kept"      memory outside of Streams
+        a name      the region of this name
+
+    In a call of any length `steps` is a function of the machine, which also returns one of these:
+
+        "here"      the result is there
+        "again"     another phase begins, in which blocks have new numbers
+        "whole"     the same, as soon as all of a buffer is done
+        "refused"   the same, when the call will return that it refuses
+        "nothing"   what comes next isn't known"""
     steps = steps if callable(steps) else list(steps)
 
     def watch(m):
@@ -274,21 +293,26 @@ def step_by_step(steps):
                 content[at:at + len(want)], m.done, m.want = new, m.done + 1, None
             return
         if where == "here" or found(m, where, want):
-            replaced, lost, on = {}, None, depends(m, *want) if where == "hash" else 0
-            for x, y in zip(want, new):
-                if x > 255:
-                    if replaced.setdefault(x, y) != y:
-                        raise Unproved("a byte of a result comes twice")
-                    if not m.is_public([y]):
-                        cell, block = m.domain.cell_of(y)
-                        m.origins[cell, block] = ((on or depends(m, x)) | m.domain.depends[cell]) & (KEY | DATA)
-            if where == "hash":
-                lost = m.domain.opaque(LOST)
-                m.lost.add(lost)
-            with_products = m.domain.with_products
-            m.replace_bytes(lambda b: replaced.get(b, lost or b if b in with_products else b), m.domain, replaced.items())
+            replace_result(m, where, want, new)
             m.done, m.want, m.domain.factor_of = m.done + 1, None, {}
     return watch
+
+
+def replace_result(m, where, want, new):
+    """Puts other bytes in the place of a result, everywhere. They depend on what the result depended on."""
+    replaced, lost, on = {}, None, depends(m, *want) if where == "hash" else 0
+    for x, y in zip(want, new):
+        if x > 255:
+            if replaced.setdefault(x, y) != y:
+                raise Unproved("a byte of a result comes twice")
+            if not m.is_public([y]):
+                cell, block = m.domain.cell_of(y)
+                m.origins[cell, block] = ((on or depends(m, x)) | m.domain.depends[cell]) & (KEY | DATA)
+    if where == "hash":
+        lost = m.domain.opaque(LOST)
+        m.lost.add(lost)
+    with_products = m.domain.with_products
+    m.replace_bytes(lambda b: replaced.get(b, lost or b if b in with_products else b), m.domain, replaced.items())
 
 
 def found(m, where, want):

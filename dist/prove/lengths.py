@@ -211,6 +211,8 @@ numbers = itertools.count()
 
 
 def general_state(known, key, visit, now, wrong=frozenset()):
+    """The state at a loop's head after any number of passes, guessed from that after the first pass (`visit`) and after the second (`now`).
+    It has none of the guesses in `wrong`. Fails if the state after the first pass isn't an instance of it."""
     name = "passes %04d" % next(numbers)
     passes, first = unknown(name), visit.first
     blocks = in_a_pass(first, now.first)
@@ -225,16 +227,7 @@ def general_state(known, key, visit, now, wrong=frozenset()):
         g.general[r] = tuple(g.any_byte() for _ in range(g.word)) if general is None else general
     g.vectors = [general_bytes(g, v, w, passes) for v, w in zip(first.vectors, second.vectors)]
     changed = [(v, w) for r, v in first.general.items() if is_number(v, w := second.general[r]) and is_int(w - v) and v != w]
-    for name_, region in g.regions.items():
-        other = second.regions[name_]
-        if len(region.content) != len(other.content):
-            raise Unproved("two passes of a loop don't access the same of %s" % name_)
-        begin = min(first.accessed_from(name_), second.accessed_from(name_))
-        region.content[begin:] = general_bytes(g, region.content[begin:], other.content[begin:], passes, changed)
-        if isinstance(region, Window):
-            region.origin = generally(region.origin, other.origin, passes, g.most)
-            if region.origin is None:
-                raise Unproved("two passes of a loop don't come as far in %s" % name_)
+    general_regions(g, first, second, passes, changed)
     g.stale, g.lowest = first.stale | second.stale, min(first.lowest, second.lowest)
     secret = FLAG in wrong or any(state.is_secret(flag) for state in (first, second) for flag in state.flags.values())
     g.flags = dict.fromkeys(g.flag_names, SECRET if secret else None)
@@ -249,6 +242,20 @@ def general_state(known, key, visit, now, wrong=frozenset()):
     known.add(key, general)
     g.loops[key] = Visit(0, general=general)
     return g
+
+
+def general_regions(g, first, second, passes, changed):
+    """What the buffers of a general state hold, and how far each is done. `changed` has the registers' numbers after both passes."""
+    for name, region in g.regions.items():
+        other = second.regions[name]
+        if len(region.content) != len(other.content):
+            raise Unproved("two passes of a loop don't access the same of %s" % name)
+        begin = min(first.accessed_from(name), second.accessed_from(name))
+        region.content[begin:] = general_bytes(g, region.content[begin:], other.content[begin:], passes, changed)
+        if isinstance(region, Window):
+            region.origin = generally(region.origin, other.origin, passes, g.most)
+            if region.origin is None:
+                raise Unproved("two passes of a loop don't come as far in %s" % name)
 
 
 def came_back(m, general):

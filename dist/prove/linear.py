@@ -86,7 +86,7 @@ def terms(x):
 
 
 def step_of(x):
-    """The highest power of two by which the number is known but for multiples of it."""
+    """The highest power of two by which the number is known except for multiples of it."""
     power = math.gcd(*(c for _, c in x.terms))
     return power & -power
 

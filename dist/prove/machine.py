@@ -1,6 +1,6 @@
 """A machine on symbolic bytes: values, operands, memory, flags and how a call runs, as all machines here have them alike.
 
-A value is an int (a constant), a Pointer, a Distance, a Number, a Verdict, or a tuple of bytes of bits.Domain, lowest first. Branches,
+A value is an int (a constant), a Pointer, a Distance, a Number, a Verdict, or a tuple of bytes of domain.Domain, lowest first. Branches,
 addresses and lengths have to be constants or Pointers. A Pointer is known only relative to a buffer, so what is proved holds wherever the
 buffers are. Whatever isn't covered raises Unproved. A step is `instruction.run(machine, name, *operands)`. A machine is a class below
 Machine, in a file of its own (x86_64.py, aarch64.py, riscv.py), that says:
@@ -38,7 +38,6 @@ from linear import Linear, is_number
 from operands import (FARTHEST, RETURN_ADDRESS, SECRET, WORD, Distance, Memory, Pointer, Question, Verdict, constant, is_int, is_pointer, joined)
 from program import LIBC
 from unknowns import Unknowns
-
 
 
 class Machine(Arithmetic, Unknowns, Bytewise, Access):

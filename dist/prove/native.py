@@ -33,7 +33,7 @@ class Native:
             self.processor.write(values.base[name], values.random.randbytes(len(region.content)))
 
     def impose(self):
-        """Makes the processor's registers and memory those of the machine, but for bytes whose value isn't known: these stay. It is done
+        """Makes the processor's registers and memory those of the machine, except bytes whose value isn't known: these stay. It is done
         before the first instruction; and once more where a statement goes on with constants in the place of a result, as the processor
         has computed others."""
         for name, region in self.m.regions.items():

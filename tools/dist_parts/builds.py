@@ -72,7 +72,7 @@ def clang(*words):
 
 
 def held_by(file):
-    """All that an object holds, as text: symbols, relocations and the bytes of its sections, but for tables of names."""
+    """All that an object holds, as text: symbols, relocations and the bytes of its sections, without tables of names."""
     parts = llvm("llvm-objdump", "-t", "-r", "-s", file).partition("SYMBOL TABLE:")[2].split("Contents of section ")
     return [it for it in parts if not it.startswith((".strtab:", ".symtab:", ".llvm_addrsig:"))]
 

@@ -20,7 +20,7 @@ import sys
 
 from . import narrowed
 
-# The options that the kit's compiler gives to clang, but for those of a target.
+# The options that the kit's compiler gives to clang, without those of a target.
 OPTIONS = """-mllvm -no-trap-after-noreturn -mllvm -trap-unreachable -mllvm -no-x86-call-frame-opt -mllvm -disable-machine-licm
     -mllvm -disable-postra-machine-licm -mllvm -sink-common-insts=false --no-default-config -no-canonical-prefixes
     -fintegrated-cc1 -fno-crash-diagnostics -Wno-override-module -O3 -fno-addrsig""".split()

@@ -2,7 +2,7 @@
  * gcmEncryptExtIV128.rsp, CBCMMT128.rsp or KWP_AE_128.txt. Of GCM each message is sealed and opened again, and refused with a bit changed in each of its parts;
  * a tag that fails in the file is refused. NIST has tags of 4 to 15 bytes too: fotsgure_gcm_open refuses those by their
  * length, fotsgure_gcm_accept_short takes them if they are right, and they have to be the beginning of the tag of 16
- * bytes. No call may write beside its buffers. The last line is `N passed, N failed`. */
+ * bytes. No call may write beside its buffers. The last line is `N passed, M failed`. */
 #include <fotsgure_aes.h>
 #include <fotsgure_gcm.h>
 

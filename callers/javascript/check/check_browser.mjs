@@ -1,5 +1,5 @@
 // node check_browser.mjs: the tests in a headless chromium (CHROMIUM), over a server on a port of this machine. The last line is
-// `N passed, N failed`. The page's policy allows WebAssembly and no other code than that of this folder.
+// `N passed, M failed`. The page's policy allows WebAssembly and no other code than that of this folder.
 import { execFile } from "node:child_process";
 import { mkdtempSync, readFileSync, rmSync } from "node:fs";
 import { createServer } from "node:http";

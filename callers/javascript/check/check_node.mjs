@@ -1,4 +1,4 @@
-// node check_node.mjs: the tests in node. The last line is `N passed, N failed`. PACKAGE names the package, else it is in this folder, where
+// node check_node.mjs: the tests in node. The last line is `N passed, M failed`. PACKAGE names the package, else it is in this folder, where
 // `run` copies both.
 import crypto from "node:crypto";
 import { check } from "./check.mjs";

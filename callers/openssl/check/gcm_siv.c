@@ -1,6 +1,6 @@
 /* AES-GCM-SIV through OpenSSL's interface: messages of RFC 8452, appendices C.1 and C.2; random ones there and back, and
  * beside OpenSSL's own provider if that has the mode (3.2 and later); what is refused.
- * usage: OPENSSL_MODULES=FOLDER gcm_siv    (the folder of fotsgure.so). The last line is 'N passed, N failed'. */
+ * usage: OPENSSL_MODULES=FOLDER gcm_siv    (the folder of fotsgure.so). The last line is 'N passed, M failed'. */
 #include <openssl/core_names.h>
 #include <openssl/evp.h>
 #include <openssl/provider.h>

@@ -1,7 +1,7 @@
 #!/usr/bin/env python3
 """Connections of TLS between two processes over Python's ssl, each with OpenSSL's own AES or with the provider's.
 usage: tls.py CONF CERTIFICATE KEY [BYTES]    (CONF: a fotsgure.cnf with the module's path in it)
-The last line is 'N passed, N failed'."""
+The last line is 'N passed, M failed'."""
 import os
 import random
 import socket

@@ -1,6 +1,6 @@
 """The modules for Python, GCM and AESGCM: test cases 2, 4 and 16 of the submission of GCM (McGrew and Viega, appendix
 B), texts of 0 to 300 bytes there and back, every refusal, arguments that are no bytes, threads, forks, and the package
-cryptography 48 beside AESGCM if it is installed. The last line is `N passed, N failed`."""
+cryptography 48 beside AESGCM if it is installed. The last line is `N passed, M failed`."""
 import array
 import copy
 import ctypes
