@@ -2697,7 +2697,7 @@ gcm.aes_cipher.zeroize.stack.wipe_stack.768: @ @gcm.aes_cipher.zeroize.stack.wip
 	.fnend
                                         @ -- End function
 	.section	.text.gcm.gcm.mode.BorrowedGcm.put_pre_counter,"ax",%progbits
-	.p2align	2                               @ -- Begin function gcm::mode::BorrowedGcm::put_pre_counter::<#298b253f892abaef>
+	.p2align	2                               @ -- Begin function gcm::mode::BorrowedGcm::put_pre_counter::<#84a61a6dd6ff62d6>
 	.type	gcm.gcm.mode.BorrowedGcm.put_pre_counter,%function
 	.code	32
 gcm.gcm.mode.BorrowedGcm.put_pre_counter: @ @gcm.gcm.mode.BorrowedGcm.put_pre_counter
@@ -3274,7 +3274,7 @@ gcm.aes_cipher.zeroize.stack.wipe_stack.512: @ @gcm.aes_cipher.zeroize.stack.wip
 	.fnend
                                         @ -- End function
 	.section	.text.gcm.gcm.mode.BorrowedGcm.put_tag_so_far,"ax",%progbits
-	.p2align	2                               @ -- Begin function gcm::mode::BorrowedGcm::put_tag_so_far::<#298b253f892abaef>
+	.p2align	2                               @ -- Begin function gcm::mode::BorrowedGcm::put_tag_so_far::<#84a61a6dd6ff62d6>
 	.type	gcm.gcm.mode.BorrowedGcm.put_tag_so_far,%function
 	.code	32
 gcm.gcm.mode.BorrowedGcm.put_tag_so_far: @ @gcm.gcm.mode.BorrowedGcm.put_tag_so_far
@@ -6176,7 +6176,7 @@ gcm.aes_cipher.zeroize.stack.wipe_stack.1024: @ @gcm.aes_cipher.zeroize.stack.wi
 	.fnend
                                         @ -- End function
 	.section	.text.gcm.gcm.mode.BorrowedGcm.hash_what_came,"ax",%progbits
-	.p2align	2                               @ -- Begin function gcm::mode::BorrowedGcm::hash_what_came::<#298b253f892abaef>
+	.p2align	2                               @ -- Begin function gcm::mode::BorrowedGcm::hash_what_came::<#84a61a6dd6ff62d6>
 	.type	gcm.gcm.mode.BorrowedGcm.hash_what_came,%function
 	.code	32
 gcm.gcm.mode.BorrowedGcm.hash_what_came: @ @gcm.gcm.mode.BorrowedGcm.hash_what_came
@@ -6228,7 +6228,7 @@ gcm.gcm.mode.BorrowedGcm.hash_what_came: @ @gcm.gcm.mode.BorrowedGcm.hash_what_c
 	.fnend
                                         @ -- End function
 	.section	.text.gcm.gcm.mode.put_subkey,"ax",%progbits
-	.p2align	2                               @ -- Begin function gcm::mode::put_subkey::<#298b253f892abaef>
+	.p2align	2                               @ -- Begin function gcm::mode::put_subkey::<#dab42bd6aa024cc0>
 	.type	gcm.gcm.mode.put_subkey,%function
 	.code	32
 gcm.gcm.mode.put_subkey: @ @gcm.gcm.mode.put_subkey
@@ -6271,7 +6271,7 @@ gcm.gcm.mode.put_subkey: @ @gcm.gcm.mode.put_subkey
 	.fnend
                                         @ -- End function
 	.section	.text.gcm.gcm.mode.BorrowedGcm.compare,"ax",%progbits
-	.p2align	2                               @ -- Begin function gcm::mode::BorrowedGcm::compare::<#298b253f892abaef>
+	.p2align	2                               @ -- Begin function gcm::mode::BorrowedGcm::compare::<#84a61a6dd6ff62d6>
 	.type	gcm.gcm.mode.BorrowedGcm.compare,%function
 	.code	32
 gcm.gcm.mode.BorrowedGcm.compare: @ @gcm.gcm.mode.BorrowedGcm.compare
@@ -6325,7 +6325,7 @@ gcm.gcm.mode.BorrowedGcm.compare: @ @gcm.gcm.mode.BorrowedGcm.compare
 	.fnend
                                         @ -- End function
 	.section	.text.gcm.gcm.mode.BorrowedGcm.put_tag,"ax",%progbits
-	.p2align	2                               @ -- Begin function gcm::mode::BorrowedGcm::put_tag::<#298b253f892abaef>
+	.p2align	2                               @ -- Begin function gcm::mode::BorrowedGcm::put_tag::<#84a61a6dd6ff62d6>
 	.type	gcm.gcm.mode.BorrowedGcm.put_tag,%function
 	.code	32
 gcm.gcm.mode.BorrowedGcm.put_tag: @ @gcm.gcm.mode.BorrowedGcm.put_tag
@@ -7793,7 +7793,7 @@ gcm.gcm_c.whole_to.copy:                @ @gcm.gcm_c.whole_to.copy
 	.fnend
                                         @ -- End function
 	.section	.text.gcm.gcm_c.siv.open_in,"ax",%progbits
-	.p2align	2                               @ -- Begin function gcm_c::siv::open_in::<#5cd57875f4b01b85>
+	.p2align	2                               @ -- Begin function gcm_c::siv::open_in::<#785e9dd6e032eaf4>
 	.type	gcm.gcm_c.siv.open_in,%function
 	.code	32
 gcm.gcm_c.siv.open_in: @ @gcm.gcm_c.siv.open_in
@@ -7866,7 +7866,7 @@ gcm.gcm_c.siv.open_in: @ @gcm.gcm_c.siv.open_in
 	.fnend
                                         @ -- End function
 	.section	.text.gcm.gcm_c.siv.prepare,"ax",%progbits
-	.p2align	2                               @ -- Begin function gcm_c::siv::prepare::<#5cd57875f4b01b85>
+	.p2align	2                               @ -- Begin function gcm_c::siv::prepare::<#785e9dd6e032eaf4>
 	.type	gcm.gcm_c.siv.prepare,%function
 	.code	32
 gcm.gcm_c.siv.prepare: @ @gcm.gcm_c.siv.prepare
@@ -8038,7 +8038,7 @@ gcm.aes_cipher.zeroize.elements.zeroize_elements.3: @ @gcm.aes_cipher.zeroize.el
 	.fnend
                                         @ -- End function
 	.section	.text.gcm.gcm_siv.message.open,"ax",%progbits
-	.p2align	2                               @ -- Begin function gcm_siv::message::open::<#4c28cb5db47b98cc>
+	.p2align	2                               @ -- Begin function gcm_siv::message::open::<#c079cc313d4a5899>
 	.type	gcm.gcm_siv.message.open,%function
 	.code	32
 gcm.gcm_siv.message.open: @ @gcm.gcm_siv.message.open
@@ -8103,7 +8103,7 @@ gcm.gcm_siv.message.open: @ @gcm.gcm_siv.message.open
 	.fnend
                                         @ -- End function
 	.section	.text.gcm.gcm_siv.message.put_tag,"ax",%progbits
-	.p2align	2                               @ -- Begin function gcm_siv::message::put_tag::<#4c28cb5db47b98cc>
+	.p2align	2                               @ -- Begin function gcm_siv::message::put_tag::<#c079cc313d4a5899>
 	.type	gcm.gcm_siv.message.put_tag,%function
 	.code	32
 gcm.gcm_siv.message.put_tag: @ @gcm.gcm_siv.message.put_tag
@@ -9278,7 +9278,7 @@ gcm.aes_cipher.zeroize.stack.wipe_stack.2816: @ @gcm.aes_cipher.zeroize.stack.wi
 	.fnend
                                         @ -- End function
 	.section	.text.gcm.gcm_c.siv.seal_in,"ax",%progbits
-	.p2align	2                               @ -- Begin function gcm_c::siv::seal_in::<#5cd57875f4b01b85>
+	.p2align	2                               @ -- Begin function gcm_c::siv::seal_in::<#785e9dd6e032eaf4>
 	.type	gcm.gcm_c.siv.seal_in,%function
 	.code	32
 gcm.gcm_c.siv.seal_in: @ @gcm.gcm_c.siv.seal_in
@@ -9355,7 +9355,7 @@ gcm.gcm_c.siv.seal_in: @ @gcm.gcm_c.siv.seal_in
 	.fnend
                                         @ -- End function
 	.section	.text.gcm.gcm_siv.message.seal,"ax",%progbits
-	.p2align	2                               @ -- Begin function gcm_siv::message::seal::<#4c28cb5db47b98cc>
+	.p2align	2                               @ -- Begin function gcm_siv::message::seal::<#c079cc313d4a5899>
 	.type	gcm.gcm_siv.message.seal,%function
 	.code	32
 gcm.gcm_siv.message.seal: @ @gcm.gcm_siv.message.seal
@@ -9405,7 +9405,7 @@ gcm.gcm_siv.message.seal: @ @gcm.gcm_siv.message.seal
 	.fnend
                                         @ -- End function
 	.section	.text.gcm.gcm.hash_room.hash_piece,"ax",%progbits
-	.p2align	2                               @ -- Begin function gcm::hash_room::hash_piece::<#04eacf7dd9e4979a>
+	.p2align	2                               @ -- Begin function gcm::hash_room::hash_piece::<#692ea192ac7b1787>
 	.type	gcm.gcm.hash_room.hash_piece,%function
 	.code	32
 gcm.gcm.hash_room.hash_piece: @ @gcm.gcm.hash_room.hash_piece
@@ -9598,7 +9598,7 @@ gcm.gcm.hash_room.hash_piece: @ @gcm.gcm.hash_room.hash_piece
 	.fnend
                                         @ -- End function
 	.section	.text.gcm.gcm.mode.BorrowedGcm.turn_to,"ax",%progbits
-	.p2align	2                               @ -- Begin function gcm::mode::BorrowedGcm::turn_to::<#298b253f892abaef>
+	.p2align	2                               @ -- Begin function gcm::mode::BorrowedGcm::turn_to::<#84a61a6dd6ff62d6>
 	.type	gcm.gcm.mode.BorrowedGcm.turn_to,%function
 	.code	32
 gcm.gcm.mode.BorrowedGcm.turn_to: @ @gcm.gcm.mode.BorrowedGcm.turn_to
@@ -9699,7 +9699,7 @@ gcm.gcm.mode.BorrowedGcm.turn_to: @ @gcm.gcm.mode.BorrowedGcm.turn_to
 	.fnend
                                         @ -- End function
 	.section	.text.gcm.gcm.mode.BorrowedGcm.is_tag_so_far,"ax",%progbits
-	.p2align	2                               @ -- Begin function gcm::mode::BorrowedGcm::is_tag_so_far::<#298b253f892abaef>
+	.p2align	2                               @ -- Begin function gcm::mode::BorrowedGcm::is_tag_so_far::<#84a61a6dd6ff62d6>
 	.type	gcm.gcm.mode.BorrowedGcm.is_tag_so_far,%function
 	.code	32
 gcm.gcm.mode.BorrowedGcm.is_tag_so_far: @ @gcm.gcm.mode.BorrowedGcm.is_tag_so_far
@@ -9729,7 +9729,7 @@ gcm.gcm.mode.BorrowedGcm.is_tag_so_far: @ @gcm.gcm.mode.BorrowedGcm.is_tag_so_fa
 	.fnend
                                         @ -- End function
 	.section	.text.gcm.gcm.mode.BorrowedGcm.is_short_tag_so_far,"ax",%progbits
-	.p2align	2                               @ -- Begin function gcm::mode::BorrowedGcm::is_short_tag_so_far::<#298b253f892abaef>
+	.p2align	2                               @ -- Begin function gcm::mode::BorrowedGcm::is_short_tag_so_far::<#84a61a6dd6ff62d6>
 	.type	gcm.gcm.mode.BorrowedGcm.is_short_tag_so_far,%function
 	.code	32
 gcm.gcm.mode.BorrowedGcm.is_short_tag_so_far: @ @gcm.gcm.mode.BorrowedGcm.is_short_tag_so_far
@@ -10308,7 +10308,7 @@ gcm.fotsgure_gcm_open:                      @ @gcm.fotsgure_gcm_open
 	str	r5, [sp]
 	bl	gcm.gcm.gctr.add_gctr
 	mov	r4, #0
-.Lgcm_BB53_6:                               @ %"gcm::mode::BorrowedGcm::decrypt::<#298b253f892abaef>.exit.i.i"
+.Lgcm_BB53_6:                               @ %"gcm::mode::BorrowedGcm::decrypt::<#84a61a6dd6ff62d6>.exit.i.i"
 	add	r0, sp, #80
 	bl	gcm.aes_cipher.zeroize.elements.zeroize_elements.2
 	bl	gcm.aes_cipher.zeroize.stack.wipe_stack.1536
@@ -10492,7 +10492,7 @@ gcm.fotsgure_gcm_open_to:                   @ @gcm.fotsgure_gcm_open_to
 	str	r7, [sp, #12]
 	str	r9, [sp]
 	bl	gcm.gcm.gctr.add_gctr
-.Lgcm_BB54_17:                              @ %"gcm::mode::BorrowedGcm::decrypt_to::<#298b253f892abaef>.exit.i.i"
+.Lgcm_BB54_17:                              @ %"gcm::mode::BorrowedGcm::decrypt_to::<#84a61a6dd6ff62d6>.exit.i.i"
 	add	r0, sp, #80
 	bl	gcm.aes_cipher.zeroize.elements.zeroize_elements.2
 	bl	gcm.aes_cipher.zeroize.stack.wipe_stack.1536
@@ -10676,7 +10676,7 @@ gcm.fotsgure_gcm_begin_next:                @ @gcm.fotsgure_gcm_begin_next
 	rev	r0, r3
 	str	r4, [r7]
 	str	r0, [r2]
-.Lgcm_BB56_8:                               @ %"gcm::mode::BorrowedGcm::begin_next::<#298b253f892abaef>.exit.i.i"
+.Lgcm_BB56_8:                               @ %"gcm::mode::BorrowedGcm::begin_next::<#84a61a6dd6ff62d6>.exit.i.i"
 	add	r0, r1, #32
 	add	r2, sp, #48
 	str	r0, [sp]
@@ -11936,5 +11936,5 @@ gcm.fotsgure_gcm_siv_wipe:                  @ @gcm.fotsgure_gcm_siv_wipe
 	.long	9, 112, 1
 	.asciz	"Fotsgure"
 	.p2align	2, 0x0
-	.asciz	"fotsgure_gcm 0.4.0, arm/gcm.s, sources SHA-256 db4efa4f888708ad96d151eefb1002396829e2ae35d1e342eb44652688b2f0d0"
+	.asciz	"fotsgure_gcm 0.4.0, arm/gcm.s, sources SHA-256 c5580fd5c08fd1ce251de00bc68bbabc41e05f02470d0c531f44ab6d5c423d70"
 	.p2align	2, 0x0

@@ -2952,7 +2952,7 @@ gcm.aes_cipher.zeroize.stack.wipe_stack.768: # @gcm.aes_cipher.zeroize.stack.wip
 	.size	gcm.aes_cipher.zeroize.stack.wipe_stack.768, .Lgcm_func_end6-gcm.aes_cipher.zeroize.stack.wipe_stack.768
                                         # -- End function
 	.section	.text.gcm.gcm.mode.BorrowedGcm.put_pre_counter,"ax",@progbits
-	.p2align	1                               # -- Begin function gcm::mode::BorrowedGcm::put_pre_counter::<#56ef08599dd20827>
+	.p2align	1                               # -- Begin function gcm::mode::BorrowedGcm::put_pre_counter::<#c01aad2b5fbc92b1>
 	.type	gcm.gcm.mode.BorrowedGcm.put_pre_counter,@function
 gcm.gcm.mode.BorrowedGcm.put_pre_counter: # @gcm.gcm.mode.BorrowedGcm.put_pre_counter
 # %bb.0:                                # %start
@@ -3437,7 +3437,7 @@ gcm.gcm.bitwise.product_bitwise:        # @gcm.gcm.bitwise.product_bitwise
 	.size	gcm.gcm.bitwise.product_bitwise, .Lgcm_func_end9-gcm.gcm.bitwise.product_bitwise
                                         # -- End function
 	.section	.text.gcm.gcm.tags.hash_lengths,"ax",@progbits
-	.p2align	1                               # -- Begin function gcm::tags::hash_lengths::<#4ffbd79422221ed4>
+	.p2align	1                               # -- Begin function gcm::tags::hash_lengths::<#d9ba0fa9ccec4268>
 	.type	gcm.gcm.tags.hash_lengths,@function
 gcm.gcm.tags.hash_lengths: # @gcm.gcm.tags.hash_lengths
 # %bb.0:                                # %start
@@ -3593,7 +3593,7 @@ gcm.aes_cipher.zeroize.stack.wipe_stack.512: # @gcm.aes_cipher.zeroize.stack.wip
 	.size	gcm.aes_cipher.zeroize.stack.wipe_stack.512, .Lgcm_func_end11-gcm.aes_cipher.zeroize.stack.wipe_stack.512
                                         # -- End function
 	.section	.text.gcm.gcm.mode.BorrowedGcm.put_tag_so_far,"ax",@progbits
-	.p2align	1                               # -- Begin function gcm::mode::BorrowedGcm::put_tag_so_far::<#56ef08599dd20827>
+	.p2align	1                               # -- Begin function gcm::mode::BorrowedGcm::put_tag_so_far::<#c01aad2b5fbc92b1>
 	.type	gcm.gcm.mode.BorrowedGcm.put_tag_so_far,@function
 gcm.gcm.mode.BorrowedGcm.put_tag_so_far: # @gcm.gcm.mode.BorrowedGcm.put_tag_so_far
 # %bb.0:                                # %start
@@ -6789,7 +6789,7 @@ gcm.aes_cipher.zeroize.stack.wipe_stack.1024: # @gcm.aes_cipher.zeroize.stack.wi
 	.size	gcm.aes_cipher.zeroize.stack.wipe_stack.1024, .Lgcm_func_end16-gcm.aes_cipher.zeroize.stack.wipe_stack.1024
                                         # -- End function
 	.section	.text.gcm.gcm.mode.BorrowedGcm.hash_what_came,"ax",@progbits
-	.p2align	1                               # -- Begin function gcm::mode::BorrowedGcm::hash_what_came::<#56ef08599dd20827>
+	.p2align	1                               # -- Begin function gcm::mode::BorrowedGcm::hash_what_came::<#c01aad2b5fbc92b1>
 	.type	gcm.gcm.mode.BorrowedGcm.hash_what_came,@function
 gcm.gcm.mode.BorrowedGcm.hash_what_came: # @gcm.gcm.mode.BorrowedGcm.hash_what_came
 # %bb.0:                                # %start
@@ -6944,7 +6944,7 @@ gcm.gcm.mode.BorrowedGcm.hash_what_came: # @gcm.gcm.mode.BorrowedGcm.hash_what_c
 	.size	gcm.gcm.mode.BorrowedGcm.hash_what_came, .Lgcm_func_end17-gcm.gcm.mode.BorrowedGcm.hash_what_came
                                         # -- End function
 	.section	.text.gcm.gcm.mode.put_subkey,"ax",@progbits
-	.p2align	1                               # -- Begin function gcm::mode::put_subkey::<#56ef08599dd20827>
+	.p2align	1                               # -- Begin function gcm::mode::put_subkey::<#107cc7d9d0728059>
 	.type	gcm.gcm.mode.put_subkey,@function
 gcm.gcm.mode.put_subkey: # @gcm.gcm.mode.put_subkey
 # %bb.0:                                # %start
@@ -7053,7 +7053,7 @@ gcm.gcm.mode.put_subkey: # @gcm.gcm.mode.put_subkey
 	.size	gcm.gcm.mode.put_subkey, .Lgcm_func_end18-gcm.gcm.mode.put_subkey
                                         # -- End function
 	.section	.text.gcm.gcm.mode.BorrowedGcm.compare,"ax",@progbits
-	.p2align	1                               # -- Begin function gcm::mode::BorrowedGcm::compare::<#56ef08599dd20827>
+	.p2align	1                               # -- Begin function gcm::mode::BorrowedGcm::compare::<#c01aad2b5fbc92b1>
 	.type	gcm.gcm.mode.BorrowedGcm.compare,@function
 gcm.gcm.mode.BorrowedGcm.compare: # @gcm.gcm.mode.BorrowedGcm.compare
 # %bb.0:                                # %start
@@ -7119,7 +7119,7 @@ gcm.gcm.mode.BorrowedGcm.compare: # @gcm.gcm.mode.BorrowedGcm.compare
 	.size	gcm.gcm.mode.BorrowedGcm.compare, .Lgcm_func_end19-gcm.gcm.mode.BorrowedGcm.compare
                                         # -- End function
 	.section	.text.gcm.gcm.mode.BorrowedGcm.put_tag,"ax",@progbits
-	.p2align	1                               # -- Begin function gcm::mode::BorrowedGcm::put_tag::<#56ef08599dd20827>
+	.p2align	1                               # -- Begin function gcm::mode::BorrowedGcm::put_tag::<#c01aad2b5fbc92b1>
 	.type	gcm.gcm.mode.BorrowedGcm.put_tag,@function
 gcm.gcm.mode.BorrowedGcm.put_tag: # @gcm.gcm.mode.BorrowedGcm.put_tag
 # %bb.0:                                # %start
@@ -9017,7 +9017,7 @@ gcm.gcm_c.whole_to.copy:                # @gcm.gcm_c.whole_to.copy
 	.size	gcm.gcm_c.whole_to.copy, .Lgcm_func_end28-gcm.gcm_c.whole_to.copy
                                         # -- End function
 	.section	.text.gcm.gcm_c.siv.open_in,"ax",@progbits
-	.p2align	1                               # -- Begin function gcm_c::siv::open_in::<#44523ceb9187f596>
+	.p2align	1                               # -- Begin function gcm_c::siv::open_in::<#6c5a95c66ef7471a>
 	.type	gcm.gcm_c.siv.open_in,@function
 gcm.gcm_c.siv.open_in: # @gcm.gcm_c.siv.open_in
 # %bb.0:                                # %start
@@ -9101,7 +9101,7 @@ gcm.gcm_c.siv.open_in: # @gcm.gcm_c.siv.open_in
 	.size	gcm.gcm_c.siv.open_in, .Lgcm_func_end29-gcm.gcm_c.siv.open_in
                                         # -- End function
 	.section	.text.gcm.gcm_c.siv.prepare,"ax",@progbits
-	.p2align	1                               # -- Begin function gcm_c::siv::prepare::<#44523ceb9187f596>
+	.p2align	1                               # -- Begin function gcm_c::siv::prepare::<#6c5a95c66ef7471a>
 	.type	gcm.gcm_c.siv.prepare,@function
 gcm.gcm_c.siv.prepare: # @gcm.gcm_c.siv.prepare
 # %bb.0:                                # %start
@@ -9282,7 +9282,7 @@ gcm.gcm_c.siv.prepare: # @gcm.gcm_c.siv.prepare
 	.size	gcm.gcm_c.siv.prepare, .Lgcm_func_end30-gcm.gcm_c.siv.prepare
                                         # -- End function
 	.section	.text.gcm.gcm_siv.message.open,"ax",@progbits
-	.p2align	1                               # -- Begin function gcm_siv::message::open::<#f0567fcc0c8b4561>
+	.p2align	1                               # -- Begin function gcm_siv::message::open::<#fe07397204778e73>
 	.type	gcm.gcm_siv.message.open,@function
 gcm.gcm_siv.message.open: # @gcm.gcm_siv.message.open
 # %bb.0:                                # %start
@@ -9821,7 +9821,7 @@ gcm.gcm_siv.message.open: # @gcm.gcm_siv.message.open
 	.size	gcm.gcm_siv.message.open, .Lgcm_func_end31-gcm.gcm_siv.message.open
                                         # -- End function
 	.section	.text.gcm.gcm_siv.message.put_tag,"ax",@progbits
-	.p2align	1                               # -- Begin function gcm_siv::message::put_tag::<#f0567fcc0c8b4561>
+	.p2align	1                               # -- Begin function gcm_siv::message::put_tag::<#fe07397204778e73>
 	.type	gcm.gcm_siv.message.put_tag,@function
 gcm.gcm_siv.message.put_tag: # @gcm.gcm_siv.message.put_tag
 # %bb.0:                                # %start
@@ -11046,7 +11046,7 @@ gcm.aes_cipher.zeroize.stack.wipe_stack.2816: # @gcm.aes_cipher.zeroize.stack.wi
 	.size	gcm.aes_cipher.zeroize.stack.wipe_stack.2816, .Lgcm_func_end37-gcm.aes_cipher.zeroize.stack.wipe_stack.2816
                                         # -- End function
 	.section	.text.gcm.gcm_c.siv.seal_in,"ax",@progbits
-	.p2align	1                               # -- Begin function gcm_c::siv::seal_in::<#44523ceb9187f596>
+	.p2align	1                               # -- Begin function gcm_c::siv::seal_in::<#6c5a95c66ef7471a>
 	.type	gcm.gcm_c.siv.seal_in,@function
 gcm.gcm_c.siv.seal_in: # @gcm.gcm_c.siv.seal_in
 # %bb.0:                                # %start
@@ -11136,7 +11136,7 @@ gcm.gcm_c.siv.seal_in: # @gcm.gcm_c.siv.seal_in
 	.size	gcm.gcm_c.siv.seal_in, .Lgcm_func_end38-gcm.gcm_c.siv.seal_in
                                         # -- End function
 	.section	.text.gcm.gcm_siv.message.seal,"ax",@progbits
-	.p2align	1                               # -- Begin function gcm_siv::message::seal::<#f0567fcc0c8b4561>
+	.p2align	1                               # -- Begin function gcm_siv::message::seal::<#fe07397204778e73>
 	.type	gcm.gcm_siv.message.seal,@function
 gcm.gcm_siv.message.seal: # @gcm.gcm_siv.message.seal
 # %bb.0:                                # %start
@@ -11425,7 +11425,7 @@ gcm.gcm_siv.message.seal: # @gcm.gcm_siv.message.seal
 	.size	gcm.gcm_siv.message.seal, .Lgcm_func_end39-gcm.gcm_siv.message.seal
                                         # -- End function
 	.section	.text.gcm.gcm.hash_room.hash_piece,"ax",@progbits
-	.p2align	1                               # -- Begin function gcm::hash_room::hash_piece::<#4ffbd79422221ed4>
+	.p2align	1                               # -- Begin function gcm::hash_room::hash_piece::<#d9ba0fa9ccec4268>
 	.type	gcm.gcm.hash_room.hash_piece,@function
 gcm.gcm.hash_room.hash_piece: # @gcm.gcm.hash_room.hash_piece
 # %bb.0:                                # %start
@@ -11844,7 +11844,7 @@ gcm.gcm.hash_room.hash_piece: # @gcm.gcm.hash_room.hash_piece
 	.size	gcm.gcm.hash_room.hash_piece, .Lgcm_func_end40-gcm.gcm.hash_room.hash_piece
                                         # -- End function
 	.section	.text.gcm.gcm.mode.BorrowedGcm.turn_to,"ax",@progbits
-	.p2align	1                               # -- Begin function gcm::mode::BorrowedGcm::turn_to::<#56ef08599dd20827>
+	.p2align	1                               # -- Begin function gcm::mode::BorrowedGcm::turn_to::<#c01aad2b5fbc92b1>
 	.type	gcm.gcm.mode.BorrowedGcm.turn_to,@function
 gcm.gcm.mode.BorrowedGcm.turn_to: # @gcm.gcm.mode.BorrowedGcm.turn_to
 # %bb.0:                                # %start
@@ -11975,7 +11975,7 @@ gcm.gcm.mode.BorrowedGcm.turn_to: # @gcm.gcm.mode.BorrowedGcm.turn_to
 	.size	gcm.gcm.mode.BorrowedGcm.turn_to, .Lgcm_func_end41-gcm.gcm.mode.BorrowedGcm.turn_to
                                         # -- End function
 	.section	.text.gcm.gcm.mode.BorrowedGcm.is_tag_so_far,"ax",@progbits
-	.p2align	1                               # -- Begin function gcm::mode::BorrowedGcm::is_tag_so_far::<#56ef08599dd20827>
+	.p2align	1                               # -- Begin function gcm::mode::BorrowedGcm::is_tag_so_far::<#c01aad2b5fbc92b1>
 	.type	gcm.gcm.mode.BorrowedGcm.is_tag_so_far,@function
 gcm.gcm.mode.BorrowedGcm.is_tag_so_far: # @gcm.gcm.mode.BorrowedGcm.is_tag_so_far
 # %bb.0:                                # %start
@@ -12000,7 +12000,7 @@ gcm.gcm.mode.BorrowedGcm.is_tag_so_far: # @gcm.gcm.mode.BorrowedGcm.is_tag_so_fa
 	.size	gcm.gcm.mode.BorrowedGcm.is_tag_so_far, .Lgcm_func_end42-gcm.gcm.mode.BorrowedGcm.is_tag_so_far
                                         # -- End function
 	.section	.text.gcm.gcm.mode.BorrowedGcm.is_short_tag_so_far,"ax",@progbits
-	.p2align	1                               # -- Begin function gcm::mode::BorrowedGcm::is_short_tag_so_far::<#56ef08599dd20827>
+	.p2align	1                               # -- Begin function gcm::mode::BorrowedGcm::is_short_tag_so_far::<#c01aad2b5fbc92b1>
 	.type	gcm.gcm.mode.BorrowedGcm.is_short_tag_so_far,@function
 gcm.gcm.mode.BorrowedGcm.is_short_tag_so_far: # @gcm.gcm.mode.BorrowedGcm.is_short_tag_so_far
 # %bb.0:                                # %start
@@ -12848,7 +12848,7 @@ gcm.fotsgure_gcm_open:                      # @gcm.fotsgure_gcm_open
 	li	a6, 0
 	call	gcm.gcm.gctr.add_gctr
 	li	s0, 0
-.Lgcm_BB52_9:                               # %"gcm::mode::BorrowedGcm::decrypt::<#56ef08599dd20827>.exit.i.i"
+.Lgcm_BB52_9:                               # %"gcm::mode::BorrowedGcm::decrypt::<#c01aad2b5fbc92b1>.exit.i.i"
 	addi	a0, sp, 44
 	call	gcm.aes_cipher.zeroize.elements.zeroize_elements.3
 	call	gcm.aes_cipher.zeroize.stack.wipe_stack.1536
@@ -13073,7 +13073,7 @@ gcm.fotsgure_gcm_open_to:                   # @gcm.fotsgure_gcm_open_to
 	li	a6, 0
 	call	gcm.gcm.gctr.add_gctr
 	li	s0, 0
-.Lgcm_BB53_20:                              # %"gcm::mode::BorrowedGcm::decrypt_to::<#56ef08599dd20827>.exit.i.i"
+.Lgcm_BB53_20:                              # %"gcm::mode::BorrowedGcm::decrypt_to::<#c01aad2b5fbc92b1>.exit.i.i"
 	addi	a0, sp, 40
 	call	gcm.aes_cipher.zeroize.elements.zeroize_elements.3
 	call	gcm.aes_cipher.zeroize.stack.wipe_stack.1536
@@ -13374,7 +13374,7 @@ gcm.fotsgure_gcm_begin_next:                # @gcm.fotsgure_gcm_begin_next
 	sb	a5, 9(a2)
 	sb	s0, 10(a2)
 	sb	t5, 11(a2)
-.Lgcm_BB55_10:                              # %"gcm::mode::BorrowedGcm::begin_next::<#56ef08599dd20827>.exit.i.i"
+.Lgcm_BB55_10:                              # %"gcm::mode::BorrowedGcm::begin_next::<#c01aad2b5fbc92b1>.exit.i.i"
 	sw	t1, 52(sp)
 	sw	t0, 56(sp)
 	sw	a6, 60(sp)
@@ -15099,5 +15099,5 @@ gcm.fotsgure_gcm_siv_wipe:                  # @gcm.fotsgure_gcm_siv_wipe
 	.long	9, 116, 1
 	.asciz	"Fotsgure"
 	.p2align	2, 0x0
-	.asciz	"fotsgure_gcm 0.4.0, riscv32/gcm.s, sources SHA-256 db4efa4f888708ad96d151eefb1002396829e2ae35d1e342eb44652688b2f0d0"
+	.asciz	"fotsgure_gcm 0.4.0, riscv32/gcm.s, sources SHA-256 c5580fd5c08fd1ce251de00bc68bbabc41e05f02470d0c531f44ab6d5c423d70"
 	.p2align	2, 0x0

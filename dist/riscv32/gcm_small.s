@@ -3042,7 +3042,7 @@ gcm_small.aes_cipher.zeroize.stack.wipe_stack.768: # @gcm_small.aes_cipher.zeroi
 	.size	gcm_small.aes_cipher.zeroize.stack.wipe_stack.768, .Lgcm_small_func_end25-gcm_small.aes_cipher.zeroize.stack.wipe_stack.768
                                         # -- End function
 	.section	.text.gcm_small.gcm.mode.BorrowedGcm.put_pre_counter,"ax",@progbits
-	.p2align	1                               # -- Begin function gcm::mode::BorrowedGcm::put_pre_counter::<#56ef08599dd20827>
+	.p2align	1                               # -- Begin function gcm::mode::BorrowedGcm::put_pre_counter::<#c01aad2b5fbc92b1>
 	.type	gcm_small.gcm.mode.BorrowedGcm.put_pre_counter,@function
 gcm_small.gcm.mode.BorrowedGcm.put_pre_counter: # @gcm_small.gcm.mode.BorrowedGcm.put_pre_counter
 # %bb.0:                                # %start
@@ -3537,7 +3537,7 @@ gcm_small.gcm.bitwise.product_bitwise:        # @gcm_small.gcm.bitwise.product_b
 	.size	gcm_small.gcm.bitwise.product_bitwise, .Lgcm_small_func_end28-gcm_small.gcm.bitwise.product_bitwise
                                         # -- End function
 	.section	.text.gcm_small.gcm.tags.hash_lengths,"ax",@progbits
-	.p2align	1                               # -- Begin function gcm::tags::hash_lengths::<#4ffbd79422221ed4>
+	.p2align	1                               # -- Begin function gcm::tags::hash_lengths::<#d9ba0fa9ccec4268>
 	.type	gcm_small.gcm.tags.hash_lengths,@function
 gcm_small.gcm.tags.hash_lengths: # @gcm_small.gcm.tags.hash_lengths
 # %bb.0:                                # %start
@@ -3695,7 +3695,7 @@ gcm_small.aes_cipher.zeroize.stack.wipe_stack.512: # @gcm_small.aes_cipher.zeroi
 	.size	gcm_small.aes_cipher.zeroize.stack.wipe_stack.512, .Lgcm_small_func_end30-gcm_small.aes_cipher.zeroize.stack.wipe_stack.512
                                         # -- End function
 	.section	.text.gcm_small.gcm.mode.BorrowedGcm.put_tag_so_far,"ax",@progbits
-	.p2align	1                               # -- Begin function gcm::mode::BorrowedGcm::put_tag_so_far::<#56ef08599dd20827>
+	.p2align	1                               # -- Begin function gcm::mode::BorrowedGcm::put_tag_so_far::<#c01aad2b5fbc92b1>
 	.type	gcm_small.gcm.mode.BorrowedGcm.put_tag_so_far,@function
 gcm_small.gcm.mode.BorrowedGcm.put_tag_so_far: # @gcm_small.gcm.mode.BorrowedGcm.put_tag_so_far
 # %bb.0:                                # %start
@@ -5816,7 +5816,7 @@ gcm_small.aes_cipher.zeroize.stack.wipe_stack.1024: # @gcm_small.aes_cipher.zero
 	.size	gcm_small.aes_cipher.zeroize.stack.wipe_stack.1024, .Lgcm_small_func_end42-gcm_small.aes_cipher.zeroize.stack.wipe_stack.1024
                                         # -- End function
 	.section	.text.gcm_small.gcm.mode.BorrowedGcm.hash_what_came,"ax",@progbits
-	.p2align	1                               # -- Begin function gcm::mode::BorrowedGcm::hash_what_came::<#56ef08599dd20827>
+	.p2align	1                               # -- Begin function gcm::mode::BorrowedGcm::hash_what_came::<#c01aad2b5fbc92b1>
 	.type	gcm_small.gcm.mode.BorrowedGcm.hash_what_came,@function
 gcm_small.gcm.mode.BorrowedGcm.hash_what_came: # @gcm_small.gcm.mode.BorrowedGcm.hash_what_came
 # %bb.0:                                # %start
@@ -5978,7 +5978,7 @@ gcm_small.gcm.mode.BorrowedGcm.hash_what_came: # @gcm_small.gcm.mode.BorrowedGcm
 	.size	gcm_small.gcm.mode.BorrowedGcm.hash_what_came, .Lgcm_small_func_end43-gcm_small.gcm.mode.BorrowedGcm.hash_what_came
                                         # -- End function
 	.section	.text.gcm_small.gcm.mode.put_subkey,"ax",@progbits
-	.p2align	1                               # -- Begin function gcm::mode::put_subkey::<#56ef08599dd20827>
+	.p2align	1                               # -- Begin function gcm::mode::put_subkey::<#107cc7d9d0728059>
 	.type	gcm_small.gcm.mode.put_subkey,@function
 gcm_small.gcm.mode.put_subkey: # @gcm_small.gcm.mode.put_subkey
 # %bb.0:                                # %start
@@ -6117,7 +6117,7 @@ gcm_small.gcm.mode.put_subkey: # @gcm_small.gcm.mode.put_subkey
 	.size	gcm_small.gcm.mode.put_subkey, .Lgcm_small_func_end44-gcm_small.gcm.mode.put_subkey
                                         # -- End function
 	.section	.text.gcm_small.gcm.mode.BorrowedGcm.compare,"ax",@progbits
-	.p2align	1                               # -- Begin function gcm::mode::BorrowedGcm::compare::<#56ef08599dd20827>
+	.p2align	1                               # -- Begin function gcm::mode::BorrowedGcm::compare::<#c01aad2b5fbc92b1>
 	.type	gcm_small.gcm.mode.BorrowedGcm.compare,@function
 gcm_small.gcm.mode.BorrowedGcm.compare: # @gcm_small.gcm.mode.BorrowedGcm.compare
 # %bb.0:                                # %start
@@ -6183,7 +6183,7 @@ gcm_small.gcm.mode.BorrowedGcm.compare: # @gcm_small.gcm.mode.BorrowedGcm.compar
 	.size	gcm_small.gcm.mode.BorrowedGcm.compare, .Lgcm_small_func_end45-gcm_small.gcm.mode.BorrowedGcm.compare
                                         # -- End function
 	.section	.text.gcm_small.gcm.mode.BorrowedGcm.put_tag,"ax",@progbits
-	.p2align	1                               # -- Begin function gcm::mode::BorrowedGcm::put_tag::<#56ef08599dd20827>
+	.p2align	1                               # -- Begin function gcm::mode::BorrowedGcm::put_tag::<#c01aad2b5fbc92b1>
 	.type	gcm_small.gcm.mode.BorrowedGcm.put_tag,@function
 gcm_small.gcm.mode.BorrowedGcm.put_tag: # @gcm_small.gcm.mode.BorrowedGcm.put_tag
 # %bb.0:                                # %start
@@ -7945,7 +7945,7 @@ gcm_small.gcm_c.whole_to.copy:                # @gcm_small.gcm_c.whole_to.copy
 	.size	gcm_small.gcm_c.whole_to.copy, .Lgcm_small_func_end59-gcm_small.gcm_c.whole_to.copy
                                         # -- End function
 	.section	.text.gcm_small.gcm_c.siv.open_in,"ax",@progbits
-	.p2align	1                               # -- Begin function gcm_c::siv::open_in::<#44523ceb9187f596>
+	.p2align	1                               # -- Begin function gcm_c::siv::open_in::<#6c5a95c66ef7471a>
 	.type	gcm_small.gcm_c.siv.open_in,@function
 gcm_small.gcm_c.siv.open_in: # @gcm_small.gcm_c.siv.open_in
 # %bb.0:                                # %start
@@ -8029,7 +8029,7 @@ gcm_small.gcm_c.siv.open_in: # @gcm_small.gcm_c.siv.open_in
 	.size	gcm_small.gcm_c.siv.open_in, .Lgcm_small_func_end60-gcm_small.gcm_c.siv.open_in
                                         # -- End function
 	.section	.text.gcm_small.gcm_c.siv.prepare,"ax",@progbits
-	.p2align	1                               # -- Begin function gcm_c::siv::prepare::<#44523ceb9187f596>
+	.p2align	1                               # -- Begin function gcm_c::siv::prepare::<#6c5a95c66ef7471a>
 	.type	gcm_small.gcm_c.siv.prepare,@function
 gcm_small.gcm_c.siv.prepare: # @gcm_small.gcm_c.siv.prepare
 # %bb.0:                                # %start
@@ -8210,7 +8210,7 @@ gcm_small.gcm_c.siv.prepare: # @gcm_small.gcm_c.siv.prepare
 	.size	gcm_small.gcm_c.siv.prepare, .Lgcm_small_func_end61-gcm_small.gcm_c.siv.prepare
                                         # -- End function
 	.section	.text.gcm_small.gcm_siv.message.open,"ax",@progbits
-	.p2align	1                               # -- Begin function gcm_siv::message::open::<#f0567fcc0c8b4561>
+	.p2align	1                               # -- Begin function gcm_siv::message::open::<#fe07397204778e73>
 	.type	gcm_small.gcm_siv.message.open,@function
 gcm_small.gcm_siv.message.open: # @gcm_small.gcm_siv.message.open
 # %bb.0:                                # %start
@@ -8474,7 +8474,7 @@ gcm_small.gcm_siv.message.open: # @gcm_small.gcm_siv.message.open
 	.size	gcm_small.gcm_siv.message.open, .Lgcm_small_func_end62-gcm_small.gcm_siv.message.open
                                         # -- End function
 	.section	.text.gcm_small.gcm_siv.message.put_tag,"ax",@progbits
-	.p2align	1                               # -- Begin function gcm_siv::message::put_tag::<#f0567fcc0c8b4561>
+	.p2align	1                               # -- Begin function gcm_siv::message::put_tag::<#fe07397204778e73>
 	.type	gcm_small.gcm_siv.message.put_tag,@function
 gcm_small.gcm_siv.message.put_tag: # @gcm_small.gcm_siv.message.put_tag
 # %bb.0:                                # %start
@@ -9667,7 +9667,7 @@ gcm_small.aes_cipher.zeroize.stack.wipe_stack.2816: # @gcm_small.aes_cipher.zero
 	.size	gcm_small.aes_cipher.zeroize.stack.wipe_stack.2816, .Lgcm_small_func_end71-gcm_small.aes_cipher.zeroize.stack.wipe_stack.2816
                                         # -- End function
 	.section	.text.gcm_small.gcm_c.siv.seal_in,"ax",@progbits
-	.p2align	1                               # -- Begin function gcm_c::siv::seal_in::<#44523ceb9187f596>
+	.p2align	1                               # -- Begin function gcm_c::siv::seal_in::<#6c5a95c66ef7471a>
 	.type	gcm_small.gcm_c.siv.seal_in,@function
 gcm_small.gcm_c.siv.seal_in: # @gcm_small.gcm_c.siv.seal_in
 # %bb.0:                                # %start
@@ -9753,7 +9753,7 @@ gcm_small.gcm_c.siv.seal_in: # @gcm_small.gcm_c.siv.seal_in
 	.size	gcm_small.gcm_c.siv.seal_in, .Lgcm_small_func_end72-gcm_small.gcm_c.siv.seal_in
                                         # -- End function
 	.section	.text.gcm_small.gcm_siv.message.seal,"ax",@progbits
-	.p2align	1                               # -- Begin function gcm_siv::message::seal::<#f0567fcc0c8b4561>
+	.p2align	1                               # -- Begin function gcm_siv::message::seal::<#fe07397204778e73>
 	.type	gcm_small.gcm_siv.message.seal,@function
 gcm_small.gcm_siv.message.seal: # @gcm_small.gcm_siv.message.seal
 # %bb.0:                                # %start
@@ -9900,7 +9900,7 @@ gcm_small.gcm_siv.message.seal: # @gcm_small.gcm_siv.message.seal
 	.size	gcm_small.gcm_siv.message.seal, .Lgcm_small_func_end73-gcm_small.gcm_siv.message.seal
                                         # -- End function
 	.section	.text.gcm_small.gcm.hash_room.hash_piece,"ax",@progbits
-	.p2align	1                               # -- Begin function gcm::hash_room::hash_piece::<#4ffbd79422221ed4>
+	.p2align	1                               # -- Begin function gcm::hash_room::hash_piece::<#d9ba0fa9ccec4268>
 	.type	gcm_small.gcm.hash_room.hash_piece,@function
 gcm_small.gcm.hash_room.hash_piece: # @gcm_small.gcm.hash_room.hash_piece
 # %bb.0:                                # %start
@@ -10318,7 +10318,7 @@ gcm_small.gcm.hash_room.hash_piece: # @gcm_small.gcm.hash_room.hash_piece
 	.size	gcm_small.gcm.hash_room.hash_piece, .Lgcm_small_func_end74-gcm_small.gcm.hash_room.hash_piece
                                         # -- End function
 	.section	.text.gcm_small.gcm.mode.BorrowedGcm.turn_to,"ax",@progbits
-	.p2align	1                               # -- Begin function gcm::mode::BorrowedGcm::turn_to::<#56ef08599dd20827>
+	.p2align	1                               # -- Begin function gcm::mode::BorrowedGcm::turn_to::<#c01aad2b5fbc92b1>
 	.type	gcm_small.gcm.mode.BorrowedGcm.turn_to,@function
 gcm_small.gcm.mode.BorrowedGcm.turn_to: # @gcm_small.gcm.mode.BorrowedGcm.turn_to
 # %bb.0:                                # %start
@@ -10448,7 +10448,7 @@ gcm_small.gcm.mode.BorrowedGcm.turn_to: # @gcm_small.gcm.mode.BorrowedGcm.turn_t
 	.size	gcm_small.gcm.mode.BorrowedGcm.turn_to, .Lgcm_small_func_end75-gcm_small.gcm.mode.BorrowedGcm.turn_to
                                         # -- End function
 	.section	.text.gcm_small.gcm.mode.BorrowedGcm.is_tag_so_far,"ax",@progbits
-	.p2align	1                               # -- Begin function gcm::mode::BorrowedGcm::is_tag_so_far::<#56ef08599dd20827>
+	.p2align	1                               # -- Begin function gcm::mode::BorrowedGcm::is_tag_so_far::<#c01aad2b5fbc92b1>
 	.type	gcm_small.gcm.mode.BorrowedGcm.is_tag_so_far,@function
 gcm_small.gcm.mode.BorrowedGcm.is_tag_so_far: # @gcm_small.gcm.mode.BorrowedGcm.is_tag_so_far
 # %bb.0:                                # %start
@@ -10473,7 +10473,7 @@ gcm_small.gcm.mode.BorrowedGcm.is_tag_so_far: # @gcm_small.gcm.mode.BorrowedGcm.
 	.size	gcm_small.gcm.mode.BorrowedGcm.is_tag_so_far, .Lgcm_small_func_end76-gcm_small.gcm.mode.BorrowedGcm.is_tag_so_far
                                         # -- End function
 	.section	.text.gcm_small.gcm.mode.BorrowedGcm.is_short_tag_so_far,"ax",@progbits
-	.p2align	1                               # -- Begin function gcm::mode::BorrowedGcm::is_short_tag_so_far::<#56ef08599dd20827>
+	.p2align	1                               # -- Begin function gcm::mode::BorrowedGcm::is_short_tag_so_far::<#c01aad2b5fbc92b1>
 	.type	gcm_small.gcm.mode.BorrowedGcm.is_short_tag_so_far,@function
 gcm_small.gcm.mode.BorrowedGcm.is_short_tag_so_far: # @gcm_small.gcm.mode.BorrowedGcm.is_short_tag_so_far
 # %bb.0:                                # %start
@@ -11309,7 +11309,7 @@ gcm_small.fotsgure_gcm_open:                      # @gcm_small.fotsgure_gcm_open
 	li	a6, 0
 	call	gcm_small.gcm.gctr.add_gctr
 	li	s0, 0
-.Lgcm_small_BB86_9:                               # %"gcm::mode::BorrowedGcm::decrypt::<#56ef08599dd20827>.exit.i.i"
+.Lgcm_small_BB86_9:                               # %"gcm::mode::BorrowedGcm::decrypt::<#c01aad2b5fbc92b1>.exit.i.i"
 	addi	a0, sp, 44
 	call	gcm_small.aes_cipher.zeroize.elements.zeroize_elements.3
 	call	gcm_small.aes_cipher.zeroize.stack.wipe_stack.1536
@@ -11534,7 +11534,7 @@ gcm_small.fotsgure_gcm_open_to:                   # @gcm_small.fotsgure_gcm_open
 	li	a6, 0
 	call	gcm_small.gcm.gctr.add_gctr
 	li	s0, 0
-.Lgcm_small_BB87_20:                              # %"gcm::mode::BorrowedGcm::decrypt_to::<#56ef08599dd20827>.exit.i.i"
+.Lgcm_small_BB87_20:                              # %"gcm::mode::BorrowedGcm::decrypt_to::<#c01aad2b5fbc92b1>.exit.i.i"
 	addi	a0, sp, 40
 	call	gcm_small.aes_cipher.zeroize.elements.zeroize_elements.3
 	call	gcm_small.aes_cipher.zeroize.stack.wipe_stack.1536
@@ -11841,7 +11841,7 @@ gcm_small.fotsgure_gcm_begin_next:                # @gcm_small.fotsgure_gcm_begi
 	sb	a4, 9(a2)
 	sb	a5, 10(a2)
 	sb	t5, 11(a2)
-.Lgcm_small_BB89_9:                               # %"gcm::mode::BorrowedGcm::begin_next::<#56ef08599dd20827>.exit.i.i"
+.Lgcm_small_BB89_9:                               # %"gcm::mode::BorrowedGcm::begin_next::<#c01aad2b5fbc92b1>.exit.i.i"
 	sw	t1, 52(sp)
 	sw	t0, 56(sp)
 	sw	a6, 60(sp)
@@ -13423,5 +13423,5 @@ gcm_small.fotsgure_gcm_siv_wipe:                  # @gcm_small.fotsgure_gcm_siv_
 	.long	9, 122, 1
 	.asciz	"Fotsgure"
 	.p2align	2, 0x0
-	.asciz	"fotsgure_gcm 0.4.0, riscv32/gcm_small.s, sources SHA-256 db4efa4f888708ad96d151eefb1002396829e2ae35d1e342eb44652688b2f0d0"
+	.asciz	"fotsgure_gcm 0.4.0, riscv32/gcm_small.s, sources SHA-256 c5580fd5c08fd1ce251de00bc68bbabc41e05f02470d0c531f44ab6d5c423d70"
 	.p2align	2, 0x0

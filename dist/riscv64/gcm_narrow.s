@@ -2949,7 +2949,7 @@ gcm_narrow.aes_cipher.zeroize.stack.wipe_stack.768: # @gcm_narrow.aes_cipher.zer
 	.size	gcm_narrow.aes_cipher.zeroize.stack.wipe_stack.768, .Lgcm_narrow_func_end5-gcm_narrow.aes_cipher.zeroize.stack.wipe_stack.768
                                         # -- End function
 	.section	.text.gcm_narrow.gcm.mode.BorrowedGcm.put_pre_counter,"ax",@progbits
-	.p2align	1                               # -- Begin function gcm::mode::BorrowedGcm::put_pre_counter::<#b27de607c35b93bc>
+	.p2align	1                               # -- Begin function gcm::mode::BorrowedGcm::put_pre_counter::<#5079162aaf335e50>
 	.type	gcm_narrow.gcm.mode.BorrowedGcm.put_pre_counter,@function
 gcm_narrow.gcm.mode.BorrowedGcm.put_pre_counter: # @gcm_narrow.gcm.mode.BorrowedGcm.put_pre_counter
 # %bb.0:                                # %start
@@ -3522,7 +3522,7 @@ gcm_narrow.aes_cipher.zeroize.stack.wipe_stack.512: # @gcm_narrow.aes_cipher.zer
 	.size	gcm_narrow.aes_cipher.zeroize.stack.wipe_stack.512, .Lgcm_narrow_func_end9-gcm_narrow.aes_cipher.zeroize.stack.wipe_stack.512
                                         # -- End function
 	.section	.text.gcm_narrow.gcm.mode.BorrowedGcm.put_tag_so_far,"ax",@progbits
-	.p2align	1                               # -- Begin function gcm::mode::BorrowedGcm::put_tag_so_far::<#b27de607c35b93bc>
+	.p2align	1                               # -- Begin function gcm::mode::BorrowedGcm::put_tag_so_far::<#5079162aaf335e50>
 	.type	gcm_narrow.gcm.mode.BorrowedGcm.put_tag_so_far,@function
 gcm_narrow.gcm.mode.BorrowedGcm.put_tag_so_far: # @gcm_narrow.gcm.mode.BorrowedGcm.put_tag_so_far
 # %bb.0:                                # %start
@@ -7315,7 +7315,7 @@ gcm_narrow.aes_cipher.zeroize.stack.wipe_stack.1024: # @gcm_narrow.aes_cipher.ze
 	.size	gcm_narrow.aes_cipher.zeroize.stack.wipe_stack.1024, .Lgcm_narrow_func_end14-gcm_narrow.aes_cipher.zeroize.stack.wipe_stack.1024
                                         # -- End function
 	.section	.text.gcm_narrow.gcm.mode.BorrowedGcm.hash_what_came,"ax",@progbits
-	.p2align	1                               # -- Begin function gcm::mode::BorrowedGcm::hash_what_came::<#b27de607c35b93bc>
+	.p2align	1                               # -- Begin function gcm::mode::BorrowedGcm::hash_what_came::<#5079162aaf335e50>
 	.type	gcm_narrow.gcm.mode.BorrowedGcm.hash_what_came,@function
 gcm_narrow.gcm.mode.BorrowedGcm.hash_what_came: # @gcm_narrow.gcm.mode.BorrowedGcm.hash_what_came
 # %bb.0:                                # %start
@@ -7494,7 +7494,7 @@ gcm_narrow.gcm.mode.BorrowedGcm.hash_what_came: # @gcm_narrow.gcm.mode.BorrowedG
 	.size	gcm_narrow.gcm.mode.BorrowedGcm.hash_what_came, .Lgcm_narrow_func_end15-gcm_narrow.gcm.mode.BorrowedGcm.hash_what_came
                                         # -- End function
 	.section	.text.gcm_narrow.gcm.mode.put_subkey,"ax",@progbits
-	.p2align	1                               # -- Begin function gcm::mode::put_subkey::<#b27de607c35b93bc>
+	.p2align	1                               # -- Begin function gcm::mode::put_subkey::<#f0e9a353bb1559fc>
 	.type	gcm_narrow.gcm.mode.put_subkey,@function
 gcm_narrow.gcm.mode.put_subkey: # @gcm_narrow.gcm.mode.put_subkey
 # %bb.0:                                # %start
@@ -7552,7 +7552,7 @@ gcm_narrow.gcm.mode.put_subkey: # @gcm_narrow.gcm.mode.put_subkey
 	.size	gcm_narrow.gcm.mode.put_subkey, .Lgcm_narrow_func_end16-gcm_narrow.gcm.mode.put_subkey
                                         # -- End function
 	.section	.text.gcm_narrow.gcm.mode.BorrowedGcm.compare,"ax",@progbits
-	.p2align	1                               # -- Begin function gcm::mode::BorrowedGcm::compare::<#b27de607c35b93bc>
+	.p2align	1                               # -- Begin function gcm::mode::BorrowedGcm::compare::<#5079162aaf335e50>
 	.type	gcm_narrow.gcm.mode.BorrowedGcm.compare,@function
 gcm_narrow.gcm.mode.BorrowedGcm.compare: # @gcm_narrow.gcm.mode.BorrowedGcm.compare
 # %bb.0:                                # %start
@@ -7623,7 +7623,7 @@ gcm_narrow.gcm.mode.BorrowedGcm.compare: # @gcm_narrow.gcm.mode.BorrowedGcm.comp
 	.size	gcm_narrow.gcm.mode.BorrowedGcm.compare, .Lgcm_narrow_func_end17-gcm_narrow.gcm.mode.BorrowedGcm.compare
                                         # -- End function
 	.section	.text.gcm_narrow.gcm.mode.BorrowedGcm.put_tag,"ax",@progbits
-	.p2align	1                               # -- Begin function gcm::mode::BorrowedGcm::put_tag::<#b27de607c35b93bc>
+	.p2align	1                               # -- Begin function gcm::mode::BorrowedGcm::put_tag::<#5079162aaf335e50>
 	.type	gcm_narrow.gcm.mode.BorrowedGcm.put_tag,@function
 gcm_narrow.gcm.mode.BorrowedGcm.put_tag: # @gcm_narrow.gcm.mode.BorrowedGcm.put_tag
 # %bb.0:                                # %start
@@ -9632,7 +9632,7 @@ gcm_narrow.gcm_c.whole_to.copy:                # @gcm_narrow.gcm_c.whole_to.copy
 	.size	gcm_narrow.gcm_c.whole_to.copy, .Lgcm_narrow_func_end26-gcm_narrow.gcm_c.whole_to.copy
                                         # -- End function
 	.section	.text.gcm_narrow.gcm_c.siv.open_in,"ax",@progbits
-	.p2align	1                               # -- Begin function gcm_c::siv::open_in::<#44523ceb9187f596>
+	.p2align	1                               # -- Begin function gcm_c::siv::open_in::<#6c5a95c66ef7471a>
 	.type	gcm_narrow.gcm_c.siv.open_in,@function
 gcm_narrow.gcm_c.siv.open_in: # @gcm_narrow.gcm_c.siv.open_in
 # %bb.0:                                # %start
@@ -9703,7 +9703,7 @@ gcm_narrow.gcm_c.siv.open_in: # @gcm_narrow.gcm_c.siv.open_in
 	.size	gcm_narrow.gcm_c.siv.open_in, .Lgcm_narrow_func_end27-gcm_narrow.gcm_c.siv.open_in
                                         # -- End function
 	.section	.text.gcm_narrow.gcm_c.siv.prepare,"ax",@progbits
-	.p2align	1                               # -- Begin function gcm_c::siv::prepare::<#44523ceb9187f596>
+	.p2align	1                               # -- Begin function gcm_c::siv::prepare::<#6c5a95c66ef7471a>
 	.type	gcm_narrow.gcm_c.siv.prepare,@function
 gcm_narrow.gcm_c.siv.prepare: # @gcm_narrow.gcm_c.siv.prepare
 # %bb.0:                                # %start
@@ -9883,7 +9883,7 @@ gcm_narrow.gcm_c.siv.prepare: # @gcm_narrow.gcm_c.siv.prepare
 	.size	gcm_narrow.gcm_c.siv.prepare, .Lgcm_narrow_func_end28-gcm_narrow.gcm_c.siv.prepare
                                         # -- End function
 	.section	.text.gcm_narrow.gcm_siv.message.open,"ax",@progbits
-	.p2align	1                               # -- Begin function gcm_siv::message::open::<#cd33d7546ba60dde>
+	.p2align	1                               # -- Begin function gcm_siv::message::open::<#f78d54da9e39c0a2>
 	.type	gcm_narrow.gcm_siv.message.open,@function
 gcm_narrow.gcm_siv.message.open: # @gcm_narrow.gcm_siv.message.open
 # %bb.0:                                # %start
@@ -10432,7 +10432,7 @@ gcm_narrow.gcm_siv.message.open: # @gcm_narrow.gcm_siv.message.open
 	.size	gcm_narrow.gcm_siv.message.open, .Lgcm_narrow_func_end29-gcm_narrow.gcm_siv.message.open
                                         # -- End function
 	.section	.text.gcm_narrow.gcm_siv.message.put_tag,"ax",@progbits
-	.p2align	1                               # -- Begin function gcm_siv::message::put_tag::<#cd33d7546ba60dde>
+	.p2align	1                               # -- Begin function gcm_siv::message::put_tag::<#f78d54da9e39c0a2>
 	.type	gcm_narrow.gcm_siv.message.put_tag,@function
 gcm_narrow.gcm_siv.message.put_tag: # @gcm_narrow.gcm_siv.message.put_tag
 # %bb.0:                                # %start
@@ -11857,7 +11857,7 @@ gcm_narrow.aes_cipher.zeroize.stack.wipe_stack.2816: # @gcm_narrow.aes_cipher.ze
 	.size	gcm_narrow.aes_cipher.zeroize.stack.wipe_stack.2816, .Lgcm_narrow_func_end35-gcm_narrow.aes_cipher.zeroize.stack.wipe_stack.2816
                                         # -- End function
 	.section	.text.gcm_narrow.gcm_c.siv.seal_in,"ax",@progbits
-	.p2align	1                               # -- Begin function gcm_c::siv::seal_in::<#44523ceb9187f596>
+	.p2align	1                               # -- Begin function gcm_c::siv::seal_in::<#6c5a95c66ef7471a>
 	.type	gcm_narrow.gcm_c.siv.seal_in,@function
 gcm_narrow.gcm_c.siv.seal_in: # @gcm_narrow.gcm_c.siv.seal_in
 # %bb.0:                                # %start
@@ -11933,7 +11933,7 @@ gcm_narrow.gcm_c.siv.seal_in: # @gcm_narrow.gcm_c.siv.seal_in
 	.size	gcm_narrow.gcm_c.siv.seal_in, .Lgcm_narrow_func_end36-gcm_narrow.gcm_c.siv.seal_in
                                         # -- End function
 	.section	.text.gcm_narrow.gcm_siv.message.seal,"ax",@progbits
-	.p2align	1                               # -- Begin function gcm_siv::message::seal::<#cd33d7546ba60dde>
+	.p2align	1                               # -- Begin function gcm_siv::message::seal::<#f78d54da9e39c0a2>
 	.type	gcm_narrow.gcm_siv.message.seal,@function
 gcm_narrow.gcm_siv.message.seal: # @gcm_narrow.gcm_siv.message.seal
 # %bb.0:                                # %start
@@ -12226,7 +12226,7 @@ gcm_narrow.gcm_siv.message.seal: # @gcm_narrow.gcm_siv.message.seal
 	.size	gcm_narrow.gcm_siv.message.seal, .Lgcm_narrow_func_end37-gcm_narrow.gcm_siv.message.seal
                                         # -- End function
 	.section	.text.gcm_narrow.gcm.hash_room.hash_piece,"ax",@progbits
-	.p2align	1                               # -- Begin function gcm::hash_room::hash_piece::<#4ffbd79422221ed4>
+	.p2align	1                               # -- Begin function gcm::hash_room::hash_piece::<#d9ba0fa9ccec4268>
 	.type	gcm_narrow.gcm.hash_room.hash_piece,@function
 gcm_narrow.gcm.hash_room.hash_piece: # @gcm_narrow.gcm.hash_room.hash_piece
 # %bb.0:                                # %start
@@ -12706,7 +12706,7 @@ gcm_narrow.gcm.hash_room.hash_piece: # @gcm_narrow.gcm.hash_room.hash_piece
 	.size	gcm_narrow.gcm.hash_room.hash_piece, .Lgcm_narrow_func_end38-gcm_narrow.gcm.hash_room.hash_piece
                                         # -- End function
 	.section	.text.gcm_narrow.gcm.mode.BorrowedGcm.turn_to,"ax",@progbits
-	.p2align	1                               # -- Begin function gcm::mode::BorrowedGcm::turn_to::<#b27de607c35b93bc>
+	.p2align	1                               # -- Begin function gcm::mode::BorrowedGcm::turn_to::<#5079162aaf335e50>
 	.type	gcm_narrow.gcm.mode.BorrowedGcm.turn_to,@function
 gcm_narrow.gcm.mode.BorrowedGcm.turn_to: # @gcm_narrow.gcm.mode.BorrowedGcm.turn_to
 # %bb.0:                                # %start
@@ -12797,7 +12797,7 @@ gcm_narrow.gcm.mode.BorrowedGcm.turn_to: # @gcm_narrow.gcm.mode.BorrowedGcm.turn
 	.size	gcm_narrow.gcm.mode.BorrowedGcm.turn_to, .Lgcm_narrow_func_end39-gcm_narrow.gcm.mode.BorrowedGcm.turn_to
                                         # -- End function
 	.section	.text.gcm_narrow.gcm.mode.BorrowedGcm.is_tag_so_far,"ax",@progbits
-	.p2align	1                               # -- Begin function gcm::mode::BorrowedGcm::is_tag_so_far::<#b27de607c35b93bc>
+	.p2align	1                               # -- Begin function gcm::mode::BorrowedGcm::is_tag_so_far::<#5079162aaf335e50>
 	.type	gcm_narrow.gcm.mode.BorrowedGcm.is_tag_so_far,@function
 gcm_narrow.gcm.mode.BorrowedGcm.is_tag_so_far: # @gcm_narrow.gcm.mode.BorrowedGcm.is_tag_so_far
 # %bb.0:                                # %start
@@ -12824,7 +12824,7 @@ gcm_narrow.gcm.mode.BorrowedGcm.is_tag_so_far: # @gcm_narrow.gcm.mode.BorrowedGc
 	.size	gcm_narrow.gcm.mode.BorrowedGcm.is_tag_so_far, .Lgcm_narrow_func_end40-gcm_narrow.gcm.mode.BorrowedGcm.is_tag_so_far
                                         # -- End function
 	.section	.text.gcm_narrow.gcm.mode.BorrowedGcm.is_short_tag_so_far,"ax",@progbits
-	.p2align	1                               # -- Begin function gcm::mode::BorrowedGcm::is_short_tag_so_far::<#b27de607c35b93bc>
+	.p2align	1                               # -- Begin function gcm::mode::BorrowedGcm::is_short_tag_so_far::<#5079162aaf335e50>
 	.type	gcm_narrow.gcm.mode.BorrowedGcm.is_short_tag_so_far,@function
 gcm_narrow.gcm.mode.BorrowedGcm.is_short_tag_so_far: # @gcm_narrow.gcm.mode.BorrowedGcm.is_short_tag_so_far
 # %bb.0:                                # %start
@@ -13377,7 +13377,7 @@ gcm_narrow.fotsgure_gcm_begin_next:                # @gcm_narrow.fotsgure_gcm_be
 	sb	a0, 5(a2)
 	sb	s1, 6(a2)
 	sb	t2, 7(a2)
-.Lgcm_narrow_BB49_10:                              # %"gcm::mode::BorrowedGcm::begin_next::<#b27de607c35b93bc>.exit.i"
+.Lgcm_narrow_BB49_10:                              # %"gcm::mode::BorrowedGcm::begin_next::<#5079162aaf335e50>.exit.i"
 	srli	a0, a4, 32
 	sw	a7, 36(sp)
 	sw	a4, 40(sp)
@@ -13486,7 +13486,7 @@ gcm_narrow.fotsgure_gcm_finish:                    # @gcm_narrow.fotsgure_gcm_fi
 	ld	s0, 48(sp)                      # 8-byte Folded Reload
 	ld	s1, 40(sp)                      # 8-byte Folded Reload
 	addi	sp, sp, 64
-.Lgcm_narrow_BB50_6:                               # %"gcm_c::sealing::fotsgure_gcm_finish.exit"
+.Lgcm_narrow_BB50_6:                               # %"gcm_c::pieces::encrypting::fotsgure_gcm_finish.exit"
 	li	a1, 0
 	li	a2, 0
 	li	a3, 0
@@ -13831,7 +13831,7 @@ gcm_narrow.fotsgure_gcm_open:                      # @gcm_narrow.fotsgure_gcm_op
 	mv	a4, s1
 	call	gcm_narrow.gcm.gctr.add_gctr
 	li	s0, 0
-.Lgcm_narrow_BB53_12:                              # %"gcm::mode::BorrowedGcm::decrypt::<#b27de607c35b93bc>.exit.i"
+.Lgcm_narrow_BB53_12:                              # %"gcm::mode::BorrowedGcm::decrypt::<#5079162aaf335e50>.exit.i"
 	addi	a0, sp, 48
 	call	gcm_narrow.aes_cipher.zeroize.elements.zeroize_elements.3
 	call	gcm_narrow.aes_cipher.zeroize.stack.wipe_stack.1536
@@ -14043,7 +14043,7 @@ gcm_narrow.fotsgure_gcm_open_to:                   # @gcm_narrow.fotsgure_gcm_op
 	mv	a3, s2
 	call	gcm_narrow.gcm.gctr.add_gctr
 	li	s1, 0
-.Lgcm_narrow_BB54_21:                              # %"gcm::mode::BorrowedGcm::decrypt_to::<#b27de607c35b93bc>.exit.i"
+.Lgcm_narrow_BB54_21:                              # %"gcm::mode::BorrowedGcm::decrypt_to::<#5079162aaf335e50>.exit.i"
 	addi	a0, sp, 48
 	call	gcm_narrow.aes_cipher.zeroize.elements.zeroize_elements.3
 	call	gcm_narrow.aes_cipher.zeroize.stack.wipe_stack.1536
@@ -15053,7 +15053,7 @@ gcm_narrow.fotsgure_gcm_decrypt:                   # @gcm_narrow.fotsgure_gcm_de
 	bgeu	a4, a5, .Lgcm_narrow_BB63_9
 # %bb.6:
 	li	a0, 5
-.Lgcm_narrow_BB63_7:                               # %"gcm_c::opening::fotsgure_gcm_decrypt.exit"
+.Lgcm_narrow_BB63_7:                               # %"gcm_c::pieces::decrypting::fotsgure_gcm_decrypt.exit"
 	ld	ra, 40(sp)                      # 8-byte Folded Reload
 	ld	s0, 32(sp)                      # 8-byte Folded Reload
 	ld	s1, 24(sp)                      # 8-byte Folded Reload
@@ -15208,7 +15208,7 @@ gcm_narrow.fotsgure_gcm_decrypt_unverified:        # @gcm_narrow.fotsgure_gcm_de
 	j	.Lgcm_narrow_BB64_7
 .Lgcm_narrow_BB64_6:
 	li	a0, 5
-.Lgcm_narrow_BB64_7:                               # %"gcm_c::opening::fotsgure_gcm_decrypt_unverified.exit"
+.Lgcm_narrow_BB64_7:                               # %"gcm_c::pieces::decrypting::fotsgure_gcm_decrypt_unverified.exit"
 	ld	ra, 56(sp)                      # 8-byte Folded Reload
 	ld	s0, 48(sp)                      # 8-byte Folded Reload
 	ld	s1, 40(sp)                      # 8-byte Folded Reload
@@ -15308,7 +15308,7 @@ gcm_narrow.fotsgure_gcm_encrypt:                   # @gcm_narrow.fotsgure_gcm_en
 	j	.Lgcm_narrow_BB65_7
 .Lgcm_narrow_BB65_6:
 	li	a0, 5
-.Lgcm_narrow_BB65_7:                               # %"gcm_c::sealing::fotsgure_gcm_encrypt.exit"
+.Lgcm_narrow_BB65_7:                               # %"gcm_c::pieces::encrypting::fotsgure_gcm_encrypt.exit"
 	ld	ra, 56(sp)                      # 8-byte Folded Reload
 	ld	s0, 48(sp)                      # 8-byte Folded Reload
 	ld	s1, 40(sp)                      # 8-byte Folded Reload
@@ -15378,7 +15378,7 @@ gcm_narrow.fotsgure_gcm_verify:                    # @gcm_narrow.fotsgure_gcm_ve
 	bnez	a1, .Lgcm_narrow_BB66_7
 # %bb.4:                                # %arm.2.i.i
 	li	a0, 8
-.Lgcm_narrow_BB66_5:                               # %"gcm_c::opening::fotsgure_gcm_verify.exit"
+.Lgcm_narrow_BB66_5:                               # %"gcm_c::pieces::decrypting::fotsgure_gcm_verify.exit"
 	ld	ra, 56(sp)                      # 8-byte Folded Reload
 	ld	s0, 48(sp)                      # 8-byte Folded Reload
 	ld	s1, 40(sp)                      # 8-byte Folded Reload
@@ -15583,7 +15583,7 @@ gcm_narrow.fotsgure_gcm_accept:                    # @gcm_narrow.fotsgure_gcm_ac
 	ret
 .Lgcm_narrow_BB67_6:
 	li	a0, 4
-.Lgcm_narrow_BB67_7:                               # %"gcm_c::opening::fotsgure_gcm_accept.exit"
+.Lgcm_narrow_BB67_7:                               # %"gcm_c::pieces::decrypting::fotsgure_gcm_accept.exit"
 	li	a1, 0
 	li	a2, 0
 	li	a3, 0
@@ -15721,7 +15721,7 @@ gcm_narrow.fotsgure_gcm_accept_short:              # @gcm_narrow.fotsgure_gcm_ac
 	ld	s0, 32(sp)                      # 8-byte Folded Reload
 	ld	s1, 24(sp)                      # 8-byte Folded Reload
 	addi	sp, sp, 48
-.Lgcm_narrow_BB68_10:                              # %"gcm_c::opening::fotsgure_gcm_accept_short.exit"
+.Lgcm_narrow_BB68_10:                              # %"gcm_c::pieces::decrypting::fotsgure_gcm_accept_short.exit"
 	li	a1, 0
 	li	a2, 0
 	li	a3, 0
@@ -15754,5 +15754,5 @@ gcm_narrow.fotsgure_gcm_accept_short:              # @gcm_narrow.fotsgure_gcm_ac
 	.long	9, 123, 1
 	.asciz	"Fotsgure"
 	.p2align	2, 0x0
-	.asciz	"fotsgure_gcm 0.4.0, riscv64/gcm_narrow.s, sources SHA-256 db4efa4f888708ad96d151eefb1002396829e2ae35d1e342eb44652688b2f0d0"
+	.asciz	"fotsgure_gcm 0.4.0, riscv64/gcm_narrow.s, sources SHA-256 c5580fd5c08fd1ce251de00bc68bbabc41e05f02470d0c531f44ab6d5c423d70"
 	.p2align	2, 0x0

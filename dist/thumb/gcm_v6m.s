@@ -4102,7 +4102,7 @@ gcm_v6m.aes_cipher.zeroize.stack.wipe_stack.768: @ @gcm_v6m.aes_cipher.zeroize.s
 	.fnend
                                         @ -- End function
 	.section	.text.gcm_v6m.gcm.mode.BorrowedGcm.put_pre_counter,"ax",%progbits
-	.p2align	1                               @ -- Begin function gcm::mode::BorrowedGcm::put_pre_counter::<#56ef08599dd20827>
+	.p2align	1                               @ -- Begin function gcm::mode::BorrowedGcm::put_pre_counter::<#c01aad2b5fbc92b1>
 	.type	gcm_v6m.gcm.mode.BorrowedGcm.put_pre_counter,%function
 	.code	16
 	.thumb_func
@@ -4741,7 +4741,7 @@ gcm_v6m.gcm.bitwise.product_bitwise:        @ @gcm_v6m.gcm.bitwise.product_bitwi
 	.fnend
                                         @ -- End function
 	.section	.text.gcm_v6m.gcm.tags.hash_lengths,"ax",%progbits
-	.p2align	1                               @ -- Begin function gcm::tags::hash_lengths::<#4ffbd79422221ed4>
+	.p2align	1                               @ -- Begin function gcm::tags::hash_lengths::<#d9ba0fa9ccec4268>
 	.type	gcm_v6m.gcm.tags.hash_lengths,%function
 	.code	16
 	.thumb_func
@@ -4888,7 +4888,7 @@ gcm_v6m.aes_cipher.zeroize.stack.wipe_stack.512: @ @gcm_v6m.aes_cipher.zeroize.s
 	.fnend
                                         @ -- End function
 	.section	.text.gcm_v6m.gcm.mode.BorrowedGcm.put_tag_so_far,"ax",%progbits
-	.p2align	2                               @ -- Begin function gcm::mode::BorrowedGcm::put_tag_so_far::<#56ef08599dd20827>
+	.p2align	2                               @ -- Begin function gcm::mode::BorrowedGcm::put_tag_so_far::<#c01aad2b5fbc92b1>
 	.type	gcm_v6m.gcm.mode.BorrowedGcm.put_tag_so_far,%function
 	.code	16
 	.thumb_func
@@ -9589,7 +9589,7 @@ gcm_v6m.aes_cipher.zeroize.stack.wipe_stack.1024: @ @gcm_v6m.aes_cipher.zeroize.
 	.fnend
                                         @ -- End function
 	.section	.text.gcm_v6m.gcm.mode.BorrowedGcm.hash_what_came,"ax",%progbits
-	.p2align	1                               @ -- Begin function gcm::mode::BorrowedGcm::hash_what_came::<#56ef08599dd20827>
+	.p2align	1                               @ -- Begin function gcm::mode::BorrowedGcm::hash_what_came::<#c01aad2b5fbc92b1>
 	.type	gcm_v6m.gcm.mode.BorrowedGcm.hash_what_came,%function
 	.code	16
 	.thumb_func
@@ -9720,7 +9720,7 @@ gcm_v6m.gcm.mode.BorrowedGcm.hash_what_came: @ @gcm_v6m.gcm.mode.BorrowedGcm.has
 	.fnend
                                         @ -- End function
 	.section	.text.gcm_v6m.gcm.mode.put_subkey,"ax",%progbits
-	.p2align	1                               @ -- Begin function gcm::mode::put_subkey::<#56ef08599dd20827>
+	.p2align	1                               @ -- Begin function gcm::mode::put_subkey::<#107cc7d9d0728059>
 	.type	gcm_v6m.gcm.mode.put_subkey,%function
 	.code	16
 	.thumb_func
@@ -9788,7 +9788,7 @@ gcm_v6m.gcm.mode.put_subkey: @ @gcm_v6m.gcm.mode.put_subkey
 	.fnend
                                         @ -- End function
 	.section	.text.gcm_v6m.gcm.mode.BorrowedGcm.compare,"ax",%progbits
-	.p2align	1                               @ -- Begin function gcm::mode::BorrowedGcm::compare::<#56ef08599dd20827>
+	.p2align	1                               @ -- Begin function gcm::mode::BorrowedGcm::compare::<#c01aad2b5fbc92b1>
 	.type	gcm_v6m.gcm.mode.BorrowedGcm.compare,%function
 	.code	16
 	.thumb_func
@@ -9856,7 +9856,7 @@ gcm_v6m.gcm.mode.BorrowedGcm.compare: @ @gcm_v6m.gcm.mode.BorrowedGcm.compare
 	.fnend
                                         @ -- End function
 	.section	.text.gcm_v6m.gcm.mode.BorrowedGcm.put_tag,"ax",%progbits
-	.p2align	1                               @ -- Begin function gcm::mode::BorrowedGcm::put_tag::<#56ef08599dd20827>
+	.p2align	1                               @ -- Begin function gcm::mode::BorrowedGcm::put_tag::<#c01aad2b5fbc92b1>
 	.type	gcm_v6m.gcm.mode.BorrowedGcm.put_tag,%function
 	.code	16
 	.thumb_func
@@ -12355,7 +12355,7 @@ gcm_v6m.gcm_c.whole_to.copy:                @ @gcm_v6m.gcm_c.whole_to.copy
 	.fnend
                                         @ -- End function
 	.section	.text.gcm_v6m.gcm_c.siv.open_in,"ax",%progbits
-	.p2align	1                               @ -- Begin function gcm_c::siv::open_in::<#44523ceb9187f596>
+	.p2align	1                               @ -- Begin function gcm_c::siv::open_in::<#6c5a95c66ef7471a>
 	.type	gcm_v6m.gcm_c.siv.open_in,%function
 	.code	16
 	.thumb_func
@@ -12432,7 +12432,7 @@ gcm_v6m.gcm_c.siv.open_in: @ @gcm_v6m.gcm_c.siv.open_in
 	.fnend
                                         @ -- End function
 	.section	.text.gcm_v6m.gcm_c.siv.prepare,"ax",%progbits
-	.p2align	1                               @ -- Begin function gcm_c::siv::prepare::<#44523ceb9187f596>
+	.p2align	1                               @ -- Begin function gcm_c::siv::prepare::<#6c5a95c66ef7471a>
 	.type	gcm_v6m.gcm_c.siv.prepare,%function
 	.code	16
 	.thumb_func
@@ -12620,7 +12620,7 @@ gcm_v6m.gcm_c.siv.prepare: @ @gcm_v6m.gcm_c.siv.prepare
 	.fnend
                                         @ -- End function
 	.section	.text.gcm_v6m.gcm_siv.message.open,"ax",%progbits
-	.p2align	1                               @ -- Begin function gcm_siv::message::open::<#f0567fcc0c8b4561>
+	.p2align	1                               @ -- Begin function gcm_siv::message::open::<#fe07397204778e73>
 	.type	gcm_v6m.gcm_siv.message.open,%function
 	.code	16
 	.thumb_func
@@ -12688,7 +12688,7 @@ gcm_v6m.gcm_siv.message.open: @ @gcm_v6m.gcm_siv.message.open
 	.fnend
                                         @ -- End function
 	.section	.text.gcm_v6m.gcm_siv.message.put_tag,"ax",%progbits
-	.p2align	1                               @ -- Begin function gcm_siv::message::put_tag::<#f0567fcc0c8b4561>
+	.p2align	1                               @ -- Begin function gcm_siv::message::put_tag::<#fe07397204778e73>
 	.type	gcm_v6m.gcm_siv.message.put_tag,%function
 	.code	16
 	.thumb_func
@@ -14639,7 +14639,7 @@ gcm_v6m.aes_cipher.zeroize.stack.wipe_stack.2816: @ @gcm_v6m.aes_cipher.zeroize.
 	.fnend
                                         @ -- End function
 	.section	.text.gcm_v6m.gcm_c.siv.seal_in,"ax",%progbits
-	.p2align	1                               @ -- Begin function gcm_c::siv::seal_in::<#44523ceb9187f596>
+	.p2align	1                               @ -- Begin function gcm_c::siv::seal_in::<#6c5a95c66ef7471a>
 	.type	gcm_v6m.gcm_c.siv.seal_in,%function
 	.code	16
 	.thumb_func
@@ -14720,7 +14720,7 @@ gcm_v6m.gcm_c.siv.seal_in: @ @gcm_v6m.gcm_c.siv.seal_in
 	.fnend
                                         @ -- End function
 	.section	.text.gcm_v6m.gcm_siv.message.seal,"ax",%progbits
-	.p2align	1                               @ -- Begin function gcm_siv::message::seal::<#f0567fcc0c8b4561>
+	.p2align	1                               @ -- Begin function gcm_siv::message::seal::<#fe07397204778e73>
 	.type	gcm_v6m.gcm_siv.message.seal,%function
 	.code	16
 	.thumb_func
@@ -14769,7 +14769,7 @@ gcm_v6m.gcm_siv.message.seal: @ @gcm_v6m.gcm_siv.message.seal
 	.fnend
                                         @ -- End function
 	.section	.text.gcm_v6m.gcm.hash_room.hash_piece,"ax",%progbits
-	.p2align	1                               @ -- Begin function gcm::hash_room::hash_piece::<#4ffbd79422221ed4>
+	.p2align	1                               @ -- Begin function gcm::hash_room::hash_piece::<#d9ba0fa9ccec4268>
 	.type	gcm_v6m.gcm.hash_room.hash_piece,%function
 	.code	16
 	.thumb_func
@@ -15346,7 +15346,7 @@ gcm_v6m.gcm.hash_room.hash_piece: @ @gcm_v6m.gcm.hash_room.hash_piece
 	.fnend
                                         @ -- End function
 	.section	.text.gcm_v6m.gcm.mode.BorrowedGcm.turn_to,"ax",%progbits
-	.p2align	1                               @ -- Begin function gcm::mode::BorrowedGcm::turn_to::<#56ef08599dd20827>
+	.p2align	1                               @ -- Begin function gcm::mode::BorrowedGcm::turn_to::<#c01aad2b5fbc92b1>
 	.type	gcm_v6m.gcm.mode.BorrowedGcm.turn_to,%function
 	.code	16
 	.thumb_func
@@ -15496,7 +15496,7 @@ gcm_v6m.gcm.mode.BorrowedGcm.turn_to: @ @gcm_v6m.gcm.mode.BorrowedGcm.turn_to
 	.fnend
                                         @ -- End function
 	.section	.text.gcm_v6m.gcm.mode.BorrowedGcm.is_tag_so_far,"ax",%progbits
-	.p2align	1                               @ -- Begin function gcm::mode::BorrowedGcm::is_tag_so_far::<#56ef08599dd20827>
+	.p2align	1                               @ -- Begin function gcm::mode::BorrowedGcm::is_tag_so_far::<#c01aad2b5fbc92b1>
 	.type	gcm_v6m.gcm.mode.BorrowedGcm.is_tag_so_far,%function
 	.code	16
 	.thumb_func
@@ -15527,7 +15527,7 @@ gcm_v6m.gcm.mode.BorrowedGcm.is_tag_so_far: @ @gcm_v6m.gcm.mode.BorrowedGcm.is_t
 	.fnend
                                         @ -- End function
 	.section	.text.gcm_v6m.gcm.mode.BorrowedGcm.is_short_tag_so_far,"ax",%progbits
-	.p2align	1                               @ -- Begin function gcm::mode::BorrowedGcm::is_short_tag_so_far::<#56ef08599dd20827>
+	.p2align	1                               @ -- Begin function gcm::mode::BorrowedGcm::is_short_tag_so_far::<#c01aad2b5fbc92b1>
 	.type	gcm_v6m.gcm.mode.BorrowedGcm.is_short_tag_so_far,%function
 	.code	16
 	.thumb_func
@@ -16416,7 +16416,7 @@ gcm_v6m.fotsgure_gcm_open:                      @ @gcm_v6m.fotsgure_gcm_open
 	movs	r2, #16
 	mov	r3, r4
 	bl	gcm_v6m.gcm.gctr.add_gctr
-.Lgcm_v6m_BB53_18:                              @ %"gcm::mode::BorrowedGcm::decrypt::<#56ef08599dd20827>.exit.i.i"
+.Lgcm_v6m_BB53_18:                              @ %"gcm::mode::BorrowedGcm::decrypt::<#c01aad2b5fbc92b1>.exit.i.i"
 	add	r0, sp, #100
 	bl	gcm_v6m.aes_cipher.zeroize.elements.zeroize_elements.3
 	bl	gcm_v6m.aes_cipher.zeroize.stack.wipe_stack.1536
@@ -16618,7 +16618,7 @@ gcm_v6m.fotsgure_gcm_open_to:                   @ @gcm_v6m.fotsgure_gcm_open_to
 	ldr	r0, [sp, #56]                   @ 4-byte Reload
 .Lgcm_v6m_BB54_14:                              @ %after.4.i.i.i.i
 	strb	r0, [r4, r5]
-.Lgcm_v6m_BB54_15:                              @ %"gcm::mode::BorrowedGcm::decrypt_to::<#56ef08599dd20827>.exit.i.i"
+.Lgcm_v6m_BB54_15:                              @ %"gcm::mode::BorrowedGcm::decrypt_to::<#c01aad2b5fbc92b1>.exit.i.i"
 	str	r7, [sp, #56]                   @ 4-byte Spill
 	b	.Lgcm_v6m_BB54_36
 .Lgcm_v6m_BB54_16:
@@ -16759,7 +16759,7 @@ gcm_v6m.fotsgure_gcm_open_to:                   @ @gcm_v6m.fotsgure_gcm_open_to
 	add	r1, sp, #116
 	movs	r2, #16
 	bl	gcm_v6m.gcm.gctr.add_gctr
-.Lgcm_v6m_BB54_36:                              @ %"gcm::mode::BorrowedGcm::decrypt_to::<#56ef08599dd20827>.exit.i.i"
+.Lgcm_v6m_BB54_36:                              @ %"gcm::mode::BorrowedGcm::decrypt_to::<#c01aad2b5fbc92b1>.exit.i.i"
 	add	r0, sp, #116
 	bl	gcm_v6m.aes_cipher.zeroize.elements.zeroize_elements.3
 	bl	gcm_v6m.aes_cipher.zeroize.stack.wipe_stack.1536
@@ -17024,7 +17024,7 @@ gcm_v6m.fotsgure_gcm_begin_next:                @ @gcm_v6m.fotsgure_gcm_begin_ne
 	strb	r1, [r2, #2]
 	lsrs	r0, r0, #8
 	strb	r0, [r2, #1]
-.Lgcm_v6m_BB56_11:                              @ %"gcm::mode::BorrowedGcm::begin_next::<#56ef08599dd20827>.exit.i.i"
+.Lgcm_v6m_BB56_11:                              @ %"gcm::mode::BorrowedGcm::begin_next::<#c01aad2b5fbc92b1>.exit.i.i"
 	ldr	r0, [sp, #24]                   @ 4-byte Reload
 	str	r0, [sp, #68]
 	str	r7, [sp, #64]
@@ -18835,5 +18835,5 @@ gcm_v6m.fotsgure_gcm_siv_wipe:                  @ @gcm_v6m.fotsgure_gcm_siv_wipe
 	.long	9, 118, 1
 	.asciz	"Fotsgure"
 	.p2align	2, 0x0
-	.asciz	"fotsgure_gcm 0.4.0, thumb/gcm_v6m.s, sources SHA-256 db4efa4f888708ad96d151eefb1002396829e2ae35d1e342eb44652688b2f0d0"
+	.asciz	"fotsgure_gcm 0.4.0, thumb/gcm_v6m.s, sources SHA-256 c5580fd5c08fd1ce251de00bc68bbabc41e05f02470d0c531f44ab6d5c423d70"
 	.p2align	2, 0x0

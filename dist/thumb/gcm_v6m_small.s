@@ -2348,7 +2348,7 @@ gcm_v6m_small.aes_cipher.zeroize.stack.wipe_stack.768: @ @gcm_v6m_small.aes_ciph
 	.fnend
                                         @ -- End function
 	.section	.text.gcm_v6m_small.gcm.mode.BorrowedGcm.put_pre_counter,"ax",%progbits
-	.p2align	1                               @ -- Begin function gcm::mode::BorrowedGcm::put_pre_counter::<#56ef08599dd20827>
+	.p2align	1                               @ -- Begin function gcm::mode::BorrowedGcm::put_pre_counter::<#c01aad2b5fbc92b1>
 	.type	gcm_v6m_small.gcm.mode.BorrowedGcm.put_pre_counter,%function
 	.code	16
 	.thumb_func
@@ -2968,7 +2968,7 @@ gcm_v6m_small.gcm.bitwise.product_bitwise:        @ @gcm_v6m_small.gcm.bitwise.p
 	.fnend
                                         @ -- End function
 	.section	.text.gcm_v6m_small.gcm.tags.hash_lengths,"ax",%progbits
-	.p2align	1                               @ -- Begin function gcm::tags::hash_lengths::<#4ffbd79422221ed4>
+	.p2align	1                               @ -- Begin function gcm::tags::hash_lengths::<#d9ba0fa9ccec4268>
 	.type	gcm_v6m_small.gcm.tags.hash_lengths,%function
 	.code	16
 	.thumb_func
@@ -3116,7 +3116,7 @@ gcm_v6m_small.aes_cipher.zeroize.stack.wipe_stack.512: @ @gcm_v6m_small.aes_ciph
 	.fnend
                                         @ -- End function
 	.section	.text.gcm_v6m_small.gcm.mode.BorrowedGcm.put_tag_so_far,"ax",%progbits
-	.p2align	2                               @ -- Begin function gcm::mode::BorrowedGcm::put_tag_so_far::<#56ef08599dd20827>
+	.p2align	2                               @ -- Begin function gcm::mode::BorrowedGcm::put_tag_so_far::<#c01aad2b5fbc92b1>
 	.type	gcm_v6m_small.gcm.mode.BorrowedGcm.put_tag_so_far,%function
 	.code	16
 	.thumb_func
@@ -5191,7 +5191,7 @@ gcm_v6m_small.aes_cipher.zeroize.stack.wipe_stack.1024: @ @gcm_v6m_small.aes_cip
 	.fnend
                                         @ -- End function
 	.section	.text.gcm_v6m_small.gcm.mode.BorrowedGcm.hash_what_came,"ax",%progbits
-	.p2align	1                               @ -- Begin function gcm::mode::BorrowedGcm::hash_what_came::<#56ef08599dd20827>
+	.p2align	1                               @ -- Begin function gcm::mode::BorrowedGcm::hash_what_came::<#c01aad2b5fbc92b1>
 	.type	gcm_v6m_small.gcm.mode.BorrowedGcm.hash_what_came,%function
 	.code	16
 	.thumb_func
@@ -5307,7 +5307,7 @@ gcm_v6m_small.gcm.mode.BorrowedGcm.hash_what_came: @ @gcm_v6m_small.gcm.mode.Bor
 	.fnend
                                         @ -- End function
 	.section	.text.gcm_v6m_small.gcm.mode.put_subkey,"ax",%progbits
-	.p2align	1                               @ -- Begin function gcm::mode::put_subkey::<#56ef08599dd20827>
+	.p2align	1                               @ -- Begin function gcm::mode::put_subkey::<#107cc7d9d0728059>
 	.type	gcm_v6m_small.gcm.mode.put_subkey,%function
 	.code	16
 	.thumb_func
@@ -5419,7 +5419,7 @@ gcm_v6m_small.gcm.mode.put_subkey: @ @gcm_v6m_small.gcm.mode.put_subkey
 	.fnend
                                         @ -- End function
 	.section	.text.gcm_v6m_small.gcm.mode.BorrowedGcm.compare,"ax",%progbits
-	.p2align	1                               @ -- Begin function gcm::mode::BorrowedGcm::compare::<#56ef08599dd20827>
+	.p2align	1                               @ -- Begin function gcm::mode::BorrowedGcm::compare::<#c01aad2b5fbc92b1>
 	.type	gcm_v6m_small.gcm.mode.BorrowedGcm.compare,%function
 	.code	16
 	.thumb_func
@@ -5487,7 +5487,7 @@ gcm_v6m_small.gcm.mode.BorrowedGcm.compare: @ @gcm_v6m_small.gcm.mode.BorrowedGc
 	.fnend
                                         @ -- End function
 	.section	.text.gcm_v6m_small.gcm.mode.BorrowedGcm.put_tag,"ax",%progbits
-	.p2align	1                               @ -- Begin function gcm::mode::BorrowedGcm::put_tag::<#56ef08599dd20827>
+	.p2align	1                               @ -- Begin function gcm::mode::BorrowedGcm::put_tag::<#c01aad2b5fbc92b1>
 	.type	gcm_v6m_small.gcm.mode.BorrowedGcm.put_tag,%function
 	.code	16
 	.thumb_func
@@ -7471,7 +7471,7 @@ gcm_v6m_small.gcm_c.whole_to.copy:                @ @gcm_v6m_small.gcm_c.whole_t
 	.fnend
                                         @ -- End function
 	.section	.text.gcm_v6m_small.gcm_c.siv.open_in,"ax",%progbits
-	.p2align	1                               @ -- Begin function gcm_c::siv::open_in::<#44523ceb9187f596>
+	.p2align	1                               @ -- Begin function gcm_c::siv::open_in::<#6c5a95c66ef7471a>
 	.type	gcm_v6m_small.gcm_c.siv.open_in,%function
 	.code	16
 	.thumb_func
@@ -7548,7 +7548,7 @@ gcm_v6m_small.gcm_c.siv.open_in: @ @gcm_v6m_small.gcm_c.siv.open_in
 	.fnend
                                         @ -- End function
 	.section	.text.gcm_v6m_small.gcm_c.siv.prepare,"ax",%progbits
-	.p2align	1                               @ -- Begin function gcm_c::siv::prepare::<#44523ceb9187f596>
+	.p2align	1                               @ -- Begin function gcm_c::siv::prepare::<#6c5a95c66ef7471a>
 	.type	gcm_v6m_small.gcm_c.siv.prepare,%function
 	.code	16
 	.thumb_func
@@ -7736,7 +7736,7 @@ gcm_v6m_small.gcm_c.siv.prepare: @ @gcm_v6m_small.gcm_c.siv.prepare
 	.fnend
                                         @ -- End function
 	.section	.text.gcm_v6m_small.gcm_siv.message.open,"ax",%progbits
-	.p2align	1                               @ -- Begin function gcm_siv::message::open::<#f0567fcc0c8b4561>
+	.p2align	1                               @ -- Begin function gcm_siv::message::open::<#fe07397204778e73>
 	.type	gcm_v6m_small.gcm_siv.message.open,%function
 	.code	16
 	.thumb_func
@@ -7978,7 +7978,7 @@ gcm_v6m_small.gcm_siv.message.open: @ @gcm_v6m_small.gcm_siv.message.open
 	.fnend
                                         @ -- End function
 	.section	.text.gcm_v6m_small.gcm_siv.message.put_tag,"ax",%progbits
-	.p2align	1                               @ -- Begin function gcm_siv::message::put_tag::<#f0567fcc0c8b4561>
+	.p2align	1                               @ -- Begin function gcm_siv::message::put_tag::<#fe07397204778e73>
 	.type	gcm_v6m_small.gcm_siv.message.put_tag,%function
 	.code	16
 	.thumb_func
@@ -9285,7 +9285,7 @@ gcm_v6m_small.aes_cipher.zeroize.stack.wipe_stack.2816: @ @gcm_v6m_small.aes_cip
 	.fnend
                                         @ -- End function
 	.section	.text.gcm_v6m_small.gcm_c.siv.seal_in,"ax",%progbits
-	.p2align	1                               @ -- Begin function gcm_c::siv::seal_in::<#44523ceb9187f596>
+	.p2align	1                               @ -- Begin function gcm_c::siv::seal_in::<#6c5a95c66ef7471a>
 	.type	gcm_v6m_small.gcm_c.siv.seal_in,%function
 	.code	16
 	.thumb_func
@@ -9366,7 +9366,7 @@ gcm_v6m_small.gcm_c.siv.seal_in: @ @gcm_v6m_small.gcm_c.siv.seal_in
 	.fnend
                                         @ -- End function
 	.section	.text.gcm_v6m_small.gcm_siv.message.seal,"ax",%progbits
-	.p2align	1                               @ -- Begin function gcm_siv::message::seal::<#f0567fcc0c8b4561>
+	.p2align	1                               @ -- Begin function gcm_siv::message::seal::<#fe07397204778e73>
 	.type	gcm_v6m_small.gcm_siv.message.seal,%function
 	.code	16
 	.thumb_func
@@ -9497,7 +9497,7 @@ gcm_v6m_small.gcm_siv.message.seal: @ @gcm_v6m_small.gcm_siv.message.seal
 	.fnend
                                         @ -- End function
 	.section	.text.gcm_v6m_small.gcm.hash_room.hash_piece,"ax",%progbits
-	.p2align	1                               @ -- Begin function gcm::hash_room::hash_piece::<#4ffbd79422221ed4>
+	.p2align	1                               @ -- Begin function gcm::hash_room::hash_piece::<#d9ba0fa9ccec4268>
 	.type	gcm_v6m_small.gcm.hash_room.hash_piece,%function
 	.code	16
 	.thumb_func
@@ -10090,7 +10090,7 @@ gcm_v6m_small.gcm.hash_room.hash_piece: @ @gcm_v6m_small.gcm.hash_room.hash_piec
 	.fnend
                                         @ -- End function
 	.section	.text.gcm_v6m_small.gcm.mode.BorrowedGcm.turn_to,"ax",%progbits
-	.p2align	1                               @ -- Begin function gcm::mode::BorrowedGcm::turn_to::<#56ef08599dd20827>
+	.p2align	1                               @ -- Begin function gcm::mode::BorrowedGcm::turn_to::<#c01aad2b5fbc92b1>
 	.type	gcm_v6m_small.gcm.mode.BorrowedGcm.turn_to,%function
 	.code	16
 	.thumb_func
@@ -10230,7 +10230,7 @@ gcm_v6m_small.gcm.mode.BorrowedGcm.turn_to: @ @gcm_v6m_small.gcm.mode.BorrowedGc
 	.fnend
                                         @ -- End function
 	.section	.text.gcm_v6m_small.gcm.mode.BorrowedGcm.is_tag_so_far,"ax",%progbits
-	.p2align	1                               @ -- Begin function gcm::mode::BorrowedGcm::is_tag_so_far::<#56ef08599dd20827>
+	.p2align	1                               @ -- Begin function gcm::mode::BorrowedGcm::is_tag_so_far::<#c01aad2b5fbc92b1>
 	.type	gcm_v6m_small.gcm.mode.BorrowedGcm.is_tag_so_far,%function
 	.code	16
 	.thumb_func
@@ -10261,7 +10261,7 @@ gcm_v6m_small.gcm.mode.BorrowedGcm.is_tag_so_far: @ @gcm_v6m_small.gcm.mode.Borr
 	.fnend
                                         @ -- End function
 	.section	.text.gcm_v6m_small.gcm.mode.BorrowedGcm.is_short_tag_so_far,"ax",%progbits
-	.p2align	1                               @ -- Begin function gcm::mode::BorrowedGcm::is_short_tag_so_far::<#56ef08599dd20827>
+	.p2align	1                               @ -- Begin function gcm::mode::BorrowedGcm::is_short_tag_so_far::<#c01aad2b5fbc92b1>
 	.type	gcm_v6m_small.gcm.mode.BorrowedGcm.is_short_tag_so_far,%function
 	.code	16
 	.thumb_func
@@ -11120,7 +11120,7 @@ gcm_v6m_small.fotsgure_gcm_open:                      @ @gcm_v6m_small.fotsgure_
 	movs	r2, #16
 	mov	r3, r4
 	bl	gcm_v6m_small.gcm.gctr.add_gctr
-.Lgcm_v6m_small_BB86_17:                              @ %"gcm::mode::BorrowedGcm::decrypt::<#56ef08599dd20827>.exit.i.i"
+.Lgcm_v6m_small_BB86_17:                              @ %"gcm::mode::BorrowedGcm::decrypt::<#c01aad2b5fbc92b1>.exit.i.i"
 	add	r0, sp, #100
 	bl	gcm_v6m_small.aes_cipher.zeroize.elements.zeroize_elements.3
 	bl	gcm_v6m_small.aes_cipher.zeroize.stack.wipe_stack.1536
@@ -11326,7 +11326,7 @@ gcm_v6m_small.fotsgure_gcm_open_to:                   @ @gcm_v6m_small.fotsgure_
 	ldr	r0, [sp, #56]                   @ 4-byte Reload
 .Lgcm_v6m_small_BB87_17:                              @ %after.4.i.i.i.i
 	strb	r0, [r4, r5]
-.Lgcm_v6m_small_BB87_18:                              @ %"gcm::mode::BorrowedGcm::decrypt_to::<#56ef08599dd20827>.exit.i.i"
+.Lgcm_v6m_small_BB87_18:                              @ %"gcm::mode::BorrowedGcm::decrypt_to::<#c01aad2b5fbc92b1>.exit.i.i"
 	str	r7, [sp, #56]                   @ 4-byte Spill
 	b	.Lgcm_v6m_small_BB87_36
 .Lgcm_v6m_small_BB87_19:
@@ -11443,7 +11443,7 @@ gcm_v6m_small.fotsgure_gcm_open_to:                   @ @gcm_v6m_small.fotsgure_
 	add	r1, sp, #116
 	movs	r2, #16
 	bl	gcm_v6m_small.gcm.gctr.add_gctr
-.Lgcm_v6m_small_BB87_36:                              @ %"gcm::mode::BorrowedGcm::decrypt_to::<#56ef08599dd20827>.exit.i.i"
+.Lgcm_v6m_small_BB87_36:                              @ %"gcm::mode::BorrowedGcm::decrypt_to::<#c01aad2b5fbc92b1>.exit.i.i"
 	add	r0, sp, #116
 	bl	gcm_v6m_small.aes_cipher.zeroize.elements.zeroize_elements.3
 	bl	gcm_v6m_small.aes_cipher.zeroize.stack.wipe_stack.1536
@@ -11708,7 +11708,7 @@ gcm_v6m_small.fotsgure_gcm_begin_next:                @ @gcm_v6m_small.fotsgure_
 	strb	r3, [r2, #2]
 	lsrs	r1, r1, #8
 	strb	r1, [r2, #1]
-.Lgcm_v6m_small_BB89_9:                               @ %"gcm::mode::BorrowedGcm::begin_next::<#56ef08599dd20827>.exit.i.i"
+.Lgcm_v6m_small_BB89_9:                               @ %"gcm::mode::BorrowedGcm::begin_next::<#c01aad2b5fbc92b1>.exit.i.i"
 	str	r6, [sp, #60]
 	str	r0, [sp, #56]
 	ldr	r0, [sp, #16]                   @ 4-byte Reload
@@ -13456,5 +13456,5 @@ gcm_v6m_small.fotsgure_gcm_siv_wipe:                  @ @gcm_v6m_small.fotsgure_
 	.long	9, 124, 1
 	.asciz	"Fotsgure"
 	.p2align	2, 0x0
-	.asciz	"fotsgure_gcm 0.4.0, thumb/gcm_v6m_small.s, sources SHA-256 db4efa4f888708ad96d151eefb1002396829e2ae35d1e342eb44652688b2f0d0"
+	.asciz	"fotsgure_gcm 0.4.0, thumb/gcm_v6m_small.s, sources SHA-256 c5580fd5c08fd1ce251de00bc68bbabc41e05f02470d0c531f44ab6d5c423d70"
 	.p2align	2, 0x0

@@ -2380,7 +2380,7 @@ gcm_v7m.aes_cipher.zeroize.stack.wipe_stack.768: @ @gcm_v7m.aes_cipher.zeroize.s
 	.fnend
                                         @ -- End function
 	.section	.text.gcm_v7m.gcm.mode.BorrowedGcm.put_pre_counter,"ax",%progbits
-	.p2align	2                               @ -- Begin function gcm::mode::BorrowedGcm::put_pre_counter::<#298b253f892abaef>
+	.p2align	2                               @ -- Begin function gcm::mode::BorrowedGcm::put_pre_counter::<#84a61a6dd6ff62d6>
 	.type	gcm_v7m.gcm.mode.BorrowedGcm.put_pre_counter,%function
 	.code	16
 	.thumb_func
@@ -2943,7 +2943,7 @@ gcm_v7m.aes_cipher.zeroize.stack.wipe_stack.512: @ @gcm_v7m.aes_cipher.zeroize.s
 	.fnend
                                         @ -- End function
 	.section	.text.gcm_v7m.gcm.mode.BorrowedGcm.put_tag_so_far,"ax",%progbits
-	.p2align	2                               @ -- Begin function gcm::mode::BorrowedGcm::put_tag_so_far::<#298b253f892abaef>
+	.p2align	2                               @ -- Begin function gcm::mode::BorrowedGcm::put_tag_so_far::<#84a61a6dd6ff62d6>
 	.type	gcm_v7m.gcm.mode.BorrowedGcm.put_tag_so_far,%function
 	.code	16
 	.thumb_func
@@ -5626,7 +5626,7 @@ gcm_v7m.aes_cipher.zeroize.stack.wipe_stack.1024: @ @gcm_v7m.aes_cipher.zeroize.
 	.fnend
                                         @ -- End function
 	.section	.text.gcm_v7m.gcm.mode.BorrowedGcm.hash_what_came,"ax",%progbits
-	.p2align	2                               @ -- Begin function gcm::mode::BorrowedGcm::hash_what_came::<#298b253f892abaef>
+	.p2align	2                               @ -- Begin function gcm::mode::BorrowedGcm::hash_what_came::<#84a61a6dd6ff62d6>
 	.type	gcm_v7m.gcm.mode.BorrowedGcm.hash_what_came,%function
 	.code	16
 	.thumb_func
@@ -5677,7 +5677,7 @@ gcm_v7m.gcm.mode.BorrowedGcm.hash_what_came: @ @gcm_v7m.gcm.mode.BorrowedGcm.has
 	.fnend
                                         @ -- End function
 	.section	.text.gcm_v7m.gcm.mode.put_subkey,"ax",%progbits
-	.p2align	2                               @ -- Begin function gcm::mode::put_subkey::<#298b253f892abaef>
+	.p2align	2                               @ -- Begin function gcm::mode::put_subkey::<#dab42bd6aa024cc0>
 	.type	gcm_v7m.gcm.mode.put_subkey,%function
 	.code	16
 	.thumb_func
@@ -5718,7 +5718,7 @@ gcm_v7m.gcm.mode.put_subkey: @ @gcm_v7m.gcm.mode.put_subkey
 	.fnend
                                         @ -- End function
 	.section	.text.gcm_v7m.gcm.mode.BorrowedGcm.compare,"ax",%progbits
-	.p2align	2                               @ -- Begin function gcm::mode::BorrowedGcm::compare::<#298b253f892abaef>
+	.p2align	2                               @ -- Begin function gcm::mode::BorrowedGcm::compare::<#84a61a6dd6ff62d6>
 	.type	gcm_v7m.gcm.mode.BorrowedGcm.compare,%function
 	.code	16
 	.thumb_func
@@ -5775,7 +5775,7 @@ gcm_v7m.gcm.mode.BorrowedGcm.compare: @ @gcm_v7m.gcm.mode.BorrowedGcm.compare
 	.fnend
                                         @ -- End function
 	.section	.text.gcm_v7m.gcm.mode.BorrowedGcm.put_tag,"ax",%progbits
-	.p2align	2                               @ -- Begin function gcm::mode::BorrowedGcm::put_tag::<#298b253f892abaef>
+	.p2align	2                               @ -- Begin function gcm::mode::BorrowedGcm::put_tag::<#84a61a6dd6ff62d6>
 	.type	gcm_v7m.gcm.mode.BorrowedGcm.put_tag,%function
 	.code	16
 	.thumb_func
@@ -7423,7 +7423,7 @@ gcm_v7m.gcm_c.whole_to.copy:                @ @gcm_v7m.gcm_c.whole_to.copy
 	.fnend
                                         @ -- End function
 	.section	.text.gcm_v7m.gcm_c.siv.open_in,"ax",%progbits
-	.p2align	2                               @ -- Begin function gcm_c::siv::open_in::<#5cd57875f4b01b85>
+	.p2align	2                               @ -- Begin function gcm_c::siv::open_in::<#785e9dd6e032eaf4>
 	.type	gcm_v7m.gcm_c.siv.open_in,%function
 	.code	16
 	.thumb_func
@@ -7495,7 +7495,7 @@ gcm_v7m.gcm_c.siv.open_in: @ @gcm_v7m.gcm_c.siv.open_in
 	.fnend
                                         @ -- End function
 	.section	.text.gcm_v7m.gcm_c.siv.prepare,"ax",%progbits
-	.p2align	2                               @ -- Begin function gcm_c::siv::prepare::<#5cd57875f4b01b85>
+	.p2align	2                               @ -- Begin function gcm_c::siv::prepare::<#785e9dd6e032eaf4>
 	.type	gcm_v7m.gcm_c.siv.prepare,%function
 	.code	16
 	.thumb_func
@@ -7663,7 +7663,7 @@ gcm_v7m.aes_cipher.zeroize.elements.zeroize_elements.3: @ @gcm_v7m.aes_cipher.ze
 	.fnend
                                         @ -- End function
 	.section	.text.gcm_v7m.gcm_siv.message.open,"ax",%progbits
-	.p2align	2                               @ -- Begin function gcm_siv::message::open::<#4c28cb5db47b98cc>
+	.p2align	2                               @ -- Begin function gcm_siv::message::open::<#c079cc313d4a5899>
 	.type	gcm_v7m.gcm_siv.message.open,%function
 	.code	16
 	.thumb_func
@@ -7723,7 +7723,7 @@ gcm_v7m.gcm_siv.message.open: @ @gcm_v7m.gcm_siv.message.open
 	.fnend
                                         @ -- End function
 	.section	.text.gcm_v7m.gcm_siv.message.put_tag,"ax",%progbits
-	.p2align	2                               @ -- Begin function gcm_siv::message::put_tag::<#4c28cb5db47b98cc>
+	.p2align	2                               @ -- Begin function gcm_siv::message::put_tag::<#c079cc313d4a5899>
 	.type	gcm_v7m.gcm_siv.message.put_tag,%function
 	.code	16
 	.thumb_func
@@ -8974,7 +8974,7 @@ gcm_v7m.aes_cipher.zeroize.stack.wipe_stack.2816: @ @gcm_v7m.aes_cipher.zeroize.
 	.fnend
                                         @ -- End function
 	.section	.text.gcm_v7m.gcm_c.siv.seal_in,"ax",%progbits
-	.p2align	2                               @ -- Begin function gcm_c::siv::seal_in::<#5cd57875f4b01b85>
+	.p2align	2                               @ -- Begin function gcm_c::siv::seal_in::<#785e9dd6e032eaf4>
 	.type	gcm_v7m.gcm_c.siv.seal_in,%function
 	.code	16
 	.thumb_func
@@ -9049,7 +9049,7 @@ gcm_v7m.gcm_c.siv.seal_in: @ @gcm_v7m.gcm_c.siv.seal_in
 	.fnend
                                         @ -- End function
 	.section	.text.gcm_v7m.gcm_siv.message.seal,"ax",%progbits
-	.p2align	2                               @ -- Begin function gcm_siv::message::seal::<#4c28cb5db47b98cc>
+	.p2align	2                               @ -- Begin function gcm_siv::message::seal::<#c079cc313d4a5899>
 	.type	gcm_v7m.gcm_siv.message.seal,%function
 	.code	16
 	.thumb_func
@@ -9096,7 +9096,7 @@ gcm_v7m.gcm_siv.message.seal: @ @gcm_v7m.gcm_siv.message.seal
 	.fnend
                                         @ -- End function
 	.section	.text.gcm_v7m.gcm.hash_room.hash_piece,"ax",%progbits
-	.p2align	2                               @ -- Begin function gcm::hash_room::hash_piece::<#04eacf7dd9e4979a>
+	.p2align	2                               @ -- Begin function gcm::hash_room::hash_piece::<#692ea192ac7b1787>
 	.type	gcm_v7m.gcm.hash_room.hash_piece,%function
 	.code	16
 	.thumb_func
@@ -9410,7 +9410,7 @@ gcm_v7m.gcm.hash_room.hash_piece: @ @gcm_v7m.gcm.hash_room.hash_piece
 	.fnend
                                         @ -- End function
 	.section	.text.gcm_v7m.gcm.mode.BorrowedGcm.turn_to,"ax",%progbits
-	.p2align	2                               @ -- Begin function gcm::mode::BorrowedGcm::turn_to::<#298b253f892abaef>
+	.p2align	2                               @ -- Begin function gcm::mode::BorrowedGcm::turn_to::<#84a61a6dd6ff62d6>
 	.type	gcm_v7m.gcm.mode.BorrowedGcm.turn_to,%function
 	.code	16
 	.thumb_func
@@ -9528,7 +9528,7 @@ gcm_v7m.gcm.mode.BorrowedGcm.turn_to: @ @gcm_v7m.gcm.mode.BorrowedGcm.turn_to
 	.fnend
                                         @ -- End function
 	.section	.text.gcm_v7m.gcm.mode.BorrowedGcm.is_tag_so_far,"ax",%progbits
-	.p2align	2                               @ -- Begin function gcm::mode::BorrowedGcm::is_tag_so_far::<#298b253f892abaef>
+	.p2align	2                               @ -- Begin function gcm::mode::BorrowedGcm::is_tag_so_far::<#84a61a6dd6ff62d6>
 	.type	gcm_v7m.gcm.mode.BorrowedGcm.is_tag_so_far,%function
 	.code	16
 	.thumb_func
@@ -9559,7 +9559,7 @@ gcm_v7m.gcm.mode.BorrowedGcm.is_tag_so_far: @ @gcm_v7m.gcm.mode.BorrowedGcm.is_t
 	.fnend
                                         @ -- End function
 	.section	.text.gcm_v7m.gcm.mode.BorrowedGcm.is_short_tag_so_far,"ax",%progbits
-	.p2align	2                               @ -- Begin function gcm::mode::BorrowedGcm::is_short_tag_so_far::<#298b253f892abaef>
+	.p2align	2                               @ -- Begin function gcm::mode::BorrowedGcm::is_short_tag_so_far::<#84a61a6dd6ff62d6>
 	.type	gcm_v7m.gcm.mode.BorrowedGcm.is_short_tag_so_far,%function
 	.code	16
 	.thumb_func
@@ -10178,7 +10178,7 @@ gcm_v7m.fotsgure_gcm_open:                      @ @gcm_v7m.fotsgure_gcm_open
 	strd	r8, r4, [sp, #8]
 	str	r5, [sp]
 	bl	gcm_v7m.gcm.gctr.add_gctr
-.Lgcm_v7m_BB53_10:                              @ %"gcm::mode::BorrowedGcm::decrypt::<#298b253f892abaef>.exit.i.i"
+.Lgcm_v7m_BB53_10:                              @ %"gcm::mode::BorrowedGcm::decrypt::<#84a61a6dd6ff62d6>.exit.i.i"
 	add	r0, sp, #84
 	bl	gcm_v7m.aes_cipher.zeroize.elements.zeroize_elements.2
 	bl	gcm_v7m.aes_cipher.zeroize.stack.wipe_stack.1536
@@ -10300,7 +10300,7 @@ gcm_v7m.fotsgure_gcm_open_to:                   @ @gcm_v7m.fotsgure_gcm_open_to
 	bl	memset
 .Lgcm_v7m_BB54_9:                               @ %after.4.i.i.i.i
 	strb.w	r6, [r9, r5]
-.Lgcm_v7m_BB54_10:                              @ %"gcm::mode::BorrowedGcm::decrypt_to::<#298b253f892abaef>.exit.i.i"
+.Lgcm_v7m_BB54_10:                              @ %"gcm::mode::BorrowedGcm::decrypt_to::<#84a61a6dd6ff62d6>.exit.i.i"
 	movs	r5, #6
 	b	.Lgcm_v7m_BB54_26
 	.p2align	2
@@ -10394,7 +10394,7 @@ gcm_v7m.fotsgure_gcm_open_to:                   @ @gcm_v7m.fotsgure_gcm_open_to
 	movs	r5, #0
 	str.w	r9, [sp]
 	bl	gcm_v7m.gcm.gctr.add_gctr
-.Lgcm_v7m_BB54_26:                              @ %"gcm::mode::BorrowedGcm::decrypt_to::<#298b253f892abaef>.exit.i.i"
+.Lgcm_v7m_BB54_26:                              @ %"gcm::mode::BorrowedGcm::decrypt_to::<#84a61a6dd6ff62d6>.exit.i.i"
 	add	r0, sp, #80
 	bl	gcm_v7m.aes_cipher.zeroize.elements.zeroize_elements.2
 	bl	gcm_v7m.aes_cipher.zeroize.stack.wipe_stack.1536
@@ -10579,7 +10579,7 @@ gcm_v7m.fotsgure_gcm_begin_next:                @ @gcm_v7m.fotsgure_gcm_begin_ne
 	str	r0, [r2]
 	str	r3, [r2, #4]
 	str	r7, [r2, #8]
-.Lgcm_v7m_BB56_9:                               @ %"gcm::mode::BorrowedGcm::begin_next::<#298b253f892abaef>.exit.i.i"
+.Lgcm_v7m_BB56_9:                               @ %"gcm::mode::BorrowedGcm::begin_next::<#84a61a6dd6ff62d6>.exit.i.i"
 	add.w	r0, r1, #32
 	add	r2, sp, #44
 	str	r0, [sp]
@@ -11999,5 +11999,5 @@ gcm_v7m.fotsgure_gcm_siv_wipe:                  @ @gcm_v7m.fotsgure_gcm_siv_wipe
 	.long	9, 118, 1
 	.asciz	"Fotsgure"
 	.p2align	2, 0x0
-	.asciz	"fotsgure_gcm 0.4.0, thumb/gcm_v7m.s, sources SHA-256 db4efa4f888708ad96d151eefb1002396829e2ae35d1e342eb44652688b2f0d0"
+	.asciz	"fotsgure_gcm 0.4.0, thumb/gcm_v7m.s, sources SHA-256 c5580fd5c08fd1ce251de00bc68bbabc41e05f02470d0c531f44ab6d5c423d70"
 	.p2align	2, 0x0

@@ -1535,7 +1535,7 @@ gcm_v7m_small.aes_cipher.zeroize.stack.wipe_stack.768: @ @gcm_v7m_small.aes_ciph
 	.fnend
                                         @ -- End function
 	.section	.text.gcm_v7m_small.gcm.mode.BorrowedGcm.put_pre_counter,"ax",%progbits
-	.p2align	2                               @ -- Begin function gcm::mode::BorrowedGcm::put_pre_counter::<#298b253f892abaef>
+	.p2align	2                               @ -- Begin function gcm::mode::BorrowedGcm::put_pre_counter::<#84a61a6dd6ff62d6>
 	.type	gcm_v7m_small.gcm.mode.BorrowedGcm.put_pre_counter,%function
 	.code	16
 	.thumb_func
@@ -2101,7 +2101,7 @@ gcm_v7m_small.aes_cipher.zeroize.stack.wipe_stack.512: @ @gcm_v7m_small.aes_ciph
 	.fnend
                                         @ -- End function
 	.section	.text.gcm_v7m_small.gcm.mode.BorrowedGcm.put_tag_so_far,"ax",%progbits
-	.p2align	2                               @ -- Begin function gcm::mode::BorrowedGcm::put_tag_so_far::<#298b253f892abaef>
+	.p2align	2                               @ -- Begin function gcm::mode::BorrowedGcm::put_tag_so_far::<#84a61a6dd6ff62d6>
 	.type	gcm_v7m_small.gcm.mode.BorrowedGcm.put_tag_so_far,%function
 	.code	16
 	.thumb_func
@@ -3415,7 +3415,7 @@ gcm_v7m_small.aes_cipher.zeroize.stack.wipe_stack.1024: @ @gcm_v7m_small.aes_cip
 	.fnend
                                         @ -- End function
 	.section	.text.gcm_v7m_small.gcm.mode.BorrowedGcm.hash_what_came,"ax",%progbits
-	.p2align	2                               @ -- Begin function gcm::mode::BorrowedGcm::hash_what_came::<#298b253f892abaef>
+	.p2align	2                               @ -- Begin function gcm::mode::BorrowedGcm::hash_what_came::<#84a61a6dd6ff62d6>
 	.type	gcm_v7m_small.gcm.mode.BorrowedGcm.hash_what_came,%function
 	.code	16
 	.thumb_func
@@ -3474,7 +3474,7 @@ gcm_v7m_small.gcm.mode.BorrowedGcm.hash_what_came: @ @gcm_v7m_small.gcm.mode.Bor
 	.fnend
                                         @ -- End function
 	.section	.text.gcm_v7m_small.gcm.mode.put_subkey,"ax",%progbits
-	.p2align	2                               @ -- Begin function gcm::mode::put_subkey::<#298b253f892abaef>
+	.p2align	2                               @ -- Begin function gcm::mode::put_subkey::<#dab42bd6aa024cc0>
 	.type	gcm_v7m_small.gcm.mode.put_subkey,%function
 	.code	16
 	.thumb_func
@@ -3520,7 +3520,7 @@ gcm_v7m_small.gcm.mode.put_subkey: @ @gcm_v7m_small.gcm.mode.put_subkey
 	.fnend
                                         @ -- End function
 	.section	.text.gcm_v7m_small.gcm.mode.BorrowedGcm.compare,"ax",%progbits
-	.p2align	2                               @ -- Begin function gcm::mode::BorrowedGcm::compare::<#298b253f892abaef>
+	.p2align	2                               @ -- Begin function gcm::mode::BorrowedGcm::compare::<#84a61a6dd6ff62d6>
 	.type	gcm_v7m_small.gcm.mode.BorrowedGcm.compare,%function
 	.code	16
 	.thumb_func
@@ -3575,7 +3575,7 @@ gcm_v7m_small.gcm.mode.BorrowedGcm.compare: @ @gcm_v7m_small.gcm.mode.BorrowedGc
 	.fnend
                                         @ -- End function
 	.section	.text.gcm_v7m_small.gcm.mode.BorrowedGcm.put_tag,"ax",%progbits
-	.p2align	2                               @ -- Begin function gcm::mode::BorrowedGcm::put_tag::<#298b253f892abaef>
+	.p2align	2                               @ -- Begin function gcm::mode::BorrowedGcm::put_tag::<#84a61a6dd6ff62d6>
 	.type	gcm_v7m_small.gcm.mode.BorrowedGcm.put_tag,%function
 	.code	16
 	.thumb_func
@@ -4876,7 +4876,7 @@ gcm_v7m_small.gcm_c.whole_to.copy:                @ @gcm_v7m_small.gcm_c.whole_t
 	.fnend
                                         @ -- End function
 	.section	.text.gcm_v7m_small.gcm_c.siv.open_in,"ax",%progbits
-	.p2align	2                               @ -- Begin function gcm_c::siv::open_in::<#5cd57875f4b01b85>
+	.p2align	2                               @ -- Begin function gcm_c::siv::open_in::<#785e9dd6e032eaf4>
 	.type	gcm_v7m_small.gcm_c.siv.open_in,%function
 	.code	16
 	.thumb_func
@@ -4948,7 +4948,7 @@ gcm_v7m_small.gcm_c.siv.open_in: @ @gcm_v7m_small.gcm_c.siv.open_in
 	.fnend
                                         @ -- End function
 	.section	.text.gcm_v7m_small.gcm_c.siv.prepare,"ax",%progbits
-	.p2align	2                               @ -- Begin function gcm_c::siv::prepare::<#5cd57875f4b01b85>
+	.p2align	2                               @ -- Begin function gcm_c::siv::prepare::<#785e9dd6e032eaf4>
 	.type	gcm_v7m_small.gcm_c.siv.prepare,%function
 	.code	16
 	.thumb_func
@@ -5114,7 +5114,7 @@ gcm_v7m_small.aes_cipher.zeroize.elements.zeroize_elements.3: @ @gcm_v7m_small.a
 	.fnend
                                         @ -- End function
 	.section	.text.gcm_v7m_small.gcm_siv.message.open,"ax",%progbits
-	.p2align	2                               @ -- Begin function gcm_siv::message::open::<#4c28cb5db47b98cc>
+	.p2align	2                               @ -- Begin function gcm_siv::message::open::<#c079cc313d4a5899>
 	.type	gcm_v7m_small.gcm_siv.message.open,%function
 	.code	16
 	.thumb_func
@@ -5242,7 +5242,7 @@ gcm_v7m_small.gcm_siv.message.open: @ @gcm_v7m_small.gcm_siv.message.open
 	.fnend
                                         @ -- End function
 	.section	.text.gcm_v7m_small.gcm_siv.message.put_tag,"ax",%progbits
-	.p2align	2                               @ -- Begin function gcm_siv::message::put_tag::<#4c28cb5db47b98cc>
+	.p2align	2                               @ -- Begin function gcm_siv::message::put_tag::<#c079cc313d4a5899>
 	.type	gcm_v7m_small.gcm_siv.message.put_tag,%function
 	.code	16
 	.thumb_func
@@ -5952,7 +5952,7 @@ gcm_v7m_small.aes_cipher.zeroize.stack.wipe_stack.2816: @ @gcm_v7m_small.aes_cip
 	.fnend
                                         @ -- End function
 	.section	.text.gcm_v7m_small.gcm_c.siv.seal_in,"ax",%progbits
-	.p2align	2                               @ -- Begin function gcm_c::siv::seal_in::<#5cd57875f4b01b85>
+	.p2align	2                               @ -- Begin function gcm_c::siv::seal_in::<#785e9dd6e032eaf4>
 	.type	gcm_v7m_small.gcm_c.siv.seal_in,%function
 	.code	16
 	.thumb_func
@@ -6027,7 +6027,7 @@ gcm_v7m_small.gcm_c.siv.seal_in: @ @gcm_v7m_small.gcm_c.siv.seal_in
 	.fnend
                                         @ -- End function
 	.section	.text.gcm_v7m_small.gcm_siv.message.seal,"ax",%progbits
-	.p2align	2                               @ -- Begin function gcm_siv::message::seal::<#4c28cb5db47b98cc>
+	.p2align	2                               @ -- Begin function gcm_siv::message::seal::<#c079cc313d4a5899>
 	.type	gcm_v7m_small.gcm_siv.message.seal,%function
 	.code	16
 	.thumb_func
@@ -6105,7 +6105,7 @@ gcm_v7m_small.gcm_siv.message.seal: @ @gcm_v7m_small.gcm_siv.message.seal
 	.fnend
                                         @ -- End function
 	.section	.text.gcm_v7m_small.gcm.hash_room.hash_piece,"ax",%progbits
-	.p2align	2                               @ -- Begin function gcm::hash_room::hash_piece::<#04eacf7dd9e4979a>
+	.p2align	2                               @ -- Begin function gcm::hash_room::hash_piece::<#692ea192ac7b1787>
 	.type	gcm_v7m_small.gcm.hash_room.hash_piece,%function
 	.code	16
 	.thumb_func
@@ -6430,7 +6430,7 @@ gcm_v7m_small.gcm.hash_room.hash_piece: @ @gcm_v7m_small.gcm.hash_room.hash_piec
 	.fnend
                                         @ -- End function
 	.section	.text.gcm_v7m_small.gcm.mode.BorrowedGcm.turn_to,"ax",%progbits
-	.p2align	2                               @ -- Begin function gcm::mode::BorrowedGcm::turn_to::<#298b253f892abaef>
+	.p2align	2                               @ -- Begin function gcm::mode::BorrowedGcm::turn_to::<#84a61a6dd6ff62d6>
 	.type	gcm_v7m_small.gcm.mode.BorrowedGcm.turn_to,%function
 	.code	16
 	.thumb_func
@@ -6541,7 +6541,7 @@ gcm_v7m_small.gcm.mode.BorrowedGcm.turn_to: @ @gcm_v7m_small.gcm.mode.BorrowedGc
 	.fnend
                                         @ -- End function
 	.section	.text.gcm_v7m_small.gcm.mode.BorrowedGcm.is_tag_so_far,"ax",%progbits
-	.p2align	2                               @ -- Begin function gcm::mode::BorrowedGcm::is_tag_so_far::<#298b253f892abaef>
+	.p2align	2                               @ -- Begin function gcm::mode::BorrowedGcm::is_tag_so_far::<#84a61a6dd6ff62d6>
 	.type	gcm_v7m_small.gcm.mode.BorrowedGcm.is_tag_so_far,%function
 	.code	16
 	.thumb_func
@@ -6572,7 +6572,7 @@ gcm_v7m_small.gcm.mode.BorrowedGcm.is_tag_so_far: @ @gcm_v7m_small.gcm.mode.Borr
 	.fnend
                                         @ -- End function
 	.section	.text.gcm_v7m_small.gcm.mode.BorrowedGcm.is_short_tag_so_far,"ax",%progbits
-	.p2align	2                               @ -- Begin function gcm::mode::BorrowedGcm::is_short_tag_so_far::<#298b253f892abaef>
+	.p2align	2                               @ -- Begin function gcm::mode::BorrowedGcm::is_short_tag_so_far::<#84a61a6dd6ff62d6>
 	.type	gcm_v7m_small.gcm.mode.BorrowedGcm.is_short_tag_so_far,%function
 	.code	16
 	.thumb_func
@@ -7175,7 +7175,7 @@ gcm_v7m_small.fotsgure_gcm_open:                      @ @gcm_v7m_small.fotsgure_
 	strd	r8, r4, [sp, #8]
 	str	r5, [sp]
 	bl	gcm_v7m_small.gcm.gctr.add_gctr
-.Lgcm_v7m_small_BB86_9:                               @ %"gcm::mode::BorrowedGcm::decrypt::<#298b253f892abaef>.exit.i.i"
+.Lgcm_v7m_small_BB86_9:                               @ %"gcm::mode::BorrowedGcm::decrypt::<#84a61a6dd6ff62d6>.exit.i.i"
 	add	r0, sp, #84
 	bl	gcm_v7m_small.aes_cipher.zeroize.elements.zeroize_elements.2
 	bl	gcm_v7m_small.aes_cipher.zeroize.stack.wipe_stack.1536
@@ -7298,7 +7298,7 @@ gcm_v7m_small.fotsgure_gcm_open_to:                   @ @gcm_v7m_small.fotsgure_
 	bl	memset
 .Lgcm_v7m_small_BB87_9:                               @ %after.4.i.i.i.i
 	strb.w	r6, [r9, r5]
-.Lgcm_v7m_small_BB87_10:                              @ %"gcm::mode::BorrowedGcm::decrypt_to::<#298b253f892abaef>.exit.i.i"
+.Lgcm_v7m_small_BB87_10:                              @ %"gcm::mode::BorrowedGcm::decrypt_to::<#84a61a6dd6ff62d6>.exit.i.i"
 	movs	r5, #6
 	b	.Lgcm_v7m_small_BB87_25
 .Lgcm_v7m_small_BB87_11:
@@ -7379,7 +7379,7 @@ gcm_v7m_small.fotsgure_gcm_open_to:                   @ @gcm_v7m_small.fotsgure_
 	movs	r5, #0
 	str.w	r9, [sp]
 	bl	gcm_v7m_small.gcm.gctr.add_gctr
-.Lgcm_v7m_small_BB87_25:                              @ %"gcm::mode::BorrowedGcm::decrypt_to::<#298b253f892abaef>.exit.i.i"
+.Lgcm_v7m_small_BB87_25:                              @ %"gcm::mode::BorrowedGcm::decrypt_to::<#84a61a6dd6ff62d6>.exit.i.i"
 	add	r0, sp, #80
 	bl	gcm_v7m_small.aes_cipher.zeroize.elements.zeroize_elements.2
 	bl	gcm_v7m_small.aes_cipher.zeroize.stack.wipe_stack.1536
@@ -7561,7 +7561,7 @@ gcm_v7m_small.fotsgure_gcm_begin_next:                @ @gcm_v7m_small.fotsgure_
 	str	r3, [r2]
 	str	r7, [r2, #4]
 	str	r6, [r2, #8]
-.Lgcm_v7m_small_BB89_9:                               @ %"gcm::mode::BorrowedGcm::begin_next::<#298b253f892abaef>.exit.i.i"
+.Lgcm_v7m_small_BB89_9:                               @ %"gcm::mode::BorrowedGcm::begin_next::<#84a61a6dd6ff62d6>.exit.i.i"
 	add	r2, sp, #44
 	stm.w	r2, {r0, r12, lr}
 	add.w	r0, r1, #32
@@ -8955,5 +8955,5 @@ gcm_v7m_small.fotsgure_gcm_siv_wipe:                  @ @gcm_v7m_small.fotsgure_
 	.long	9, 124, 1
 	.asciz	"Fotsgure"
 	.p2align	2, 0x0
-	.asciz	"fotsgure_gcm 0.4.0, thumb/gcm_v7m_small.s, sources SHA-256 db4efa4f888708ad96d151eefb1002396829e2ae35d1e342eb44652688b2f0d0"
+	.asciz	"fotsgure_gcm 0.4.0, thumb/gcm_v7m_small.s, sources SHA-256 c5580fd5c08fd1ce251de00bc68bbabc41e05f02470d0c531f44ab6d5c423d70"
 	.p2align	2, 0x0

@@ -1096,7 +1096,7 @@ gcm_v2.aes_permute.lane_keys.expand_lanes: # @gcm_v2.aes_permute.lane_keys.expan
 	.type	32;
 	.endef
 	.section	.rdata,"dr"
-	.p2align	4, 0x0                          # -- Begin function gcm::mode::BorrowedGcm::put_pre_counter::<#221fbc00d1292367>
+	.p2align	4, 0x0                          # -- Begin function gcm::mode::BorrowedGcm::put_pre_counter::<#8bfc6ace315c867e>
 .Lgcm_v2_CPI5_0:
 	.byte	0                               # 0x0
 	.byte	0                               # 0x0
@@ -2143,7 +2143,7 @@ gcm_v2.aes_cipher.zeroize.stack.wipe_stack.512: # @gcm_v2.aes_cipher.zeroize.sta
 	.type	32;
 	.endef
 	.section	.rdata,"dr"
-	.p2align	4, 0x0                          # -- Begin function gcm::mode::BorrowedGcm::put_tag_so_far::<#221fbc00d1292367>
+	.p2align	4, 0x0                          # -- Begin function gcm::mode::BorrowedGcm::put_tag_so_far::<#8bfc6ace315c867e>
 .Lgcm_v2_CPI11_0:
 	.byte	0                               # 0x0
 	.byte	0                               # 0x0
@@ -2632,7 +2632,7 @@ gcm_v2.gcm.tags.put_mask: # @gcm_v2.gcm.tags.put_mask
 	.scl	3;
 	.type	32;
 	.endef
-	.p2align	4                               # -- Begin function gcm::mode::BorrowedGcm::hash_what_came::<#221fbc00d1292367>
+	.p2align	4                               # -- Begin function gcm::mode::BorrowedGcm::hash_what_came::<#8bfc6ace315c867e>
 gcm_v2.gcm.mode.BorrowedGcm.hash_what_came: # @gcm_v2.gcm.mode.BorrowedGcm.hash_what_came
 # %bb.0:                                # %start
 	movq	48(%rsi), %rdx
@@ -2653,7 +2653,7 @@ gcm_v2.gcm.mode.BorrowedGcm.hash_what_came: # @gcm_v2.gcm.mode.BorrowedGcm.hash_
 	.type	32;
 	.endef
 	.section	.rdata,"dr"
-	.p2align	4, 0x0                          # -- Begin function gcm::mode::put_subkey::<#221fbc00d1292367>
+	.p2align	4, 0x0                          # -- Begin function gcm::mode::put_subkey::<#1ee4a1f63270783c>
 .Lgcm_v2_CPI14_0:
 	.zero	16,15
 .Lgcm_v2_CPI14_1:
@@ -4721,7 +4721,7 @@ gcm_v2.gcm.multiples.put_table:            # @gcm_v2.gcm.multiples.put_table
 	.scl	3;
 	.type	32;
 	.endef
-	.p2align	4                               # -- Begin function gcm::mode::BorrowedGcm::compare::<#221fbc00d1292367>
+	.p2align	4                               # -- Begin function gcm::mode::BorrowedGcm::compare::<#8bfc6ace315c867e>
 gcm_v2.gcm.mode.BorrowedGcm.compare: # @gcm_v2.gcm.mode.BorrowedGcm.compare
 .seh_proc gcm_v2.gcm.mode.BorrowedGcm.compare
 # %bb.0:                                # %start
@@ -4797,7 +4797,7 @@ gcm_v2.gcm.mode.BorrowedGcm.compare: # @gcm_v2.gcm.mode.BorrowedGcm.compare
 	.type	32;
 	.endef
 	.section	.rdata,"dr"
-	.p2align	4, 0x0                          # -- Begin function gcm::mode::BorrowedGcm::put_tag::<#221fbc00d1292367>
+	.p2align	4, 0x0                          # -- Begin function gcm::mode::BorrowedGcm::put_tag::<#8bfc6ace315c867e>
 .Lgcm_v2_CPI18_0:
 	.byte	15                              # 0xf
 	.byte	14                              # 0xe
@@ -4941,7 +4941,7 @@ gcm_v2.gcm.mode.BorrowedGcm.put_tag: # @gcm_v2.gcm.mode.BorrowedGcm.put_tag
 	jne	.Lgcm_v2_BB18_6
 # %bb.5:                                # %then.1.i.i.i
 	pxor	%xmm7, %xmm0
-.Lgcm_v2_BB18_17:                              # %"gcm::tags::hash::<#175b825dac74f40b>.exit"
+.Lgcm_v2_BB18_17:                              # %"gcm::tags::hash::<#de867e0411c14352>.exit"
 	leaq	64(%rsp), %rdi
 	movq	%r12, %rsi
 	callq	gcm_v2.gcm.multiples.Multiples.block_product
@@ -5001,7 +5001,7 @@ gcm_v2.gcm.mode.BorrowedGcm.put_tag: # @gcm_v2.gcm.mode.BorrowedGcm.put_tag
 	movdqa	%xmm6, %xmm0
 	movdqa	%xmm7, %xmm2
 	callq	gcm_v2.gcm.multiples.Multiples.three_products
-.Lgcm_v2_BB18_18:                              # %"gcm::tags::hash::<#175b825dac74f40b>.exit"
+.Lgcm_v2_BB18_18:                              # %"gcm::tags::hash::<#de867e0411c14352>.exit"
 	movq	72(%rsp), %rax
 	bswapq	%rax
 	movq	64(%rsp), %rcx
@@ -10609,7 +10609,7 @@ gcm_v2.gcm_c.whole_to.copy:                # @gcm_v2.gcm_c.whole_to.copy
 	.scl	3;
 	.type	32;
 	.endef
-	.p2align	4                               # -- Begin function gcm_c::siv::open_in::<#8b70e375869fa13e>
+	.p2align	4                               # -- Begin function gcm_c::siv::open_in::<#a6bcae6e23f869e4>
 gcm_v2.gcm_c.siv.open_in.1: # @gcm_v2.gcm_c.siv.open_in.1
 .seh_proc gcm_v2.gcm_c.siv.open_in.1
 # %bb.0:                                # %start
@@ -10706,7 +10706,7 @@ gcm_v2.gcm_c.siv.open_in.1: # @gcm_v2.gcm_c.siv.open_in.1
 	.scl	3;
 	.type	32;
 	.endef
-	.p2align	4                               # -- Begin function gcm_c::siv::prepare::<#8b70e375869fa13e>
+	.p2align	4                               # -- Begin function gcm_c::siv::prepare::<#a6bcae6e23f869e4>
 gcm_v2.gcm_c.siv.prepare.1: # @gcm_v2.gcm_c.siv.prepare.1
 .seh_proc gcm_v2.gcm_c.siv.prepare.1
 # %bb.0:                                # %start
@@ -10927,7 +10927,7 @@ gcm_v2.gcm_siv.keys.derive: # @gcm_v2.gcm_siv.keys.derive
 	.scl	3;
 	.type	32;
 	.endef
-	.p2align	4                               # -- Begin function gcm_siv::message::open::<#81a0cfe1a627ee8a>
+	.p2align	4                               # -- Begin function gcm_siv::message::open::<#c4f8620a416572a8>
 gcm_v2.gcm_siv.message.open.1: # @gcm_v2.gcm_siv.message.open.1
 .seh_proc gcm_v2.gcm_siv.message.open.1
 # %bb.0:                                # %start
@@ -11002,7 +11002,7 @@ gcm_v2.gcm_siv.message.open.1: # @gcm_v2.gcm_siv.message.open.1
 	.type	32;
 	.endef
 	.section	.rdata,"dr"
-	.p2align	4, 0x0                          # -- Begin function gcm_siv::message::put_tag::<#81a0cfe1a627ee8a>
+	.p2align	4, 0x0                          # -- Begin function gcm_siv::message::put_tag::<#c4f8620a416572a8>
 .Lgcm_v2_CPI40_0:
 	.byte	15                              # 0xf
 	.byte	14                              # 0xe
@@ -13374,7 +13374,7 @@ gcm_v2.aes_cipher.zeroize.stack.wipe_stack.2816: # @gcm_v2.aes_cipher.zeroize.st
 	.scl	3;
 	.type	32;
 	.endef
-	.p2align	4                               # -- Begin function gcm_c::siv::open_in::<#8a2f4bf26ec90036>
+	.p2align	4                               # -- Begin function gcm_c::siv::open_in::<#730c80b4023fbf8d>
 gcm_v2.gcm_c.siv.open_in.2: # @gcm_v2.gcm_c.siv.open_in.2
 .seh_proc gcm_v2.gcm_c.siv.open_in.2
 # %bb.0:                                # %start
@@ -13473,7 +13473,7 @@ gcm_v2.gcm_c.siv.open_in.2: # @gcm_v2.gcm_c.siv.open_in.2
 	.scl	3;
 	.type	32;
 	.endef
-	.p2align	4                               # -- Begin function gcm_c::siv::prepare::<#8a2f4bf26ec90036>
+	.p2align	4                               # -- Begin function gcm_c::siv::prepare::<#730c80b4023fbf8d>
 gcm_v2.gcm_c.siv.prepare.2: # @gcm_v2.gcm_c.siv.prepare.2
 .seh_proc gcm_v2.gcm_c.siv.prepare.2
 # %bb.0:                                # %start
@@ -13605,7 +13605,7 @@ gcm_v2.gcm_c.siv.prepare.2: # @gcm_v2.gcm_c.siv.prepare.2
 	.scl	3;
 	.type	32;
 	.endef
-	.p2align	4                               # -- Begin function gcm_siv::message::open::<#49fcba0f1893a3c2>
+	.p2align	4                               # -- Begin function gcm_siv::message::open::<#891d1eb781147f79>
 gcm_v2.gcm_siv.message.open.2: # @gcm_v2.gcm_siv.message.open.2
 .seh_proc gcm_v2.gcm_siv.message.open.2
 # %bb.0:                                # %start
@@ -13680,7 +13680,7 @@ gcm_v2.gcm_siv.message.open.2: # @gcm_v2.gcm_siv.message.open.2
 	.type	32;
 	.endef
 	.section	.rdata,"dr"
-	.p2align	4, 0x0                          # -- Begin function gcm_siv::message::put_tag::<#49fcba0f1893a3c2>
+	.p2align	4, 0x0                          # -- Begin function gcm_siv::message::put_tag::<#891d1eb781147f79>
 .Lgcm_v2_CPI51_0:
 	.byte	15                              # 0xf
 	.byte	14                              # 0xe
@@ -14402,7 +14402,7 @@ gcm_v2.gcm_siv.message.put_tag.2: # @gcm_v2.gcm_siv.message.put_tag.2
 	.scl	3;
 	.type	32;
 	.endef
-	.p2align	4                               # -- Begin function gcm_c::siv::seal_in::<#8b70e375869fa13e>
+	.p2align	4                               # -- Begin function gcm_c::siv::seal_in::<#a6bcae6e23f869e4>
 gcm_v2.gcm_c.siv.seal_in.1: # @gcm_v2.gcm_c.siv.seal_in.1
 .seh_proc gcm_v2.gcm_c.siv.seal_in.1
 # %bb.0:                                # %start
@@ -14501,7 +14501,7 @@ gcm_v2.gcm_c.siv.seal_in.1: # @gcm_v2.gcm_c.siv.seal_in.1
 	.scl	3;
 	.type	32;
 	.endef
-	.p2align	4                               # -- Begin function gcm_siv::message::seal::<#81a0cfe1a627ee8a>
+	.p2align	4                               # -- Begin function gcm_siv::message::seal::<#c4f8620a416572a8>
 gcm_v2.gcm_siv.message.seal.1: # @gcm_v2.gcm_siv.message.seal.1
 .seh_proc gcm_v2.gcm_siv.message.seal.1
 # %bb.0:                                # %start
@@ -14554,7 +14554,7 @@ gcm_v2.gcm_siv.message.seal.1: # @gcm_v2.gcm_siv.message.seal.1
 	.scl	3;
 	.type	32;
 	.endef
-	.p2align	4                               # -- Begin function gcm_c::siv::seal_in::<#8a2f4bf26ec90036>
+	.p2align	4                               # -- Begin function gcm_c::siv::seal_in::<#730c80b4023fbf8d>
 gcm_v2.gcm_c.siv.seal_in.2: # @gcm_v2.gcm_c.siv.seal_in.2
 .seh_proc gcm_v2.gcm_c.siv.seal_in.2
 # %bb.0:                                # %start
@@ -14655,7 +14655,7 @@ gcm_v2.gcm_c.siv.seal_in.2: # @gcm_v2.gcm_c.siv.seal_in.2
 	.scl	3;
 	.type	32;
 	.endef
-	.p2align	4                               # -- Begin function gcm_siv::message::seal::<#49fcba0f1893a3c2>
+	.p2align	4                               # -- Begin function gcm_siv::message::seal::<#891d1eb781147f79>
 gcm_v2.gcm_siv.message.seal.2: # @gcm_v2.gcm_siv.message.seal.2
 .seh_proc gcm_v2.gcm_siv.message.seal.2
 # %bb.0:                                # %start
@@ -14709,7 +14709,7 @@ gcm_v2.gcm_siv.message.seal.2: # @gcm_v2.gcm_siv.message.seal.2
 	.type	32;
 	.endef
 	.section	.rdata,"dr"
-	.p2align	4, 0x0                          # -- Begin function gcm::hash_room::hash_piece::<#175b825dac74f40b>
+	.p2align	4, 0x0                          # -- Begin function gcm::hash_room::hash_piece::<#de867e0411c14352>
 .Lgcm_v2_CPI56_0:
 	.byte	15                              # 0xf
 	.byte	14                              # 0xe
@@ -15037,7 +15037,7 @@ gcm_v2.gcm.hash_room.hash_piece: # @gcm_v2.gcm.hash_room.hash_piece
 	.type	32;
 	.endef
 	.section	.rdata,"dr"
-	.p2align	4, 0x0                          # -- Begin function gcm::mode::BorrowedGcm::turn_to::<#221fbc00d1292367>
+	.p2align	4, 0x0                          # -- Begin function gcm::mode::BorrowedGcm::turn_to::<#8bfc6ace315c867e>
 .Lgcm_v2_CPI57_0:
 	.byte	15                              # 0xf
 	.byte	14                              # 0xe
@@ -15118,7 +15118,7 @@ gcm_v2.gcm.mode.BorrowedGcm.turn_to: # @gcm_v2.gcm.mode.BorrowedGcm.turn_to
 	.scl	3;
 	.type	32;
 	.endef
-	.p2align	4                               # -- Begin function gcm::mode::BorrowedGcm::is_tag_so_far::<#221fbc00d1292367>
+	.p2align	4                               # -- Begin function gcm::mode::BorrowedGcm::is_tag_so_far::<#8bfc6ace315c867e>
 gcm_v2.gcm.mode.BorrowedGcm.is_tag_so_far: # @gcm_v2.gcm.mode.BorrowedGcm.is_tag_so_far
 .seh_proc gcm_v2.gcm.mode.BorrowedGcm.is_tag_so_far
 # %bb.0:                                # %start
@@ -15151,7 +15151,7 @@ gcm_v2.gcm.mode.BorrowedGcm.is_tag_so_far: # @gcm_v2.gcm.mode.BorrowedGcm.is_tag
 	.scl	3;
 	.type	32;
 	.endef
-	.p2align	4                               # -- Begin function gcm::mode::BorrowedGcm::is_short_tag_so_far::<#221fbc00d1292367>
+	.p2align	4                               # -- Begin function gcm::mode::BorrowedGcm::is_short_tag_so_far::<#8bfc6ace315c867e>
 gcm_v2.gcm.mode.BorrowedGcm.is_short_tag_so_far: # @gcm_v2.gcm.mode.BorrowedGcm.is_short_tag_so_far
 .seh_proc gcm_v2.gcm.mode.BorrowedGcm.is_short_tag_so_far
 # %bb.0:                                # %start
@@ -15786,7 +15786,7 @@ gcm_v2.fotsgure_gcm_begin_next:                # @gcm_v2.fotsgure_gcm_begin_next
 	bswapl	%eax
 	movl	%eax, (%r8)
 	movq	%rcx, 4(%r8)
-.Lgcm_v2_BB67_8:                               # %"gcm::mode::BorrowedGcm::begin_next::<#221fbc00d1292367>.exit.i"
+.Lgcm_v2_BB67_8:                               # %"gcm::mode::BorrowedGcm::begin_next::<#8bfc6ace315c867e>.exit.i"
 	movl	%r10d, 12(%rsp)
 	movq	%r9, 16(%rsp)
 	leaq	32(%rdx), %rcx
@@ -15915,7 +15915,7 @@ gcm_v2.fotsgure_gcm_finish:                    # @gcm_v2.fotsgure_gcm_finish
 	movups	48(%rsp), %xmm0
 	movups	%xmm0, (%rbx)
 	xorl	%eax, %eax
-.Lgcm_v2_BB68_4:                               # %"gcm_c::sealing::fotsgure_gcm_finish.exit"
+.Lgcm_v2_BB68_4:                               # %"gcm_c::pieces::encrypting::fotsgure_gcm_finish.exit"
 	movaps	64(%rsp), %xmm6                 # 16-byte Reload
 	movaps	80(%rsp), %xmm7                 # 16-byte Reload
 	movaps	96(%rsp), %xmm8                 # 16-byte Reload
@@ -16576,7 +16576,7 @@ gcm_v2.fotsgure_gcm_open_to:                   # @gcm_v2.fotsgure_gcm_open_to
 	movq	%rbx, %r8
 	callq	gcm_v2.gcm.gctr.add_gctr
 	xorl	%ebp, %ebp
-.Lgcm_v2_BB72_33:                              # %"gcm::mode::BorrowedGcm::decrypt_to::<#221fbc00d1292367>.exit.i"
+.Lgcm_v2_BB72_33:                              # %"gcm::mode::BorrowedGcm::decrypt_to::<#8bfc6ace315c867e>.exit.i"
 	leaq	48(%rsp), %rdi
 	callq	gcm_v2.aes_cipher.zeroize.elements.zeroize_elements.3
 	callq	gcm_v2.aes_cipher.zeroize.stack.wipe_stack.1536
@@ -18081,7 +18081,7 @@ gcm_v2.fotsgure_gcm_decrypt:                   # @gcm_v2.fotsgure_gcm_decrypt
 	addq	%r14, 16(%rbx)
 	callq	gcm_v2.aes_cipher.zeroize.stack.wipe_stack.1536
 	xorl	%eax, %eax
-.Lgcm_v2_BB81_5:                               # %"gcm_c::opening::fotsgure_gcm_decrypt.exit"
+.Lgcm_v2_BB81_5:                               # %"gcm_c::pieces::decrypting::fotsgure_gcm_decrypt.exit"
 	movaps	48(%rsp), %xmm6                 # 16-byte Reload
 	movaps	64(%rsp), %xmm7                 # 16-byte Reload
 	movaps	80(%rsp), %xmm8                 # 16-byte Reload
@@ -18215,7 +18215,7 @@ gcm_v2.fotsgure_gcm_decrypt_unverified:        # @gcm_v2.fotsgure_gcm_decrypt_un
 	callq	gcm_v2.gcm.gctr.add_gctr
 	callq	gcm_v2.aes_cipher.zeroize.stack.wipe_stack.1536
 	xorl	%eax, %eax
-.Lgcm_v2_BB82_5:                               # %"gcm_c::opening::fotsgure_gcm_decrypt_unverified.exit"
+.Lgcm_v2_BB82_5:                               # %"gcm_c::pieces::decrypting::fotsgure_gcm_decrypt_unverified.exit"
 	movaps	48(%rsp), %xmm6                 # 16-byte Reload
 	movaps	64(%rsp), %xmm7                 # 16-byte Reload
 	movaps	80(%rsp), %xmm8                 # 16-byte Reload
@@ -18352,7 +18352,7 @@ gcm_v2.fotsgure_gcm_encrypt:                   # @gcm_v2.fotsgure_gcm_encrypt
 	addq	%rbx, 8(%r14)
 	callq	gcm_v2.aes_cipher.zeroize.stack.wipe_stack.1536
 	xorl	%eax, %eax
-.Lgcm_v2_BB83_5:                               # %"gcm_c::sealing::fotsgure_gcm_encrypt.exit"
+.Lgcm_v2_BB83_5:                               # %"gcm_c::pieces::encrypting::fotsgure_gcm_encrypt.exit"
 	movaps	48(%rsp), %xmm6                 # 16-byte Reload
 	movaps	64(%rsp), %xmm7                 # 16-byte Reload
 	movaps	80(%rsp), %xmm8                 # 16-byte Reload
@@ -18481,7 +18481,7 @@ gcm_v2.fotsgure_gcm_verify:                    # @gcm_v2.fotsgure_gcm_verify
 	addq	%rbx, 8(%r14)
 	callq	gcm_v2.aes_cipher.zeroize.stack.wipe_stack.512
 	xorl	%eax, %eax
-.Lgcm_v2_BB84_5:                               # %"gcm_c::opening::fotsgure_gcm_verify.exit"
+.Lgcm_v2_BB84_5:                               # %"gcm_c::pieces::decrypting::fotsgure_gcm_verify.exit"
 	movaps	48(%rsp), %xmm6                 # 16-byte Reload
 	movaps	64(%rsp), %xmm7                 # 16-byte Reload
 	movaps	80(%rsp), %xmm8                 # 16-byte Reload
@@ -18608,7 +18608,7 @@ gcm_v2.fotsgure_gcm_accept:                    # @gcm_v2.fotsgure_gcm_accept
 	jmp	.Lgcm_v2_BB85_7
 .Lgcm_v2_BB85_4:
 	movl	$8, %eax
-.Lgcm_v2_BB85_7:                               # %"gcm_c::opening::fotsgure_gcm_accept.exit"
+.Lgcm_v2_BB85_7:                               # %"gcm_c::pieces::decrypting::fotsgure_gcm_accept.exit"
 	movaps	64(%rsp), %xmm6                 # 16-byte Reload
 	movaps	80(%rsp), %xmm7                 # 16-byte Reload
 	movaps	96(%rsp), %xmm8                 # 16-byte Reload
@@ -18740,7 +18740,7 @@ gcm_v2.fotsgure_gcm_accept_short:              # @gcm_v2.fotsgure_gcm_accept_sho
 	jmp	.Lgcm_v2_BB86_8
 .Lgcm_v2_BB86_5:
 	movl	$8, %eax
-.Lgcm_v2_BB86_8:                               # %"gcm_c::opening::fotsgure_gcm_accept_short.exit"
+.Lgcm_v2_BB86_8:                               # %"gcm_c::pieces::decrypting::fotsgure_gcm_accept_short.exit"
 	movaps	48(%rsp), %xmm6                 # 16-byte Reload
 	movaps	64(%rsp), %xmm7                 # 16-byte Reload
 	movaps	80(%rsp), %xmm8                 # 16-byte Reload
@@ -18792,4 +18792,4 @@ gcm_v2.fotsgure_gcm_accept_short:              # @gcm_v2.fotsgure_gcm_accept_sho
 
 
 	.section	.rdata,"dr"
-	.asciz	"fotsgure_gcm 0.4.0, windows_x86_64/gcm.s, sources SHA-256 db4efa4f888708ad96d151eefb1002396829e2ae35d1e342eb44652688b2f0d0"
+	.asciz	"fotsgure_gcm 0.4.0, windows_x86_64/gcm.s, sources SHA-256 c5580fd5c08fd1ce251de00bc68bbabc41e05f02470d0c531f44ab6d5c423d70"

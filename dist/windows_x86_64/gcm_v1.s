@@ -2357,7 +2357,7 @@ gcm_v1.aes_cipher.zeroize.stack.wipe_stack.768: # @gcm_v1.aes_cipher.zeroize.sta
 	.scl	3;
 	.type	32;
 	.endef
-	.p2align	4                               # -- Begin function gcm::mode::BorrowedGcm::put_pre_counter::<#56ef08599dd20827>
+	.p2align	4                               # -- Begin function gcm::mode::BorrowedGcm::put_pre_counter::<#c01aad2b5fbc92b1>
 gcm_v1.gcm.mode.BorrowedGcm.put_pre_counter: # @gcm_v1.gcm.mode.BorrowedGcm.put_pre_counter
 .seh_proc gcm_v1.gcm.mode.BorrowedGcm.put_pre_counter
 # %bb.0:                                # %start
@@ -2603,7 +2603,7 @@ gcm_v1.aes_cipher.zeroize.stack.wipe_stack.512: # @gcm_v1.aes_cipher.zeroize.sta
 	.scl	3;
 	.type	32;
 	.endef
-	.p2align	4                               # -- Begin function gcm::mode::BorrowedGcm::put_tag_so_far::<#56ef08599dd20827>
+	.p2align	4                               # -- Begin function gcm::mode::BorrowedGcm::put_tag_so_far::<#c01aad2b5fbc92b1>
 gcm_v1.gcm.mode.BorrowedGcm.put_tag_so_far: # @gcm_v1.gcm.mode.BorrowedGcm.put_tag_so_far
 .seh_proc gcm_v1.gcm.mode.BorrowedGcm.put_tag_so_far
 # %bb.0:                                # %start
@@ -5723,7 +5723,7 @@ gcm_v1.aes_cipher.zeroize.stack.wipe_stack.1024: # @gcm_v1.aes_cipher.zeroize.st
 	.scl	3;
 	.type	32;
 	.endef
-	.p2align	4                               # -- Begin function gcm::mode::BorrowedGcm::hash_what_came::<#56ef08599dd20827>
+	.p2align	4                               # -- Begin function gcm::mode::BorrowedGcm::hash_what_came::<#c01aad2b5fbc92b1>
 gcm_v1.gcm.mode.BorrowedGcm.hash_what_came: # @gcm_v1.gcm.mode.BorrowedGcm.hash_what_came
 .seh_proc gcm_v1.gcm.mode.BorrowedGcm.hash_what_came
 # %bb.0:                                # %start
@@ -5797,7 +5797,7 @@ gcm_v1.gcm.mode.BorrowedGcm.hash_what_came: # @gcm_v1.gcm.mode.BorrowedGcm.hash_
 	.scl	3;
 	.type	32;
 	.endef
-	.p2align	4                               # -- Begin function gcm::mode::put_subkey::<#56ef08599dd20827>
+	.p2align	4                               # -- Begin function gcm::mode::put_subkey::<#107cc7d9d0728059>
 gcm_v1.gcm.mode.put_subkey: # @gcm_v1.gcm.mode.put_subkey
 .seh_proc gcm_v1.gcm.mode.put_subkey
 # %bb.0:                                # %start
@@ -5846,7 +5846,7 @@ gcm_v1.gcm.mode.put_subkey: # @gcm_v1.gcm.mode.put_subkey
 	.scl	3;
 	.type	32;
 	.endef
-	.p2align	4                               # -- Begin function gcm::mode::BorrowedGcm::compare::<#56ef08599dd20827>
+	.p2align	4                               # -- Begin function gcm::mode::BorrowedGcm::compare::<#c01aad2b5fbc92b1>
 gcm_v1.gcm.mode.BorrowedGcm.compare: # @gcm_v1.gcm.mode.BorrowedGcm.compare
 .seh_proc gcm_v1.gcm.mode.BorrowedGcm.compare
 # %bb.0:                                # %start
@@ -5921,7 +5921,7 @@ gcm_v1.gcm.mode.BorrowedGcm.compare: # @gcm_v1.gcm.mode.BorrowedGcm.compare
 	.scl	3;
 	.type	32;
 	.endef
-	.p2align	4                               # -- Begin function gcm::mode::BorrowedGcm::put_tag::<#56ef08599dd20827>
+	.p2align	4                               # -- Begin function gcm::mode::BorrowedGcm::put_tag::<#c01aad2b5fbc92b1>
 gcm_v1.gcm.mode.BorrowedGcm.put_tag: # @gcm_v1.gcm.mode.BorrowedGcm.put_tag
 .seh_proc gcm_v1.gcm.mode.BorrowedGcm.put_tag
 # %bb.0:                                # %start
@@ -6061,7 +6061,7 @@ gcm_v1.gcm.mode.BorrowedGcm.put_tag: # @gcm_v1.gcm.mode.BorrowedGcm.put_tag
 	movq	%r12, %rdx
 	movq	%r15, %rcx
 	callq	gcm_v1.gcm.bitwise.product_bitwise
-.Lgcm_v1_BB18_11:                              # %"gcm::tags::hash::<#4ffbd79422221ed4>.exit"
+.Lgcm_v1_BB18_11:                              # %"gcm::tags::hash::<#d9ba0fa9ccec4268>.exit"
 	movl	%r13d, %ecx
 	andl	$8160, %ecx                     # imm = 0x1FE0
 	shlq	$43, %rcx
@@ -7041,7 +7041,7 @@ gcm_v1.gcm_c.whole_to.copy:                # @gcm_v1.gcm_c.whole_to.copy
 	.scl	3;
 	.type	32;
 	.endef
-	.p2align	4                               # -- Begin function gcm_c::siv::open_in::<#44523ceb9187f596>
+	.p2align	4                               # -- Begin function gcm_c::siv::open_in::<#6c5a95c66ef7471a>
 gcm_v1.gcm_c.siv.open_in: # @gcm_v1.gcm_c.siv.open_in
 .seh_proc gcm_v1.gcm_c.siv.open_in
 # %bb.0:                                # %start
@@ -7112,7 +7112,7 @@ gcm_v1.gcm_c.siv.open_in: # @gcm_v1.gcm_c.siv.open_in
 	.scl	3;
 	.type	32;
 	.endef
-	.p2align	4                               # -- Begin function gcm_c::siv::prepare::<#44523ceb9187f596>
+	.p2align	4                               # -- Begin function gcm_c::siv::prepare::<#6c5a95c66ef7471a>
 gcm_v1.gcm_c.siv.prepare: # @gcm_v1.gcm_c.siv.prepare
 .seh_proc gcm_v1.gcm_c.siv.prepare
 # %bb.0:                                # %start
@@ -7235,7 +7235,7 @@ gcm_v1.gcm_c.siv.prepare: # @gcm_v1.gcm_c.siv.prepare
 	.scl	3;
 	.type	32;
 	.endef
-	.p2align	4                               # -- Begin function gcm_siv::message::open::<#f0567fcc0c8b4561>
+	.p2align	4                               # -- Begin function gcm_siv::message::open::<#fe07397204778e73>
 gcm_v1.gcm_siv.message.open: # @gcm_v1.gcm_siv.message.open
 .seh_proc gcm_v1.gcm_siv.message.open
 # %bb.0:                                # %start
@@ -7309,7 +7309,7 @@ gcm_v1.gcm_siv.message.open: # @gcm_v1.gcm_siv.message.open
 	.type	32;
 	.endef
 	.section	.rdata,"dr"
-	.p2align	4, 0x0                          # -- Begin function gcm_siv::message::put_tag::<#f0567fcc0c8b4561>
+	.p2align	4, 0x0                          # -- Begin function gcm_siv::message::put_tag::<#fe07397204778e73>
 .Lgcm_v1_CPI30_0:
 	.short	65535                           # 0xffff
 	.short	0                               # 0x0
@@ -8195,7 +8195,7 @@ gcm_v1.aes_cipher.zeroize.stack.wipe_stack.2816: # @gcm_v1.aes_cipher.zeroize.st
 	.scl	3;
 	.type	32;
 	.endef
-	.p2align	4                               # -- Begin function gcm_c::siv::seal_in::<#44523ceb9187f596>
+	.p2align	4                               # -- Begin function gcm_c::siv::seal_in::<#6c5a95c66ef7471a>
 gcm_v1.gcm_c.siv.seal_in: # @gcm_v1.gcm_c.siv.seal_in
 .seh_proc gcm_v1.gcm_c.siv.seal_in
 # %bb.0:                                # %start
@@ -8270,7 +8270,7 @@ gcm_v1.gcm_c.siv.seal_in: # @gcm_v1.gcm_c.siv.seal_in
 	.scl	3;
 	.type	32;
 	.endef
-	.p2align	4                               # -- Begin function gcm_siv::message::seal::<#f0567fcc0c8b4561>
+	.p2align	4                               # -- Begin function gcm_siv::message::seal::<#fe07397204778e73>
 gcm_v1.gcm_siv.message.seal: # @gcm_v1.gcm_siv.message.seal
 .seh_proc gcm_v1.gcm_siv.message.seal
 # %bb.0:                                # %start
@@ -8323,7 +8323,7 @@ gcm_v1.gcm_siv.message.seal: # @gcm_v1.gcm_siv.message.seal
 	.scl	3;
 	.type	32;
 	.endef
-	.p2align	4                               # -- Begin function gcm::hash_room::hash_piece::<#4ffbd79422221ed4>
+	.p2align	4                               # -- Begin function gcm::hash_room::hash_piece::<#d9ba0fa9ccec4268>
 gcm_v1.gcm.hash_room.hash_piece: # @gcm_v1.gcm.hash_room.hash_piece
 .seh_proc gcm_v1.gcm.hash_room.hash_piece
 # %bb.0:                                # %start
@@ -8663,7 +8663,7 @@ gcm_v1.gcm.hash_room.hash_piece: # @gcm_v1.gcm.hash_room.hash_piece
 	.scl	3;
 	.type	32;
 	.endef
-	.p2align	4                               # -- Begin function gcm::mode::BorrowedGcm::turn_to::<#56ef08599dd20827>
+	.p2align	4                               # -- Begin function gcm::mode::BorrowedGcm::turn_to::<#c01aad2b5fbc92b1>
 gcm_v1.gcm.mode.BorrowedGcm.turn_to: # @gcm_v1.gcm.mode.BorrowedGcm.turn_to
 .seh_proc gcm_v1.gcm.mode.BorrowedGcm.turn_to
 # %bb.0:                                # %start
@@ -8733,7 +8733,7 @@ gcm_v1.gcm.mode.BorrowedGcm.turn_to: # @gcm_v1.gcm.mode.BorrowedGcm.turn_to
 	.scl	3;
 	.type	32;
 	.endef
-	.p2align	4                               # -- Begin function gcm::mode::BorrowedGcm::is_tag_so_far::<#56ef08599dd20827>
+	.p2align	4                               # -- Begin function gcm::mode::BorrowedGcm::is_tag_so_far::<#c01aad2b5fbc92b1>
 gcm_v1.gcm.mode.BorrowedGcm.is_tag_so_far: # @gcm_v1.gcm.mode.BorrowedGcm.is_tag_so_far
 .seh_proc gcm_v1.gcm.mode.BorrowedGcm.is_tag_so_far
 # %bb.0:                                # %start
@@ -8766,7 +8766,7 @@ gcm_v1.gcm.mode.BorrowedGcm.is_tag_so_far: # @gcm_v1.gcm.mode.BorrowedGcm.is_tag
 	.scl	3;
 	.type	32;
 	.endef
-	.p2align	4                               # -- Begin function gcm::mode::BorrowedGcm::is_short_tag_so_far::<#56ef08599dd20827>
+	.p2align	4                               # -- Begin function gcm::mode::BorrowedGcm::is_short_tag_so_far::<#c01aad2b5fbc92b1>
 gcm_v1.gcm.mode.BorrowedGcm.is_short_tag_so_far: # @gcm_v1.gcm.mode.BorrowedGcm.is_short_tag_so_far
 .seh_proc gcm_v1.gcm.mode.BorrowedGcm.is_short_tag_so_far
 # %bb.0:                                # %start
@@ -9360,7 +9360,7 @@ gcm_v1.fotsgure_gcm_begin_next:                # @gcm_v1.fotsgure_gcm_begin_next
 	bswapl	%eax
 	movl	%eax, (%r8)
 	movq	%rcx, 4(%r8)
-.Lgcm_v1_BB50_8:                               # %"gcm::mode::BorrowedGcm::begin_next::<#56ef08599dd20827>.exit.i"
+.Lgcm_v1_BB50_8:                               # %"gcm::mode::BorrowedGcm::begin_next::<#c01aad2b5fbc92b1>.exit.i"
 	movl	%r10d, 12(%rsp)
 	movq	%r9, 16(%rsp)
 	leaq	32(%rdx), %rcx
@@ -9486,7 +9486,7 @@ gcm_v1.fotsgure_gcm_finish:                    # @gcm_v1.fotsgure_gcm_finish
 	movups	32(%rsp), %xmm0
 	movups	%xmm0, (%rbx)
 	xorl	%eax, %eax
-.Lgcm_v1_BB51_4:                               # %"gcm_c::sealing::fotsgure_gcm_finish.exit"
+.Lgcm_v1_BB51_4:                               # %"gcm_c::pieces::encrypting::fotsgure_gcm_finish.exit"
 	movaps	48(%rsp), %xmm6                 # 16-byte Reload
 	movaps	64(%rsp), %xmm7                 # 16-byte Reload
 	movaps	80(%rsp), %xmm8                 # 16-byte Reload
@@ -9863,7 +9863,7 @@ gcm_v1.fotsgure_gcm_open:                      # @gcm_v1.fotsgure_gcm_open
 	movq	%r14, %r8
 	callq	gcm_v1.gcm.gctr.add_gctr
 	xorl	%ebp, %ebp
-.Lgcm_v1_BB54_7:                               # %"gcm::mode::BorrowedGcm::decrypt::<#56ef08599dd20827>.exit.i"
+.Lgcm_v1_BB54_7:                               # %"gcm::mode::BorrowedGcm::decrypt::<#c01aad2b5fbc92b1>.exit.i"
 	leaq	32(%rsp), %rdi
 	callq	gcm_v1.aes_cipher.zeroize.elements.zeroize_elements.3
 	callq	gcm_v1.aes_cipher.zeroize.stack.wipe_stack.1536
@@ -10125,7 +10125,7 @@ gcm_v1.fotsgure_gcm_open_to:                   # @gcm_v1.fotsgure_gcm_open_to
 	movq	%rbx, %r8
 	callq	gcm_v1.gcm.gctr.add_gctr
 	xorl	%ebp, %ebp
-.Lgcm_v1_BB55_33:                              # %"gcm::mode::BorrowedGcm::decrypt_to::<#56ef08599dd20827>.exit.i"
+.Lgcm_v1_BB55_33:                              # %"gcm::mode::BorrowedGcm::decrypt_to::<#c01aad2b5fbc92b1>.exit.i"
 	leaq	48(%rsp), %rdi
 	callq	gcm_v1.aes_cipher.zeroize.elements.zeroize_elements.3
 	callq	gcm_v1.aes_cipher.zeroize.stack.wipe_stack.1536
@@ -11530,7 +11530,7 @@ gcm_v1.fotsgure_gcm_decrypt:                   # @gcm_v1.fotsgure_gcm_decrypt
 	addq	%r14, 16(%rbx)
 	callq	gcm_v1.aes_cipher.zeroize.stack.wipe_stack.1536
 	xorl	%eax, %eax
-.Lgcm_v1_BB64_5:                               # %"gcm_c::opening::fotsgure_gcm_decrypt.exit"
+.Lgcm_v1_BB64_5:                               # %"gcm_c::pieces::decrypting::fotsgure_gcm_decrypt.exit"
 	movaps	32(%rsp), %xmm6                 # 16-byte Reload
 	movaps	48(%rsp), %xmm7                 # 16-byte Reload
 	movaps	64(%rsp), %xmm8                 # 16-byte Reload
@@ -11661,7 +11661,7 @@ gcm_v1.fotsgure_gcm_decrypt_unverified:        # @gcm_v1.fotsgure_gcm_decrypt_un
 	callq	gcm_v1.gcm.gctr.add_gctr
 	callq	gcm_v1.aes_cipher.zeroize.stack.wipe_stack.1536
 	xorl	%eax, %eax
-.Lgcm_v1_BB65_5:                               # %"gcm_c::opening::fotsgure_gcm_decrypt_unverified.exit"
+.Lgcm_v1_BB65_5:                               # %"gcm_c::pieces::decrypting::fotsgure_gcm_decrypt_unverified.exit"
 	movaps	32(%rsp), %xmm6                 # 16-byte Reload
 	movaps	48(%rsp), %xmm7                 # 16-byte Reload
 	movaps	64(%rsp), %xmm8                 # 16-byte Reload
@@ -11795,7 +11795,7 @@ gcm_v1.fotsgure_gcm_encrypt:                   # @gcm_v1.fotsgure_gcm_encrypt
 	addq	%rbx, 8(%r14)
 	callq	gcm_v1.aes_cipher.zeroize.stack.wipe_stack.1536
 	xorl	%eax, %eax
-.Lgcm_v1_BB66_5:                               # %"gcm_c::sealing::fotsgure_gcm_encrypt.exit"
+.Lgcm_v1_BB66_5:                               # %"gcm_c::pieces::encrypting::fotsgure_gcm_encrypt.exit"
 	movaps	32(%rsp), %xmm6                 # 16-byte Reload
 	movaps	48(%rsp), %xmm7                 # 16-byte Reload
 	movaps	64(%rsp), %xmm8                 # 16-byte Reload
@@ -11921,7 +11921,7 @@ gcm_v1.fotsgure_gcm_verify:                    # @gcm_v1.fotsgure_gcm_verify
 	addq	%rbx, 8(%r14)
 	callq	gcm_v1.aes_cipher.zeroize.stack.wipe_stack.512
 	xorl	%eax, %eax
-.Lgcm_v1_BB67_5:                               # %"gcm_c::opening::fotsgure_gcm_verify.exit"
+.Lgcm_v1_BB67_5:                               # %"gcm_c::pieces::decrypting::fotsgure_gcm_verify.exit"
 	movaps	32(%rsp), %xmm6                 # 16-byte Reload
 	movaps	48(%rsp), %xmm7                 # 16-byte Reload
 	movaps	64(%rsp), %xmm8                 # 16-byte Reload
@@ -12045,7 +12045,7 @@ gcm_v1.fotsgure_gcm_accept:                    # @gcm_v1.fotsgure_gcm_accept
 	jmp	.Lgcm_v1_BB68_7
 .Lgcm_v1_BB68_4:
 	movl	$8, %eax
-.Lgcm_v1_BB68_7:                               # %"gcm_c::opening::fotsgure_gcm_accept.exit"
+.Lgcm_v1_BB68_7:                               # %"gcm_c::pieces::decrypting::fotsgure_gcm_accept.exit"
 	movaps	48(%rsp), %xmm6                 # 16-byte Reload
 	movaps	64(%rsp), %xmm7                 # 16-byte Reload
 	movaps	80(%rsp), %xmm8                 # 16-byte Reload
@@ -12174,7 +12174,7 @@ gcm_v1.fotsgure_gcm_accept_short:              # @gcm_v1.fotsgure_gcm_accept_sho
 	jmp	.Lgcm_v1_BB69_8
 .Lgcm_v1_BB69_5:
 	movl	$8, %eax
-.Lgcm_v1_BB69_8:                               # %"gcm_c::opening::fotsgure_gcm_accept_short.exit"
+.Lgcm_v1_BB69_8:                               # %"gcm_c::pieces::decrypting::fotsgure_gcm_accept_short.exit"
 	movaps	32(%rsp), %xmm6                 # 16-byte Reload
 	movaps	48(%rsp), %xmm7                 # 16-byte Reload
 	movaps	64(%rsp), %xmm8                 # 16-byte Reload
@@ -12211,4 +12211,4 @@ gcm_v1.fotsgure_gcm_accept_short:              # @gcm_v1.fotsgure_gcm_accept_sho
 
 
 	.section	.rdata,"dr"
-	.asciz	"fotsgure_gcm 0.4.0, windows_x86_64/gcm_v1.s, sources SHA-256 db4efa4f888708ad96d151eefb1002396829e2ae35d1e342eb44652688b2f0d0"
+	.asciz	"fotsgure_gcm 0.4.0, windows_x86_64/gcm_v1.s, sources SHA-256 c5580fd5c08fd1ce251de00bc68bbabc41e05f02470d0c531f44ab6d5c423d70"

@@ -1009,7 +1009,7 @@ gcm_v3.aes_permute.lane_keys.expand_lanes: # @gcm_v3.aes_permute.lane_keys.expan
 	.type	32;
 	.endef
 	.section	.rdata,"dr"
-	.p2align	5, 0x0                          # -- Begin function gcm::mode::BorrowedGcm::put_pre_counter::<#198ff2c7d4c5b59d>
+	.p2align	5, 0x0                          # -- Begin function gcm::mode::BorrowedGcm::put_pre_counter::<#265f21f9951183cc>
 .Lgcm_v3_CPI5_0:
 	.quad	43                              # 0x2b
 	.quad	27                              # 0x1b
@@ -2011,7 +2011,7 @@ gcm_v3.aes_cipher.zeroize.stack.wipe_stack.512: # @gcm_v3.aes_cipher.zeroize.sta
 	.type	32;
 	.endef
 	.section	.rdata,"dr"
-	.p2align	5, 0x0                          # -- Begin function gcm::mode::BorrowedGcm::put_tag_so_far::<#198ff2c7d4c5b59d>
+	.p2align	5, 0x0                          # -- Begin function gcm::mode::BorrowedGcm::put_tag_so_far::<#265f21f9951183cc>
 .Lgcm_v3_CPI11_0:
 	.quad	43                              # 0x2b
 	.quad	27                              # 0x1b
@@ -2474,7 +2474,7 @@ gcm_v3.gcm.tags.put_mask: # @gcm_v3.gcm.tags.put_mask
 	.scl	3;
 	.type	32;
 	.endef
-	.p2align	4                               # -- Begin function gcm::mode::BorrowedGcm::hash_what_came::<#198ff2c7d4c5b59d>
+	.p2align	4                               # -- Begin function gcm::mode::BorrowedGcm::hash_what_came::<#265f21f9951183cc>
 gcm_v3.gcm.mode.BorrowedGcm.hash_what_came: # @gcm_v3.gcm.mode.BorrowedGcm.hash_what_came
 # %bb.0:                                # %start
 	xorl	%eax, %eax
@@ -2493,7 +2493,7 @@ gcm_v3.gcm.mode.BorrowedGcm.hash_what_came: # @gcm_v3.gcm.mode.BorrowedGcm.hash_
 	.type	32;
 	.endef
 	.section	.rdata,"dr"
-	.p2align	4, 0x0                          # -- Begin function gcm::mode::put_subkey::<#198ff2c7d4c5b59d>
+	.p2align	4, 0x0                          # -- Begin function gcm::mode::put_subkey::<#89719a5bfdff2a0e>
 .Lgcm_v3_CPI14_0:
 	.zero	16,15
 .Lgcm_v3_CPI14_1:
@@ -4270,7 +4270,7 @@ gcm_v3.gcm.multiples.put_table:            # @gcm_v3.gcm.multiples.put_table
 	.scl	3;
 	.type	32;
 	.endef
-	.p2align	4                               # -- Begin function gcm::mode::BorrowedGcm::compare::<#198ff2c7d4c5b59d>
+	.p2align	4                               # -- Begin function gcm::mode::BorrowedGcm::compare::<#265f21f9951183cc>
 gcm_v3.gcm.mode.BorrowedGcm.compare: # @gcm_v3.gcm.mode.BorrowedGcm.compare
 .seh_proc gcm_v3.gcm.mode.BorrowedGcm.compare
 # %bb.0:                                # %start
@@ -4346,7 +4346,7 @@ gcm_v3.gcm.mode.BorrowedGcm.compare: # @gcm_v3.gcm.mode.BorrowedGcm.compare
 	.type	32;
 	.endef
 	.section	.rdata,"dr"
-	.p2align	4, 0x0                          # -- Begin function gcm::mode::BorrowedGcm::put_tag::<#198ff2c7d4c5b59d>
+	.p2align	4, 0x0                          # -- Begin function gcm::mode::BorrowedGcm::put_tag::<#265f21f9951183cc>
 .Lgcm_v3_CPI18_0:
 	.byte	15                              # 0xf
 	.byte	14                              # 0xe
@@ -4487,7 +4487,7 @@ gcm_v3.gcm.mode.BorrowedGcm.put_tag: # @gcm_v3.gcm.mode.BorrowedGcm.put_tag
 	jne	.Lgcm_v3_BB18_6
 # %bb.5:                                # %then.1.i.i.i
 	vpxor	%xmm7, %xmm6, %xmm0
-.Lgcm_v3_BB18_17:                              # %"gcm::tags::hash::<#175b825dac74f40b>.exit"
+.Lgcm_v3_BB18_17:                              # %"gcm::tags::hash::<#de867e0411c14352>.exit"
 	leaq	64(%rsp), %rdi
 	movq	%r12, %rsi
 	callq	gcm_v3.gcm.multiples.Multiples.block_product
@@ -4541,7 +4541,7 @@ gcm_v3.gcm.mode.BorrowedGcm.put_tag: # @gcm_v3.gcm.mode.BorrowedGcm.put_tag
 	vmovdqa	%xmm6, %xmm0
 	vmovdqa	%xmm7, %xmm2
 	callq	gcm_v3.gcm.multiples.Multiples.three_products
-.Lgcm_v3_BB18_18:                              # %"gcm::tags::hash::<#175b825dac74f40b>.exit"
+.Lgcm_v3_BB18_18:                              # %"gcm::tags::hash::<#de867e0411c14352>.exit"
 	movbeq	72(%rsp), %rax
 	movbeq	64(%rsp), %rcx
 	vmovq	%rcx, %xmm0
@@ -10637,7 +10637,7 @@ gcm_v3.gcm_c.whole_to.copy:                # @gcm_v3.gcm_c.whole_to.copy
 	.scl	3;
 	.type	32;
 	.endef
-	.p2align	4                               # -- Begin function gcm_c::siv::open_in::<#8b70e375869fa13e>
+	.p2align	4                               # -- Begin function gcm_c::siv::open_in::<#a6bcae6e23f869e4>
 gcm_v3.gcm_c.siv.open_in.1: # @gcm_v3.gcm_c.siv.open_in.1
 .seh_proc gcm_v3.gcm_c.siv.open_in.1
 # %bb.0:                                # %start
@@ -10740,7 +10740,7 @@ gcm_v3.gcm_c.siv.open_in.1: # @gcm_v3.gcm_c.siv.open_in.1
 	.scl	3;
 	.type	32;
 	.endef
-	.p2align	4                               # -- Begin function gcm_c::siv::prepare::<#8b70e375869fa13e>
+	.p2align	4                               # -- Begin function gcm_c::siv::prepare::<#a6bcae6e23f869e4>
 gcm_v3.gcm_c.siv.prepare.1: # @gcm_v3.gcm_c.siv.prepare.1
 .seh_proc gcm_v3.gcm_c.siv.prepare.1
 # %bb.0:                                # %start
@@ -10957,7 +10957,7 @@ gcm_v3.gcm_siv.keys.derive: # @gcm_v3.gcm_siv.keys.derive
 	.scl	3;
 	.type	32;
 	.endef
-	.p2align	4                               # -- Begin function gcm_siv::message::open::<#2d05f53e4f400f78>
+	.p2align	4                               # -- Begin function gcm_siv::message::open::<#1c2d89e73cd27442>
 gcm_v3.gcm_siv.message.open.1: # @gcm_v3.gcm_siv.message.open.1
 .seh_proc gcm_v3.gcm_siv.message.open.1
 # %bb.0:                                # %start
@@ -11032,7 +11032,7 @@ gcm_v3.gcm_siv.message.open.1: # @gcm_v3.gcm_siv.message.open.1
 	.type	32;
 	.endef
 	.section	.rdata,"dr"
-	.p2align	4, 0x0                          # -- Begin function gcm_siv::message::put_tag::<#2d05f53e4f400f78>
+	.p2align	4, 0x0                          # -- Begin function gcm_siv::message::put_tag::<#1c2d89e73cd27442>
 .Lgcm_v3_CPI40_0:
 	.byte	15                              # 0xf
 	.byte	14                              # 0xe
@@ -13527,7 +13527,7 @@ gcm_v3.aes_cipher.zeroize.stack.wipe_stack.2816: # @gcm_v3.aes_cipher.zeroize.st
 	.scl	3;
 	.type	32;
 	.endef
-	.p2align	4                               # -- Begin function gcm_c::siv::open_in::<#8a2f4bf26ec90036>
+	.p2align	4                               # -- Begin function gcm_c::siv::open_in::<#730c80b4023fbf8d>
 gcm_v3.gcm_c.siv.open_in.2: # @gcm_v3.gcm_c.siv.open_in.2
 .seh_proc gcm_v3.gcm_c.siv.open_in.2
 # %bb.0:                                # %start
@@ -13620,7 +13620,7 @@ gcm_v3.gcm_c.siv.open_in.2: # @gcm_v3.gcm_c.siv.open_in.2
 	.scl	3;
 	.type	32;
 	.endef
-	.p2align	4                               # -- Begin function gcm_c::siv::prepare::<#8a2f4bf26ec90036>
+	.p2align	4                               # -- Begin function gcm_c::siv::prepare::<#730c80b4023fbf8d>
 gcm_v3.gcm_c.siv.prepare.2: # @gcm_v3.gcm_c.siv.prepare.2
 .seh_proc gcm_v3.gcm_c.siv.prepare.2
 # %bb.0:                                # %start
@@ -13749,7 +13749,7 @@ gcm_v3.gcm_c.siv.prepare.2: # @gcm_v3.gcm_c.siv.prepare.2
 	.scl	3;
 	.type	32;
 	.endef
-	.p2align	4                               # -- Begin function gcm_siv::message::open::<#4e1af47b5373b810>
+	.p2align	4                               # -- Begin function gcm_siv::message::open::<#448f591e81c2a7bf>
 gcm_v3.gcm_siv.message.open.2: # @gcm_v3.gcm_siv.message.open.2
 .seh_proc gcm_v3.gcm_siv.message.open.2
 # %bb.0:                                # %start
@@ -13824,7 +13824,7 @@ gcm_v3.gcm_siv.message.open.2: # @gcm_v3.gcm_siv.message.open.2
 	.type	32;
 	.endef
 	.section	.rdata,"dr"
-	.p2align	4, 0x0                          # -- Begin function gcm_siv::message::put_tag::<#4e1af47b5373b810>
+	.p2align	4, 0x0                          # -- Begin function gcm_siv::message::put_tag::<#448f591e81c2a7bf>
 .Lgcm_v3_CPI51_0:
 	.byte	15                              # 0xf
 	.byte	14                              # 0xe
@@ -14602,7 +14602,7 @@ gcm_v3.gcm_siv.message.put_tag.2: # @gcm_v3.gcm_siv.message.put_tag.2
 	.scl	3;
 	.type	32;
 	.endef
-	.p2align	4                               # -- Begin function gcm_c::siv::seal_in::<#8b70e375869fa13e>
+	.p2align	4                               # -- Begin function gcm_c::siv::seal_in::<#a6bcae6e23f869e4>
 gcm_v3.gcm_c.siv.seal_in.1: # @gcm_v3.gcm_c.siv.seal_in.1
 .seh_proc gcm_v3.gcm_c.siv.seal_in.1
 # %bb.0:                                # %start
@@ -14708,7 +14708,7 @@ gcm_v3.gcm_c.siv.seal_in.1: # @gcm_v3.gcm_c.siv.seal_in.1
 	.scl	3;
 	.type	32;
 	.endef
-	.p2align	4                               # -- Begin function gcm_siv::message::seal::<#2d05f53e4f400f78>
+	.p2align	4                               # -- Begin function gcm_siv::message::seal::<#1c2d89e73cd27442>
 gcm_v3.gcm_siv.message.seal.1: # @gcm_v3.gcm_siv.message.seal.1
 .seh_proc gcm_v3.gcm_siv.message.seal.1
 # %bb.0:                                # %start
@@ -14761,7 +14761,7 @@ gcm_v3.gcm_siv.message.seal.1: # @gcm_v3.gcm_siv.message.seal.1
 	.scl	3;
 	.type	32;
 	.endef
-	.p2align	4                               # -- Begin function gcm_c::siv::seal_in::<#8a2f4bf26ec90036>
+	.p2align	4                               # -- Begin function gcm_c::siv::seal_in::<#730c80b4023fbf8d>
 gcm_v3.gcm_c.siv.seal_in.2: # @gcm_v3.gcm_c.siv.seal_in.2
 .seh_proc gcm_v3.gcm_c.siv.seal_in.2
 # %bb.0:                                # %start
@@ -14856,7 +14856,7 @@ gcm_v3.gcm_c.siv.seal_in.2: # @gcm_v3.gcm_c.siv.seal_in.2
 	.scl	3;
 	.type	32;
 	.endef
-	.p2align	4                               # -- Begin function gcm_siv::message::seal::<#4e1af47b5373b810>
+	.p2align	4                               # -- Begin function gcm_siv::message::seal::<#448f591e81c2a7bf>
 gcm_v3.gcm_siv.message.seal.2: # @gcm_v3.gcm_siv.message.seal.2
 .seh_proc gcm_v3.gcm_siv.message.seal.2
 # %bb.0:                                # %start
@@ -14910,7 +14910,7 @@ gcm_v3.gcm_siv.message.seal.2: # @gcm_v3.gcm_siv.message.seal.2
 	.type	32;
 	.endef
 	.section	.rdata,"dr"
-	.p2align	4, 0x0                          # -- Begin function gcm::hash_room::hash_piece::<#175b825dac74f40b>
+	.p2align	4, 0x0                          # -- Begin function gcm::hash_room::hash_piece::<#de867e0411c14352>
 .Lgcm_v3_CPI56_0:
 	.byte	15                              # 0xf
 	.byte	14                              # 0xe
@@ -15257,7 +15257,7 @@ gcm_v3.gcm.hash_room.hash_piece: # @gcm_v3.gcm.hash_room.hash_piece
 	.type	32;
 	.endef
 	.section	.rdata,"dr"
-	.p2align	4, 0x0                          # -- Begin function gcm::mode::BorrowedGcm::turn_to::<#198ff2c7d4c5b59d>
+	.p2align	4, 0x0                          # -- Begin function gcm::mode::BorrowedGcm::turn_to::<#265f21f9951183cc>
 .Lgcm_v3_CPI57_0:
 	.byte	15                              # 0xf
 	.byte	14                              # 0xe
@@ -15338,7 +15338,7 @@ gcm_v3.gcm.mode.BorrowedGcm.turn_to: # @gcm_v3.gcm.mode.BorrowedGcm.turn_to
 	.scl	3;
 	.type	32;
 	.endef
-	.p2align	4                               # -- Begin function gcm::mode::BorrowedGcm::is_tag_so_far::<#198ff2c7d4c5b59d>
+	.p2align	4                               # -- Begin function gcm::mode::BorrowedGcm::is_tag_so_far::<#265f21f9951183cc>
 gcm_v3.gcm.mode.BorrowedGcm.is_tag_so_far: # @gcm_v3.gcm.mode.BorrowedGcm.is_tag_so_far
 .seh_proc gcm_v3.gcm.mode.BorrowedGcm.is_tag_so_far
 # %bb.0:                                # %start
@@ -15371,7 +15371,7 @@ gcm_v3.gcm.mode.BorrowedGcm.is_tag_so_far: # @gcm_v3.gcm.mode.BorrowedGcm.is_tag
 	.scl	3;
 	.type	32;
 	.endef
-	.p2align	4                               # -- Begin function gcm::mode::BorrowedGcm::is_short_tag_so_far::<#198ff2c7d4c5b59d>
+	.p2align	4                               # -- Begin function gcm::mode::BorrowedGcm::is_short_tag_so_far::<#265f21f9951183cc>
 gcm_v3.gcm.mode.BorrowedGcm.is_short_tag_so_far: # @gcm_v3.gcm.mode.BorrowedGcm.is_short_tag_so_far
 .seh_proc gcm_v3.gcm.mode.BorrowedGcm.is_short_tag_so_far
 # %bb.0:                                # %start
@@ -15986,7 +15986,7 @@ gcm_v3.fotsgure_gcm_begin_next:                # @gcm_v3.fotsgure_gcm_begin_next
 .Lgcm_v3_BB67_7:                               # %arm.1.i.i.i
 	movbel	%eax, (%r8)
 	movq	%rcx, 4(%r8)
-.Lgcm_v3_BB67_8:                               # %"gcm::mode::BorrowedGcm::begin_next::<#198ff2c7d4c5b59d>.exit.i"
+.Lgcm_v3_BB67_8:                               # %"gcm::mode::BorrowedGcm::begin_next::<#265f21f9951183cc>.exit.i"
 	movl	%r10d, 12(%rsp)
 	movq	%r9, 16(%rsp)
 	leaq	32(%rdx), %rcx
@@ -16116,7 +16116,7 @@ gcm_v3.fotsgure_gcm_finish:                    # @gcm_v3.fotsgure_gcm_finish
 	vmovups	48(%rsp), %xmm0
 	vmovups	%xmm0, (%rbx)
 	xorl	%eax, %eax
-.Lgcm_v3_BB68_4:                               # %"gcm_c::sealing::fotsgure_gcm_finish.exit"
+.Lgcm_v3_BB68_4:                               # %"gcm_c::pieces::encrypting::fotsgure_gcm_finish.exit"
 	vmovaps	64(%rsp), %xmm6                 # 16-byte Reload
 	vmovaps	80(%rsp), %xmm7                 # 16-byte Reload
 	vmovaps	96(%rsp), %xmm8                 # 16-byte Reload
@@ -16781,7 +16781,7 @@ gcm_v3.fotsgure_gcm_open_to:                   # @gcm_v3.fotsgure_gcm_open_to
 	vzeroupper
 	callq	gcm_v3.gcm.gctr.add_gctr
 	xorl	%ebp, %ebp
-.Lgcm_v3_BB72_33:                              # %"gcm::mode::BorrowedGcm::decrypt_to::<#198ff2c7d4c5b59d>.exit.i"
+.Lgcm_v3_BB72_33:                              # %"gcm::mode::BorrowedGcm::decrypt_to::<#265f21f9951183cc>.exit.i"
 	leaq	48(%rsp), %rdi
 	callq	gcm_v3.aes_cipher.zeroize.elements.zeroize_elements.3
 	callq	gcm_v3.aes_cipher.zeroize.stack.wipe_stack.1536
@@ -18320,7 +18320,7 @@ gcm_v3.fotsgure_gcm_decrypt:                   # @gcm_v3.fotsgure_gcm_decrypt
 	addq	%r14, 16(%rbx)
 	callq	gcm_v3.aes_cipher.zeroize.stack.wipe_stack.1536
 	xorl	%eax, %eax
-.Lgcm_v3_BB81_5:                               # %"gcm_c::opening::fotsgure_gcm_decrypt.exit"
+.Lgcm_v3_BB81_5:                               # %"gcm_c::pieces::decrypting::fotsgure_gcm_decrypt.exit"
 	vmovaps	48(%rsp), %xmm6                 # 16-byte Reload
 	vmovaps	64(%rsp), %xmm7                 # 16-byte Reload
 	vmovaps	80(%rsp), %xmm8                 # 16-byte Reload
@@ -18454,7 +18454,7 @@ gcm_v3.fotsgure_gcm_decrypt_unverified:        # @gcm_v3.fotsgure_gcm_decrypt_un
 	callq	gcm_v3.gcm.gctr.add_gctr
 	callq	gcm_v3.aes_cipher.zeroize.stack.wipe_stack.1536
 	xorl	%eax, %eax
-.Lgcm_v3_BB82_5:                               # %"gcm_c::opening::fotsgure_gcm_decrypt_unverified.exit"
+.Lgcm_v3_BB82_5:                               # %"gcm_c::pieces::decrypting::fotsgure_gcm_decrypt_unverified.exit"
 	vmovaps	48(%rsp), %xmm6                 # 16-byte Reload
 	vmovaps	64(%rsp), %xmm7                 # 16-byte Reload
 	vmovaps	80(%rsp), %xmm8                 # 16-byte Reload
@@ -18591,7 +18591,7 @@ gcm_v3.fotsgure_gcm_encrypt:                   # @gcm_v3.fotsgure_gcm_encrypt
 	addq	%rbx, 8(%r14)
 	callq	gcm_v3.aes_cipher.zeroize.stack.wipe_stack.1536
 	xorl	%eax, %eax
-.Lgcm_v3_BB83_5:                               # %"gcm_c::sealing::fotsgure_gcm_encrypt.exit"
+.Lgcm_v3_BB83_5:                               # %"gcm_c::pieces::encrypting::fotsgure_gcm_encrypt.exit"
 	vmovaps	48(%rsp), %xmm6                 # 16-byte Reload
 	vmovaps	64(%rsp), %xmm7                 # 16-byte Reload
 	vmovaps	80(%rsp), %xmm8                 # 16-byte Reload
@@ -18720,7 +18720,7 @@ gcm_v3.fotsgure_gcm_verify:                    # @gcm_v3.fotsgure_gcm_verify
 	addq	%rbx, 8(%r14)
 	callq	gcm_v3.aes_cipher.zeroize.stack.wipe_stack.512
 	xorl	%eax, %eax
-.Lgcm_v3_BB84_5:                               # %"gcm_c::opening::fotsgure_gcm_verify.exit"
+.Lgcm_v3_BB84_5:                               # %"gcm_c::pieces::decrypting::fotsgure_gcm_verify.exit"
 	vmovaps	48(%rsp), %xmm6                 # 16-byte Reload
 	vmovaps	64(%rsp), %xmm7                 # 16-byte Reload
 	vmovaps	80(%rsp), %xmm8                 # 16-byte Reload
@@ -18847,7 +18847,7 @@ gcm_v3.fotsgure_gcm_accept:                    # @gcm_v3.fotsgure_gcm_accept
 	jmp	.Lgcm_v3_BB85_7
 .Lgcm_v3_BB85_4:
 	movl	$8, %eax
-.Lgcm_v3_BB85_7:                               # %"gcm_c::opening::fotsgure_gcm_accept.exit"
+.Lgcm_v3_BB85_7:                               # %"gcm_c::pieces::decrypting::fotsgure_gcm_accept.exit"
 	vmovaps	64(%rsp), %xmm6                 # 16-byte Reload
 	vmovaps	80(%rsp), %xmm7                 # 16-byte Reload
 	vmovaps	96(%rsp), %xmm8                 # 16-byte Reload
@@ -18979,7 +18979,7 @@ gcm_v3.fotsgure_gcm_accept_short:              # @gcm_v3.fotsgure_gcm_accept_sho
 	jmp	.Lgcm_v3_BB86_8
 .Lgcm_v3_BB86_5:
 	movl	$8, %eax
-.Lgcm_v3_BB86_8:                               # %"gcm_c::opening::fotsgure_gcm_accept_short.exit"
+.Lgcm_v3_BB86_8:                               # %"gcm_c::pieces::decrypting::fotsgure_gcm_accept_short.exit"
 	vmovaps	48(%rsp), %xmm6                 # 16-byte Reload
 	vmovaps	64(%rsp), %xmm7                 # 16-byte Reload
 	vmovaps	80(%rsp), %xmm8                 # 16-byte Reload
@@ -19031,4 +19031,4 @@ gcm_v3.fotsgure_gcm_accept_short:              # @gcm_v3.fotsgure_gcm_accept_sho
 
 
 	.section	.rdata,"dr"
-	.asciz	"fotsgure_gcm 0.4.0, windows_x86_64/gcm_v3.s, sources SHA-256 db4efa4f888708ad96d151eefb1002396829e2ae35d1e342eb44652688b2f0d0"
+	.asciz	"fotsgure_gcm 0.4.0, windows_x86_64/gcm_v3.s, sources SHA-256 c5580fd5c08fd1ce251de00bc68bbabc41e05f02470d0c531f44ab6d5c423d70"

@@ -20912,5 +20912,5 @@ aes_v3.fotsgure_aes_ccm_seal:                  # @aes_v3.fotsgure_aes_ccm_seal
 	.long	9, 118, 1
 	.asciz	"Fotsgure"
 	.p2align	2, 0x0
-	.asciz	"fotsgure_aes 0.4.0, x86_64/aes_v3.s, sources SHA-256 b96af70ed2b5b29a5dafd0758ddd2538b545ff2cf2040c2a176388ed31023bb1"
+	.asciz	"fotsgure_aes 0.4.0, x86_64/aes_v3.s, sources SHA-256 46921789358eaca23fa4ae4eea30ab0e26ba1bdf6ccb1d0247d98ca9f1c6b73d"
 	.p2align	2, 0x0

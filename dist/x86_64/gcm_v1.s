@@ -2442,7 +2442,7 @@ gcm_v1.aes_cipher.zeroize.stack.wipe_stack.768: # @gcm_v1.aes_cipher.zeroize.sta
 	.size	gcm_v1.aes_cipher.zeroize.stack.wipe_stack.768, .Lgcm_v1_func_end6-gcm_v1.aes_cipher.zeroize.stack.wipe_stack.768
                                         # -- End function
 	.section	.text.gcm_v1.gcm.mode.BorrowedGcm.put_pre_counter,"ax",@progbits
-	.p2align	4                               # -- Begin function gcm::mode::BorrowedGcm::put_pre_counter::<#56ef08599dd20827>
+	.p2align	4                               # -- Begin function gcm::mode::BorrowedGcm::put_pre_counter::<#c01aad2b5fbc92b1>
 	.type	gcm_v1.gcm.mode.BorrowedGcm.put_pre_counter,@function
 gcm_v1.gcm.mode.BorrowedGcm.put_pre_counter: # @gcm_v1.gcm.mode.BorrowedGcm.put_pre_counter
 # %bb.0:                                # %start
@@ -2671,7 +2671,7 @@ gcm_v1.aes_cipher.zeroize.stack.wipe_stack.512: # @gcm_v1.aes_cipher.zeroize.sta
 	.size	gcm_v1.aes_cipher.zeroize.stack.wipe_stack.512, .Lgcm_v1_func_end9-gcm_v1.aes_cipher.zeroize.stack.wipe_stack.512
                                         # -- End function
 	.section	.text.gcm_v1.gcm.mode.BorrowedGcm.put_tag_so_far,"ax",@progbits
-	.p2align	4                               # -- Begin function gcm::mode::BorrowedGcm::put_tag_so_far::<#56ef08599dd20827>
+	.p2align	4                               # -- Begin function gcm::mode::BorrowedGcm::put_tag_so_far::<#c01aad2b5fbc92b1>
 	.type	gcm_v1.gcm.mode.BorrowedGcm.put_tag_so_far,@function
 gcm_v1.gcm.mode.BorrowedGcm.put_tag_so_far: # @gcm_v1.gcm.mode.BorrowedGcm.put_tag_so_far
 # %bb.0:                                # %start
@@ -5746,7 +5746,7 @@ gcm_v1.aes_cipher.zeroize.stack.wipe_stack.1024: # @gcm_v1.aes_cipher.zeroize.st
 	.size	gcm_v1.aes_cipher.zeroize.stack.wipe_stack.1024, .Lgcm_v1_func_end14-gcm_v1.aes_cipher.zeroize.stack.wipe_stack.1024
                                         # -- End function
 	.section	.text.gcm_v1.gcm.mode.BorrowedGcm.hash_what_came,"ax",@progbits
-	.p2align	4                               # -- Begin function gcm::mode::BorrowedGcm::hash_what_came::<#56ef08599dd20827>
+	.p2align	4                               # -- Begin function gcm::mode::BorrowedGcm::hash_what_came::<#c01aad2b5fbc92b1>
 	.type	gcm_v1.gcm.mode.BorrowedGcm.hash_what_came,@function
 gcm_v1.gcm.mode.BorrowedGcm.hash_what_came: # @gcm_v1.gcm.mode.BorrowedGcm.hash_what_came
 # %bb.0:                                # %start
@@ -5815,7 +5815,7 @@ gcm_v1.gcm.mode.BorrowedGcm.hash_what_came: # @gcm_v1.gcm.mode.BorrowedGcm.hash_
 	.size	gcm_v1.gcm.mode.BorrowedGcm.hash_what_came, .Lgcm_v1_func_end15-gcm_v1.gcm.mode.BorrowedGcm.hash_what_came
                                         # -- End function
 	.section	.text.gcm_v1.gcm.mode.put_subkey,"ax",@progbits
-	.p2align	4                               # -- Begin function gcm::mode::put_subkey::<#56ef08599dd20827>
+	.p2align	4                               # -- Begin function gcm::mode::put_subkey::<#107cc7d9d0728059>
 	.type	gcm_v1.gcm.mode.put_subkey,@function
 gcm_v1.gcm.mode.put_subkey: # @gcm_v1.gcm.mode.put_subkey
 # %bb.0:                                # %start
@@ -5857,7 +5857,7 @@ gcm_v1.gcm.mode.put_subkey: # @gcm_v1.gcm.mode.put_subkey
 	.size	gcm_v1.gcm.mode.put_subkey, .Lgcm_v1_func_end16-gcm_v1.gcm.mode.put_subkey
                                         # -- End function
 	.section	.text.gcm_v1.gcm.mode.BorrowedGcm.compare,"ax",@progbits
-	.p2align	4                               # -- Begin function gcm::mode::BorrowedGcm::compare::<#56ef08599dd20827>
+	.p2align	4                               # -- Begin function gcm::mode::BorrowedGcm::compare::<#c01aad2b5fbc92b1>
 	.type	gcm_v1.gcm.mode.BorrowedGcm.compare,@function
 gcm_v1.gcm.mode.BorrowedGcm.compare: # @gcm_v1.gcm.mode.BorrowedGcm.compare
 # %bb.0:                                # %start
@@ -5923,7 +5923,7 @@ gcm_v1.gcm.mode.BorrowedGcm.compare: # @gcm_v1.gcm.mode.BorrowedGcm.compare
 	.size	gcm_v1.gcm.mode.BorrowedGcm.compare, .Lgcm_v1_func_end17-gcm_v1.gcm.mode.BorrowedGcm.compare
                                         # -- End function
 	.section	.text.gcm_v1.gcm.mode.BorrowedGcm.put_tag,"ax",@progbits
-	.p2align	4                               # -- Begin function gcm::mode::BorrowedGcm::put_tag::<#56ef08599dd20827>
+	.p2align	4                               # -- Begin function gcm::mode::BorrowedGcm::put_tag::<#c01aad2b5fbc92b1>
 	.type	gcm_v1.gcm.mode.BorrowedGcm.put_tag,@function
 gcm_v1.gcm.mode.BorrowedGcm.put_tag: # @gcm_v1.gcm.mode.BorrowedGcm.put_tag
 # %bb.0:                                # %start
@@ -6057,7 +6057,7 @@ gcm_v1.gcm.mode.BorrowedGcm.put_tag: # @gcm_v1.gcm.mode.BorrowedGcm.put_tag
 	movq	%r12, %rdx
 	movq	%r15, %rcx
 	callq	gcm_v1.gcm.bitwise.product_bitwise
-.Lgcm_v1_BB18_11:                              # %"gcm::tags::hash::<#4ffbd79422221ed4>.exit"
+.Lgcm_v1_BB18_11:                              # %"gcm::tags::hash::<#d9ba0fa9ccec4268>.exit"
 	movl	%r13d, %ecx
 	andl	$8160, %ecx                     # imm = 0x1FE0
 	shlq	$43, %rcx
@@ -7000,7 +7000,7 @@ gcm_v1.gcm_c.whole_to.copy:                # @gcm_v1.gcm_c.whole_to.copy
 	.size	gcm_v1.gcm_c.whole_to.copy, .Lgcm_v1_func_end26-gcm_v1.gcm_c.whole_to.copy
                                         # -- End function
 	.section	.text.gcm_v1.gcm_c.siv.open_in,"ax",@progbits
-	.p2align	4                               # -- Begin function gcm_c::siv::open_in::<#44523ceb9187f596>
+	.p2align	4                               # -- Begin function gcm_c::siv::open_in::<#6c5a95c66ef7471a>
 	.type	gcm_v1.gcm_c.siv.open_in,@function
 gcm_v1.gcm_c.siv.open_in: # @gcm_v1.gcm_c.siv.open_in
 # %bb.0:                                # %start
@@ -7064,7 +7064,7 @@ gcm_v1.gcm_c.siv.open_in: # @gcm_v1.gcm_c.siv.open_in
 	.size	gcm_v1.gcm_c.siv.open_in, .Lgcm_v1_func_end27-gcm_v1.gcm_c.siv.open_in
                                         # -- End function
 	.section	.text.gcm_v1.gcm_c.siv.prepare,"ax",@progbits
-	.p2align	4                               # -- Begin function gcm_c::siv::prepare::<#44523ceb9187f596>
+	.p2align	4                               # -- Begin function gcm_c::siv::prepare::<#6c5a95c66ef7471a>
 	.type	gcm_v1.gcm_c.siv.prepare,@function
 gcm_v1.gcm_c.siv.prepare: # @gcm_v1.gcm_c.siv.prepare
 # %bb.0:                                # %start
@@ -7181,7 +7181,7 @@ gcm_v1.gcm_c.siv.prepare: # @gcm_v1.gcm_c.siv.prepare
 	.size	gcm_v1.gcm_c.siv.prepare, .Lgcm_v1_func_end28-gcm_v1.gcm_c.siv.prepare
                                         # -- End function
 	.section	.text.gcm_v1.gcm_siv.message.open,"ax",@progbits
-	.p2align	4                               # -- Begin function gcm_siv::message::open::<#f0567fcc0c8b4561>
+	.p2align	4                               # -- Begin function gcm_siv::message::open::<#fe07397204778e73>
 	.type	gcm_v1.gcm_siv.message.open,@function
 gcm_v1.gcm_siv.message.open: # @gcm_v1.gcm_siv.message.open
 # %bb.0:                                # %start
@@ -7244,7 +7244,7 @@ gcm_v1.gcm_siv.message.open: # @gcm_v1.gcm_siv.message.open
 	.size	gcm_v1.gcm_siv.message.open, .Lgcm_v1_func_end29-gcm_v1.gcm_siv.message.open
                                         # -- End function
 	.section	.rodata.cst16,"aM",@progbits,16
-	.p2align	4, 0x0                          # -- Begin function gcm_siv::message::put_tag::<#f0567fcc0c8b4561>
+	.p2align	4, 0x0                          # -- Begin function gcm_siv::message::put_tag::<#fe07397204778e73>
 .Lgcm_v1_CPI30_0:
 	.short	65535                           # 0xffff
 	.short	0                               # 0x0
@@ -8076,7 +8076,7 @@ gcm_v1.aes_cipher.zeroize.stack.wipe_stack.2816: # @gcm_v1.aes_cipher.zeroize.st
 	.size	gcm_v1.aes_cipher.zeroize.stack.wipe_stack.2816, .Lgcm_v1_func_end36-gcm_v1.aes_cipher.zeroize.stack.wipe_stack.2816
                                         # -- End function
 	.section	.text.gcm_v1.gcm_c.siv.seal_in,"ax",@progbits
-	.p2align	4                               # -- Begin function gcm_c::siv::seal_in::<#44523ceb9187f596>
+	.p2align	4                               # -- Begin function gcm_c::siv::seal_in::<#6c5a95c66ef7471a>
 	.type	gcm_v1.gcm_c.siv.seal_in,@function
 gcm_v1.gcm_c.siv.seal_in: # @gcm_v1.gcm_c.siv.seal_in
 # %bb.0:                                # %start
@@ -8142,7 +8142,7 @@ gcm_v1.gcm_c.siv.seal_in: # @gcm_v1.gcm_c.siv.seal_in
 	.size	gcm_v1.gcm_c.siv.seal_in, .Lgcm_v1_func_end37-gcm_v1.gcm_c.siv.seal_in
                                         # -- End function
 	.section	.text.gcm_v1.gcm_siv.message.seal,"ax",@progbits
-	.p2align	4                               # -- Begin function gcm_siv::message::seal::<#f0567fcc0c8b4561>
+	.p2align	4                               # -- Begin function gcm_siv::message::seal::<#fe07397204778e73>
 	.type	gcm_v1.gcm_siv.message.seal,@function
 gcm_v1.gcm_siv.message.seal: # @gcm_v1.gcm_siv.message.seal
 # %bb.0:                                # %start
@@ -8186,7 +8186,7 @@ gcm_v1.gcm_siv.message.seal: # @gcm_v1.gcm_siv.message.seal
 	.size	gcm_v1.gcm_siv.message.seal, .Lgcm_v1_func_end38-gcm_v1.gcm_siv.message.seal
                                         # -- End function
 	.section	.text.gcm_v1.gcm.hash_room.hash_piece,"ax",@progbits
-	.p2align	4                               # -- Begin function gcm::hash_room::hash_piece::<#4ffbd79422221ed4>
+	.p2align	4                               # -- Begin function gcm::hash_room::hash_piece::<#d9ba0fa9ccec4268>
 	.type	gcm_v1.gcm.hash_room.hash_piece,@function
 gcm_v1.gcm.hash_room.hash_piece: # @gcm_v1.gcm.hash_room.hash_piece
 # %bb.0:                                # %start
@@ -8521,7 +8521,7 @@ gcm_v1.gcm.hash_room.hash_piece: # @gcm_v1.gcm.hash_room.hash_piece
 	.size	gcm_v1.gcm.hash_room.hash_piece, .Lgcm_v1_func_end39-gcm_v1.gcm.hash_room.hash_piece
                                         # -- End function
 	.section	.text.gcm_v1.gcm.mode.BorrowedGcm.turn_to,"ax",@progbits
-	.p2align	4                               # -- Begin function gcm::mode::BorrowedGcm::turn_to::<#56ef08599dd20827>
+	.p2align	4                               # -- Begin function gcm::mode::BorrowedGcm::turn_to::<#c01aad2b5fbc92b1>
 	.type	gcm_v1.gcm.mode.BorrowedGcm.turn_to,@function
 gcm_v1.gcm.mode.BorrowedGcm.turn_to: # @gcm_v1.gcm.mode.BorrowedGcm.turn_to
 # %bb.0:                                # %start
@@ -8587,7 +8587,7 @@ gcm_v1.gcm.mode.BorrowedGcm.turn_to: # @gcm_v1.gcm.mode.BorrowedGcm.turn_to
 	.size	gcm_v1.gcm.mode.BorrowedGcm.turn_to, .Lgcm_v1_func_end40-gcm_v1.gcm.mode.BorrowedGcm.turn_to
                                         # -- End function
 	.section	.text.gcm_v1.gcm.mode.BorrowedGcm.is_tag_so_far,"ax",@progbits
-	.p2align	4                               # -- Begin function gcm::mode::BorrowedGcm::is_tag_so_far::<#56ef08599dd20827>
+	.p2align	4                               # -- Begin function gcm::mode::BorrowedGcm::is_tag_so_far::<#c01aad2b5fbc92b1>
 	.type	gcm_v1.gcm.mode.BorrowedGcm.is_tag_so_far,@function
 gcm_v1.gcm.mode.BorrowedGcm.is_tag_so_far: # @gcm_v1.gcm.mode.BorrowedGcm.is_tag_so_far
 # %bb.0:                                # %start
@@ -8614,7 +8614,7 @@ gcm_v1.gcm.mode.BorrowedGcm.is_tag_so_far: # @gcm_v1.gcm.mode.BorrowedGcm.is_tag
 	.size	gcm_v1.gcm.mode.BorrowedGcm.is_tag_so_far, .Lgcm_v1_func_end41-gcm_v1.gcm.mode.BorrowedGcm.is_tag_so_far
                                         # -- End function
 	.section	.text.gcm_v1.gcm.mode.BorrowedGcm.is_short_tag_so_far,"ax",@progbits
-	.p2align	4                               # -- Begin function gcm::mode::BorrowedGcm::is_short_tag_so_far::<#56ef08599dd20827>
+	.p2align	4                               # -- Begin function gcm::mode::BorrowedGcm::is_short_tag_so_far::<#c01aad2b5fbc92b1>
 	.type	gcm_v1.gcm.mode.BorrowedGcm.is_short_tag_so_far,@function
 gcm_v1.gcm.mode.BorrowedGcm.is_short_tag_so_far: # @gcm_v1.gcm.mode.BorrowedGcm.is_short_tag_so_far
 # %bb.0:                                # %start
@@ -9022,7 +9022,7 @@ gcm_v1.fotsgure_gcm_begin_next:                # @gcm_v1.fotsgure_gcm_begin_next
 	bswapl	%eax
 	movl	%eax, (%rdx)
 	movq	%rdi, 4(%rdx)
-.Lgcm_v1_BB50_8:                               # %"gcm::mode::BorrowedGcm::begin_next::<#56ef08599dd20827>.exit.i"
+.Lgcm_v1_BB50_8:                               # %"gcm::mode::BorrowedGcm::begin_next::<#c01aad2b5fbc92b1>.exit.i"
 	movl	%r8d, 4(%rsp)
 	movq	%rcx, 8(%rsp)
 	leaq	32(%rsi), %rcx
@@ -9126,7 +9126,7 @@ gcm_v1.fotsgure_gcm_finish:                    # @gcm_v1.fotsgure_gcm_finish
 	addq	$40, %rsp
 	popq	%rbx
 	popq	%r14
-.Lgcm_v1_BB51_5:                               # %"gcm_c::sealing::fotsgure_gcm_finish.exit"
+.Lgcm_v1_BB51_5:                               # %"gcm_c::pieces::encrypting::fotsgure_gcm_finish.exit"
 	pxor	%xmm0, %xmm0
 	pxor	%xmm1, %xmm1
 	pxor	%xmm2, %xmm2
@@ -9449,7 +9449,7 @@ gcm_v1.fotsgure_gcm_open:                      # @gcm_v1.fotsgure_gcm_open
 	movq	%r12, %r8
 	callq	gcm_v1.gcm.gctr.add_gctr
 	xorl	%ecx, %ecx
-.Lgcm_v1_BB54_7:                               # %"gcm::mode::BorrowedGcm::decrypt::<#56ef08599dd20827>.exit.i"
+.Lgcm_v1_BB54_7:                               # %"gcm::mode::BorrowedGcm::decrypt::<#c01aad2b5fbc92b1>.exit.i"
 	leaq	48(%rsp), %rdi
 	movl	%ecx, %ebx
 	callq	gcm_v1.aes_cipher.zeroize.elements.zeroize_elements.3
@@ -9742,7 +9742,7 @@ gcm_v1.fotsgure_gcm_open_to:                   # @gcm_v1.fotsgure_gcm_open_to
 	movq	%r12, %rcx
 	callq	gcm_v1.gcm.gctr.add_gctr
 	xorl	%ebx, %ebx
-.Lgcm_v1_BB55_33:                              # %"gcm::mode::BorrowedGcm::decrypt_to::<#56ef08599dd20827>.exit.i"
+.Lgcm_v1_BB55_33:                              # %"gcm::mode::BorrowedGcm::decrypt_to::<#c01aad2b5fbc92b1>.exit.i"
 	leaq	64(%rsp), %rdi
 	callq	gcm_v1.aes_cipher.zeroize.elements.zeroize_elements.3
 	callq	gcm_v1.aes_cipher.zeroize.stack.wipe_stack.1536
@@ -10867,7 +10867,7 @@ gcm_v1.fotsgure_gcm_decrypt:                   # @gcm_v1.fotsgure_gcm_decrypt
 	addq	$24, %rsp
 	popq	%rbx
 	popq	%r14
-.Lgcm_v1_BB64_6:                               # %"gcm_c::opening::fotsgure_gcm_decrypt.exit"
+.Lgcm_v1_BB64_6:                               # %"gcm_c::pieces::decrypting::fotsgure_gcm_decrypt.exit"
 	pxor	%xmm0, %xmm0
 	pxor	%xmm1, %xmm1
 	pxor	%xmm2, %xmm2
@@ -10966,7 +10966,7 @@ gcm_v1.fotsgure_gcm_decrypt_unverified:        # @gcm_v1.fotsgure_gcm_decrypt_un
 	callq	gcm_v1.gcm.gctr.add_gctr
 	callq	gcm_v1.aes_cipher.zeroize.stack.wipe_stack.1536
 	xorl	%eax, %eax
-.Lgcm_v1_BB65_5:                               # %"gcm_c::opening::fotsgure_gcm_decrypt_unverified.exit"
+.Lgcm_v1_BB65_5:                               # %"gcm_c::pieces::decrypting::fotsgure_gcm_decrypt_unverified.exit"
 	addq	$32, %rsp
 	popq	%rbx
 	popq	%r12
@@ -11071,7 +11071,7 @@ gcm_v1.fotsgure_gcm_encrypt:                   # @gcm_v1.fotsgure_gcm_encrypt
 	addq	%rbx, 8(%r14)
 	callq	gcm_v1.aes_cipher.zeroize.stack.wipe_stack.1536
 	xorl	%eax, %eax
-.Lgcm_v1_BB66_5:                               # %"gcm_c::sealing::fotsgure_gcm_encrypt.exit"
+.Lgcm_v1_BB66_5:                               # %"gcm_c::pieces::encrypting::fotsgure_gcm_encrypt.exit"
 	addq	$32, %rsp
 	popq	%rbx
 	popq	%r12
@@ -11168,7 +11168,7 @@ gcm_v1.fotsgure_gcm_verify:                    # @gcm_v1.fotsgure_gcm_verify
 	addq	%rbx, 8(%r14)
 	callq	gcm_v1.aes_cipher.zeroize.stack.wipe_stack.512
 	xorl	%eax, %eax
-.Lgcm_v1_BB67_5:                               # %"gcm_c::opening::fotsgure_gcm_verify.exit"
+.Lgcm_v1_BB67_5:                               # %"gcm_c::pieces::decrypting::fotsgure_gcm_verify.exit"
 	addq	$32, %rsp
 	popq	%rbx
 	popq	%r12
@@ -11269,7 +11269,7 @@ gcm_v1.fotsgure_gcm_accept:                    # @gcm_v1.fotsgure_gcm_accept
 	addq	$56, %rsp
 	popq	%rbx
 	popq	%rbp
-.Lgcm_v1_BB68_8:                               # %"gcm_c::opening::fotsgure_gcm_accept.exit"
+.Lgcm_v1_BB68_8:                               # %"gcm_c::pieces::decrypting::fotsgure_gcm_accept.exit"
 	pxor	%xmm0, %xmm0
 	pxor	%xmm1, %xmm1
 	pxor	%xmm2, %xmm2
@@ -11367,7 +11367,7 @@ gcm_v1.fotsgure_gcm_accept_short:              # @gcm_v1.fotsgure_gcm_accept_sho
 	movq	$4, 24(%rbx)
 	movq	$0, 16(%rbx)
 	xorl	%eax, %eax
-.Lgcm_v1_BB69_8:                               # %"gcm_c::opening::fotsgure_gcm_accept_short.exit"
+.Lgcm_v1_BB69_8:                               # %"gcm_c::pieces::decrypting::fotsgure_gcm_accept_short.exit"
 	addq	$24, %rsp
 	popq	%rbx
 	popq	%rbp
@@ -11451,5 +11451,5 @@ gcm_v1.fotsgure_gcm_accept_short:              # @gcm_v1.fotsgure_gcm_accept_sho
 	.long	9, 118, 1
 	.asciz	"Fotsgure"
 	.p2align	2, 0x0
-	.asciz	"fotsgure_gcm 0.4.0, x86_64/gcm_v1.s, sources SHA-256 db4efa4f888708ad96d151eefb1002396829e2ae35d1e342eb44652688b2f0d0"
+	.asciz	"fotsgure_gcm 0.4.0, x86_64/gcm_v1.s, sources SHA-256 c5580fd5c08fd1ce251de00bc68bbabc41e05f02470d0c531f44ab6d5c423d70"
 	.p2align	2, 0x0
