@@ -37,7 +37,7 @@ BLOCKS, BLOCKS_TO, BLOCKS_WITH, CBC, CBC_BACK, KEYSTREAM_TO = (exported("aes_" +
     "encrypt_blocks", "encrypt_blocks_to", "encrypt_blocks_with", "cbc_encrypt", "cbc_decrypt", "add_keystream_to"))
 ONE_PRODUCT, TWO_PRODUCTS = (function("gcm::multiples::Multiples::" + name) for name in ("block_product", "two_products"))
 COMPARE, GCTR = function("aes_cipher::blocks::difference"), function("gcm::gctr::add_gctr")
-FEW_BLOCKS, ROUNDS_ON_PLANES = (function("aes_narrow::blocks::" + name) for name in ("process_few", "process_state"))
+FEW_BLOCKS, ROUNDS_ON_PLANES = (function("aes_narrow::blocks::" + name) for name in ("process_filled_up", "process_state"))
 BIT_BY_BIT = function("gcm::bitwise::product_bitwise")
 ROUND, CMAC_TAG, CMAC_COMPARE, CCM_SEAL, CCM_OPEN = (function(path) for path in (
     "aes_c::single_rounds::round", "cmac::tags::tag", "cmac::tags::is_tag_start", "ccm::mode::encrypt", "ccm::mode::decrypt"))
@@ -248,7 +248,7 @@ FAULTS = {
          "piece encrypt 2 5 34359738368 64 (12,)"),
         ("a text of 4 to 15 bytes replaced by keystream", GCTR, *FOR_THE_SUM, "seal 0 5"),
         ("a carry of the counter added back", GCTR, r"\taddl\t\$3, %eax\n", r"\g<0>\tadcl\t$0, %eax\n", "decrypt 100 32 68"),
-        ("a nonce of 16 bytes that isn't hashed", function("gcm::hash_room::RoomHashRoom::hash_on"), r"\tje\t(\.L\w*BB6_)8\n", r"\tje\t\g<1>17\n",
+        ("a nonce of 16 bytes that isn't hashed", function("gcm::hash_room::MultiplesRoomHashRoom::hash_on"), r"\tje\t(\.L\w*BB6_)8\n", r"\tje\t\g<1>17\n",
          "begin (16,)"),
         ("a block of zeros hashed behind a text of 16 bytes", function("gcm::mode::BorrowedGcm::put_tag"), r"(\tcmpq\t\$16, %rdx\n)\tja\t",
          r"\1\tjae\t", "seal 16 16"),

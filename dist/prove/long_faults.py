@@ -17,7 +17,7 @@ IN_MANY = [MANY + r"(?P<before>[\s\S]*?)(?P<call>" + called + ")" for called in 
 # In call_to_encrypt: where the counter's halves are added up for a block of a batch, with how many bytes of the text are done.
 CARRY = r"(?P<before>\taddq\t\$128, %%(?P<done>r\w+)\n[\s\S]*?\taddq\t\$%d, %%r\w+\n(?:\tmovq\t.*\n)?)\tadcq\t\$0, %%(?P<high>r\w+)\n"
 # In GHASH: the end of the loop over groups of three blocks, with the registers of the next group and of how many are left.
-PUT_TAG, HASH_ON = function("gcm::mode::BorrowedGcm::put_tag"), function("gcm::hash_room::RoomHashRoom::hash_on")
+PUT_TAG, HASH_ON = function("gcm::mode::BorrowedGcm::put_tag"), function("gcm::hash_room::MultiplesRoomHashRoom::hash_on")
 THREES = r"\taddq\t\$48, %(?P<at>r\w+)\n\tdecq\t%(?P<left>r\w+)\n"
 LEFT_OUT = (r"\g<0>\tcmpq\t$65536, %\g<left>\n\tjne\t77f\n\taddq\t$48, %\g<at>\n\tdecq\t%\g<left>\n"
             r"77:\n\ttestq\t%\g<left>, %\g<left>\n")

@@ -12,7 +12,7 @@ UNCOVERED = [
         ("x86_64/.*", r"zeroize\.stack\.wipe_stack", 0, 1), ("(?!x86_64/).*", r"zeroize\.\w+(\.\w+)?", 36, 4))),
     (".*", r"expand_lanes|store_planes|process_on_lanes|process_planes|chaining\.chain|tags\.tag|_halves|put_mask|put_subkey|"
      r"_in_place|expand_words|process_state", 20, 6, "Loops over the round keys check at each one whether it is there."),
-    (".*", "process_few", 18, 2, "It is never called for no blocks, and asks whether there are any."),
+    (".*", "process_few|process_filled_up", 18, 2, "It is never called for no blocks, and asks whether there are any."),
     (".*/aes.*", r"ccm\.message\.put_tag|ccm\.mode\.\w+", 30, 9, "Additional data of 65,280 bytes or more are tried with few builds alone. "
      "The export refuses a text that is too long first, and it is asked for once more."),
     ("riscv32/aes", "_in_place", 12, 7, "A number of semiblocks has 64 bits there, and no buffer so many that the higher 32 count."),

@@ -1,5 +1,5 @@
-//! Blocks in batches on planes, under stored round keys: batches of
-//! eight or sixteen, as the words are wide.
+//! Blocks in batches on planes, under stored round keys. A batch has eight blocks, or sixteen on
+//! words of 256 bits.
 
 ghost use Rattle.std.specs.Prelude.{◌≡◌, ◌-◌, ◌%◌, ◌<◌, ◌≤◌, ◌++◌, [], drop, get_or, length};
 ghost use Rattle.std.specs.Prelude.{replicate, take};
@@ -40,9 +40,9 @@ fn copy_first<W: Word>(to: &mut [Block], from: &[Block], count: usize)
     }
 }
 
-// Returns fewer blocks than a batch, and after them the first of them again and
-// again: so no block is processed that nobody gave. What a block of zeros is
-// encrypted to is a secret of some modes, as of GCM.
+// Returns fewer blocks than a batch, and after them copies of the first one. So no block is
+// processed that the caller didn't give: in some modes, such as GCM, what a block of zeros is
+// encrypted to is a secret.
 #[tactic(auto, using(crate::proofs::Fronts::filled))]
 #[inline(always)]
 fn filled_up<W: Word>(blocks: &[Block]) -> [Block; LARGEST_BATCH]

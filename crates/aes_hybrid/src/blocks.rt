@@ -12,8 +12,8 @@ use aes_permute::lane_rounds::LaneRounds;
 use aes_planes::soft::word::{Batch, Block, Word};
 use aes_soft::soft::PlaneCipher;
 
-// How many of a number of blocks are processed on planes: none if they are few, or whole batches,
-// and what is left after these too if it takes less time so.
+// Returns how many of `count` blocks are processed on planes. If they are few, that is none. Else
+// it is the whole batches, and also the rest if planes take less time for it.
 #[inline(always)]
 fn blocks_on_planes<D: LaneRounds, W: Width>(count: usize) -> usize
     ensures inside { result ≤ count }
@@ -34,7 +34,7 @@ fn blocks_on_planes<D: LaneRounds, W: Width>(count: usize) -> usize
     }
 }
 
-// Processes the first blocks of a slice on planes, if there are any to be.
+// Processes the first `count` blocks of a slice on planes, unless `count` is 0.
 #[inline(always)]
 fn process_first<D: PlaneCipher, W: Word>(keys: &[Block], blocks: &mut [Block], count: usize)
     requires keyed { IsCipherSchedule keys.now }
@@ -51,7 +51,7 @@ fn process_first<D: PlaneCipher, W: Word>(keys: &[Block], blocks: &mut [Block], 
 
 impl<D: LaneRounds + PlaneCipher, W: Width> BorrowedCipher<'_, D, W> {
     /// Processes each block of a slice in place: whole batches on planes, and the others by vector
-    /// permutations where they are few, since these take less time so.
+    /// permutations, unless planes take less time for them too.
     #[tactic(auto, using(crate::proofs::Fronts::first_then_others))]
     pub(crate) fn process_blocks(&self, blocks: &mut [Block])
         ensures { Each (D.processed (fips.key_expansion self.now)) blocks.old blocks.new }

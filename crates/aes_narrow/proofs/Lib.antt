@@ -1,3 +1,3 @@
 -- The files of lemmas: blocks in batches, and the length of a kept key.
-pub mod Few
+pub mod FilledUp
 pub mod KeyLength

@@ -15,11 +15,11 @@ use aes_soft::soft::{Full, PlaneCipher};
 // How many bytes of stack the work on blocks takes at most.
 const BLOCKS_STACK: usize = 1024;
 
-// Copies the blocks of a slice to the first places of a batch. The first of them stands in the
-// others, so that no block is processed that nobody gave.
-#[tactic(auto, using(crate::proofs::Few::all_taken))]
+// Copies the blocks of a slice to the first places of a batch, and the first of them to the others:
+// so no block is processed that the caller didn't give.
+#[tactic(auto, using(crate::proofs::FilledUp::all_taken))]
 #[inline(always)]
-fn batch_of_few<B: Batch>(blocks: &[Block]) -> B
+fn filled_up<B: Batch>(blocks: &[Block]) -> B
     requires some { 1 ≤ length blocks.now }
     requires at_most_one_batch { length blocks.now ≤ B.LEN }
     ensures sized { length (B.blocks result) ≡ B.LEN }
@@ -33,9 +33,9 @@ fn batch_of_few<B: Batch>(blocks: &[Block]) -> B
 }
 
 // Copies the first blocks of a batch to a slice.
-#[tactic(auto, using(crate::proofs::Few::all_put))]
+#[tactic(auto, using(crate::proofs::FilledUp::all_put))]
 #[inline(always)]
-fn put_few<B: Batch>(batch: &B, blocks: &mut [Block])
+fn put_first<B: Batch>(batch: &B, blocks: &mut [Block])
     requires sized { length (B.blocks batch.now) ≡ B.LEN }
     requires at_most_one_batch { length blocks.old ≤ B.LEN }
     ensures { blocks.new ≡ take (length blocks.old) (B.blocks batch.now) }
@@ -59,9 +59,9 @@ fn process_state<D: PlaneCipher, W: Word>(words: &[W], state: &mut [W; 8])
 }
 
 /// Processes each of a few blocks in place, at most a batch, under stored round keys.
-#[tactic(auto, using(crate::proofs::Few::few_processed))]
+#[tactic(auto, using(crate::proofs::FilledUp::first_processed))]
 #[inline(never)]
-pub(crate) fn process_few<D: PlaneCipher, W: Word>(words: &[W], blocks: &mut [Block])
+pub(crate) fn process_filled_up<D: PlaneCipher, W: Word>(words: &[W], blocks: &mut [Block])
     requires is_schedule { IsFullSchedule W.bits W.BLOCKS words.now }
     requires some { 1 ≤ length blocks.old }
     requires at_most_one_batch { length blocks.old ≤ W.Blocks.LEN }
@@ -69,9 +69,9 @@ pub(crate) fn process_few<D: PlaneCipher, W: Word>(words: &[W], blocks: &mut [Bl
         blocks.old blocks.new }
 {
     let mut state = [W::zero(); 8];
-    W::bitslice(&mut state, &batch_of_few::<W::Blocks>(blocks));
+    W::bitslice(&mut state, &filled_up::<W::Blocks>(blocks));
     process_state::<D, W>(words, &mut state);
-    put_few(&W::inv_bitslice(&state), blocks);
+    put_first(&W::inv_bitslice(&state), blocks);
 }
 
 // Returns how many blocks come next: a batch, or all that are left.
@@ -100,7 +100,7 @@ fn process_in_batches<D: PlaneCipher, W: Word>(words: &[W], blocks: &mut [Block]
     let mut done = 0;
     while done < blocks.len() {
         let count = next_count::<W>(blocks.len() - done);
-        process_few::<D, W>(words, &mut blocks[done..done + count]);
+        process_filled_up::<D, W>(words, &mut blocks[done..done + count]);
         done += count;
     }
 }

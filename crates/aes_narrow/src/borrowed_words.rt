@@ -5,7 +5,7 @@ ghost use Rattle.aes_planes.specs.Fips197 as fips;
 ghost use Rattle.aes_planes.proofs.Standard.CipherLaws.{two_keys};
 ghost use Rattle.aes_soft.specs.Stored.{key_of_planes, IsFullSchedule};
 
-use crate::blocks::{process_few, process_on_words};
+use crate::blocks::{process_filled_up, process_on_words};
 use crate::narrow_word::NarrowWord;
 use aes_cipher::cipher::{
     BatchSizeUser, BlockCipherDecBackend, BlockCipherDecClosure, BlockCipherDecrypt,
@@ -73,24 +73,24 @@ impl<W: NarrowWord> BatchSizeUser for BorrowedWords<'_, W> {
 impl<W: NarrowWord> BlockCipherEncBackend for BorrowedWords<'_, W> {
     #[inline(always)]
     fn encrypt_block(&self, block: &mut Block) {
-        process_few::<Encrypt, W>(self.words, slice::from_mut(block));
+        process_filled_up::<Encrypt, W>(self.words, slice::from_mut(block));
     }
 
     #[inline(always)]
     fn encrypt_par_blocks(&self, blocks: &mut [Block]) {
-        process_few::<Encrypt, W>(self.words, blocks);
+        process_filled_up::<Encrypt, W>(self.words, blocks);
     }
 }
 
 impl<W: NarrowWord> BlockCipherDecBackend for BorrowedWords<'_, W> {
     #[inline(always)]
     fn decrypt_block(&self, block: &mut Block) {
-        process_few::<Decrypt, W>(self.words, slice::from_mut(block));
+        process_filled_up::<Decrypt, W>(self.words, slice::from_mut(block));
     }
 
     #[inline(always)]
     fn decrypt_par_blocks(&self, blocks: &mut [Block]) {
-        process_few::<Decrypt, W>(self.words, blocks);
+        process_filled_up::<Decrypt, W>(self.words, blocks);
     }
 }
 

@@ -130,8 +130,8 @@ fn coefficients<L: Lanes>(by_1: L, by_4: L, by_9: L, by_15: L) -> (L, L, L)
     ensures by_11 { (i : ℕ) → L.block result.1 i ≡ zip2 bit_xor (L.block by_15 i) (L.block by_4 i) }
     ensures by_13 { (i : ℕ) → L.block result.2 i ≡ zip2 bit_xor (L.block by_4 i) (L.block by_9 i) }
 {
-    // Each product is of use twice. LLVM turns the two look-ups of a sum
-    // one by one where nothing else uses the sum.
+    // The products with 4, 9 and 15 are used twice. If nothing else uses a sum of two look-ups, LLVM
+    // permutes each look-up, and not the sum.
     (by_1.sum(by_15), by_15.sum(by_4), by_4.sum(by_9))
 }
 

@@ -60,7 +60,7 @@ pub fn looked_up<L: Lanes>(at: TwoPlaces<L>, first: [u8; 16], second: [u8; 16]) 
     by_first.sum(by_second)
 }
 
-/// SubBytes of a block in the tower basis, but for the constant of the S-box (FIPS 197, 5.1.1).
+/// SubBytes of a block in the tower basis, without the constant of the S-box (FIPS 197, 5.1.1).
 #[inline(always)]
 pub fn sub_bytes_but_constant(x: u8x16) -> u8x16
     requires block { fips.IsBlock x }

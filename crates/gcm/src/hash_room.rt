@@ -14,7 +14,7 @@ use crate::bitwise::{WithMasks, product_bitwise};
 use crate::byte_order::HighestFirst;
 use crate::hash::{hash_string, hash_string_and};
 use crate::holes::{WithHoles, product_with_holes};
-use crate::multiples::{Multiples, Room, TableRoom, put_multiples, put_one_table};
+use crate::multiples::{Multiples, MultiplesRoom, TableRoom, put_multiples, put_one_table};
 use crate::numbers::{number_of, vector_of};
 use crate::single_blocks::{hash_on_singly, hash_to_end_singly};
 use crate::words::{number_of_words, words_of};
@@ -74,8 +74,8 @@ impl ProductRoom for TableRoom {
     }
 }
 
-// Multiples of its square and of its cube too, so that three blocks are hashed at once.
-impl ProductRoom for Room {
+// Multiples of the block, of its square and of its cube, so that three blocks are hashed at once.
+impl ProductRoom for MultiplesRoom {
     ghost IsMade = { HasMultiples };
 
     ghost subkey = { subkey_in };
@@ -86,7 +86,7 @@ impl ProductRoom for Room {
     }
 }
 
-impl HashRoom for Room {
+impl HashRoom for MultiplesRoom {
     #[inline(always)]
     fn product(&self, x: u128) -> u128 {
         number_of(Multiples::lent(self).block_product(vector_of(x)))

@@ -37,7 +37,7 @@ pub use laws::{decrypted_parts, kept_parts, text_twice, turns};
 pub use lengths::{LONGEST_HASHED, LONGEST_TEXT};
 pub use message_state::{Message, Phase};
 pub use mode::{BorrowedGcm, Gcm, prepare};
-pub use multiples::{Multiples, Room, Table, TableRoom};
+pub use multiples::{Multiples, MultiplesRoom, Table, TableRoom};
 pub use numbers::sum;
 pub use single_blocks::{Factor, hash_singly};
 pub use tags::is_short_tag;

@@ -21,7 +21,8 @@ const FALLEN_SECOND: [u8; 16] = [
     0x00, 0x20, 0x40, 0x60, 0x80, 0xa0, 0xc0, 0xe0, 0x00, 0x20, 0x40, 0x60, 0x80, 0xa0, 0xc0, 0xe0,
 ];
 
-// Two rows for four powers of x more, but for what falls out: of these rows and those before them.
+// Two rows for four powers of x more, made of these rows and of those before them. What falls out
+// isn't added yet.
 #[inline(always)]
 fn moved(rows: u8x32, before: u8x32) -> u8x32
     ensures { (i n : ℕ) → n < 16 → get_or (half result i) n 0

@@ -25,13 +25,13 @@ use aes_hybrid::kept_key::KeptBothWays;
 pub(crate) use aes_hybrid::kept_key::KeptKey;
 
 /// Room for what tags are made with: the multiples of H.
-pub type TagRoom = gcm::Room;
+pub type TagRoom = gcm::MultiplesRoom;
 
 /// Room for what tags of a message of AES-GCM-SIV are made with, if it is short.
 pub(crate) type ShortRoom = gcm::TableRoom;
 
 /// Room for what tags of a longer message of AES-GCM-SIV are made with.
-pub(crate) type LongRoom = gcm::Room;
+pub(crate) type LongRoom = gcm::MultiplesRoom;
 
 /// A key schedule of the other library, for both directions: `struct fotsgure_aes`.
 pub type Aes = KeptBothWays;

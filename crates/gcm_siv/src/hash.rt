@@ -8,8 +8,8 @@ ghost use Rattle.gcm_siv.specs.GcmSiv.{hash, length_block};
 use aes_cipher::blocks::{block_of_halves, number_of_block};
 use aes_cipher::cipher::Block;
 use gcm::{
-    ByteOrder, Factor, Multiples, ProductRoom, Room, SubkeyRoom, SubkeyWordsRoom, Table, TableRoom,
-    WithHoles, WithMasks, hash_singly, hash_string, hash_string_and, number_of_words,
+    ByteOrder, Factor, Multiples, MultiplesRoom, ProductRoom, SubkeyRoom, SubkeyWordsRoom, Table,
+    TableRoom, WithHoles, WithMasks, hash_singly, hash_string, hash_string_and, number_of_words,
 };
 use std::simd::prelude::*;
 
@@ -87,7 +87,7 @@ impl PolyvalRoom for TableRoom {
 
 // Room for many blocks: multiples of the factor's square and cube too, so that three blocks are
 // hashed at once.
-impl PolyvalRoom for Room {
+impl PolyvalRoom for MultiplesRoom {
     fn hash(&self, additional: &[u8], text: &[u8]) -> Block {
         let multiples = Multiples::lent(self);
         let value = hash_string::<LowestFirst>(&multiples, u8x16::splat(0), additional);

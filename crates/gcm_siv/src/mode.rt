@@ -17,7 +17,7 @@ use crate::message::{open, seal, wipe_message_stack};
 use aes_cipher::cipher::{Block, BlockCipherEncrypt, KeyInit};
 use aes_cipher::not_clone::NotClone;
 use aes_cipher::zeroize::{MustWipe, ZeroizeOnDrop};
-use gcm::{Room, TableRoom};
+use gcm::{MultiplesRoom, TableRoom};
 use std::marker::Model;
 
 // The cipher of a message, of its keys: that of the block after the first, or of the two blocks.
@@ -110,7 +110,7 @@ impl<C: KeyInit + BlockCipherEncrypt + Drop> GcmSiv<C> {
         if are_few(additional.len(), text.len()) {
             self.seal_in::<TableRoom>(nonce, additional, text)
         } else {
-            self.seal_in::<Room>(nonce, additional, text)
+            self.seal_in::<MultiplesRoom>(nonce, additional, text)
         }
     }
 
@@ -160,7 +160,7 @@ impl<C: KeyInit + BlockCipherEncrypt + Drop> GcmSiv<C> {
         if are_few(additional.len(), text.len()) {
             self.open_in::<TableRoom>(nonce, additional, text, tag)
         } else {
-            self.open_in::<Room>(nonce, additional, text, tag)
+            self.open_in::<MultiplesRoom>(nonce, additional, text, tag)
         }
     }
 

@@ -8,7 +8,7 @@ use Rattle.aes_planes.proofs.Bits.ByteCases.{all_below, all_below_tells}
 use Rattle.gcm.specs.Gcm.{bit_of, v_at, next_v, product}
 use Rattle.gcm.specs.Multiples.{sum_of, byte_of, nibble_multiple, byte_multiple}
 use Rattle.gcm.proofs.Products.Linear.{term, term_adds, term_keeps, term_zero, term_below}
-use Rattle.gcm.proofs.Products.Linear.{term_through}
+use Rattle.gcm.proofs.Products.Linear.{term_mapped, term_through}
 use Rattle.gcm.proofs.Products.Linear.{product_terms, product_bytes, byte_small, sum-agree, sum-add}
 use Rattle.gcm.proofs.Products.Linear.{sum-zero, sum-through, v-sum, v_keeps, v_zero, v_swap}
 use Rattle.gcm.proofs.Products.Linear.{v_below}
@@ -62,12 +62,7 @@ product_right_zero x =
 
 -- a product with a term is the term of the product
 product_right_term : (x b y : ℕ) → product x (term b y) ≡ term b (product x y)
-unfolding term
-product_right_term x b y = by_test (b == 0)
-  where
-    by_test : (t : Bool) → product x (if t then 0 else y) ≡ (if t then 0 else product x y)
-    by_test true = product_right_zero x
-    by_test false = refl
+product_right_term x b y = term_mapped (product x) (product_right_zero x) b y
 
 -- multiples of the second factor by powers of x are multiples of the product
 pub product_right_v : (x a m : ℕ) → product x (v_at a m) ≡ v_at (product x a) m

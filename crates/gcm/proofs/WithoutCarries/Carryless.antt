@@ -15,7 +15,7 @@ use Rattle.gcm.specs.Gcm.{bit_of, next_v, v_at, product}
 use Rattle.gcm.specs.Carryless.{carryless}
 use Rattle.gcm.specs.Multiples.{sum_of, folded}
 use Rattle.gcm.proofs.Products.Linear.{shift_keeps, joined, sum-agree, term, term_adds}
-use Rattle.gcm.proofs.Products.Linear.{term_keeps, term_through, term_zero}
+use Rattle.gcm.proofs.Products.Linear.{term_keeps, term_mapped, term_through, term_zero}
 use Rattle.gcm.proofs.Products.Linear.{product_terms, v_add, v_below, v_keeps, v_shifted, v_zero}
 use Rattle.gcm.proofs.Products.Powers.{product_below}
 use Rattle.gcm.proofs.Products.Reduction.{folded_keeps}
@@ -65,18 +65,14 @@ carryless_right_zero (suc n) x =
 
 -- the product without carries with a shifted number is shifted
 pub carryless_right_shifted : (n x y k : ℕ) → carryless n x (y * 2 ^ k) ≡ carryless n x y * 2 ^ k
-unfolding carryless
+unfolding carryless term
 carryless_right_shifted zero x y k = omega arith
 carryless_right_shifted (suc n) x y k =
     let turned : carryless n (x / 2) y * 2 ^ k * 2 ≡ carryless n (x / 2) y * 2 * 2 ^ k =
     omega arith in
     (λ t. bit_xor ((ap (λ c. c * 2) (carryless_right_shifted n (x / 2) y k) ∙ turned) t)
-    (by_test (x % 2 == 0) t))
+    (sym (term_mapped (λ z. z * 2 ^ k) (omega arith) (x % 2) y) t))
     ∙ shift_keeps k (carryless n (x / 2) y * 2) (if x % 2 == 0 then 0 else y)
-  where
-    by_test : (t : Bool) → (if t then 0 else y * 2 ^ k) ≡ (if t then 0 else y) * 2 ^ k
-    by_test true = omega arith
-    by_test false = refl
 
 -- a product without carries is the sum of those of its first factor's upper and lower bits
 pub carryless_split : (m n x y : ℕ) → carryless (m + n) x y

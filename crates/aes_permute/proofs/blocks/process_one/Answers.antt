@@ -1,4 +1,4 @@
--- What is left to show of `blocks::process_one`.
+-- The block in a register is block 0 of a vector.
 use Rattle.aes_permute.proofs.blocks.process_one.Goals as goal
 
 pub returns : goal.returns

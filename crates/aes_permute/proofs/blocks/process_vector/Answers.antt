@@ -1,4 +1,4 @@
--- What is left to show of `blocks::process_vector`.
+-- All rounds on one vector: the first state, a round more, the last round, for each block.
 use Rattle.std.proofs.Common.{arith}
 use Rattle.aes_permute.proofs.States.{first_state, next_state, last_state}
 use Rattle.aes_permute.proofs.blocks.process_vector.Goals as goal

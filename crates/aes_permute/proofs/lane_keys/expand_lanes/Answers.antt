@@ -1,4 +1,4 @@
--- What is left to show of `lane_keys::expand_lanes`.
+-- What is written are the round keys of the key, and they are read as that key.
 use Rattle.std.proofs.Common.{rules, refl, ◌∙◌, arith}
 use Rattle.aes_planes.specs.Fips197 as fips
 use Rattle.aes_permute.proofs.Expansion.{written_are_used}

@@ -1,4 +1,4 @@
--- What is left to show of `lane_keys::invert_lanes`.
+-- The first and the last round key change places; each between them is inverted.
 use Rattle.std.proofs.Common.{◌≡◌, ◌≢◌, ◌≤◌, ℕ, ◌-◌, List, [], length, map, get_or, set, ap, ◌∙◌}
 use Rattle.std.proofs.Common.{arith}
 use Rattle.std.proofs.lemmas.List.{get_or-set_same, get_or-set_other, length-set}

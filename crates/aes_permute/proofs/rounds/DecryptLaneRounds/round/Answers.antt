@@ -1,4 +1,4 @@
--- What is left to show of `rounds::DecryptLaneRounds::round`.
+-- The sum of the four products and the round key is the round of EqInvCipher.
 use Rattle.std.proofs.Common.{refl, ap, map, ◌∙◌}
 use Rattle.aes_permute.specs.Stored.{inv_untower}
 use Rattle.aes_permute.specs.declared.tables.TheConstants.{INV_1_FIRST, INV_1_SECOND, INV_4_FIRST}

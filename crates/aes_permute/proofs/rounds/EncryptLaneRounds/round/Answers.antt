@@ -1,4 +1,4 @@
--- What is left to show of `rounds::EncryptLaneRounds::round`.
+-- The sum of the look-ups is the round, with its ShiftRows deferred.
 use Rattle.std.proofs.Common.{◌%◌, refl, ap, map, ◌∙◌}
 use Rattle.aes_planes.specs.Fips197.{shift_times}
 use Rattle.aes_permute.specs.Stored.{untower}

@@ -6,7 +6,7 @@ use Rattle.gcm.specs.Gcm.{product}
 use Rattle.gcm.specs.Hashed.{hashed_as}
 use Rattle.gcm.specs.Multiples.{subkey_in}
 use Rattle.gcm.proofs.Messages.Hashing.{hashed_is}
-use Rattle.gcm.proofs.hash_room.RoomHashRoom.hash_to_end.Goals as goal
+use Rattle.gcm.proofs.hash_room.MultiplesRoomHashRoom.hash_to_end.Goals as goal
 
 pub returns : goal.returns
 returns c =

@@ -1,6 +1,6 @@
 -- The first k blocks of the batch are those of the slice.
 use Rattle.std.proofs.Common.{◌≡◌, length, take}
-use Rattle.aes_narrow.proofs.blocks.batch_of_few.Given as goal
+use Rattle.aes_narrow.proofs.blocks.filled_up.Given as goal
 
 abbrev pub invariant-fill : goal.invariant-fill
 invariant-fill g l = record {

@@ -1,4 +1,4 @@
--- A few blocks that are processed as the first of a batch, and slices of them.
+-- Blocks that are processed as the first of a batch, and slices of them.
 use Rattle.std.proofs.Common.{◌≡◌, ℕ, ◌+◌, ◌≤◌, List, length, map, take, drop, ap, sym, ◌∙◌, arith}
 use Rattle.std.proofs.lemmas.List.{take_all, take-map, length-map}
 use borrow.Rule.Slice.PartMut.{put_mid, same_len_mid}
@@ -17,9 +17,9 @@ all_put k n xs ys e l p =
     sym (take_all k xs (omega (arith, e, l))) ∙ p ∙ ap (λ m. take m ys) e
 
 -- the first of a batch that is packed, processed and unpacked
-pub few_processed : {X : Type 0} (f : X → X) (n : ℕ) (xs bs os ns zs ws : List X) → ws ≡ take n zs
+pub first_processed : {X : Type 0} (f : X → X) (n : ℕ) (xs bs os ns zs ws : List X) → ws ≡ take n zs
     → zs ≡ ns → ns ≡ map f os → os ≡ bs → take n bs ≡ xs → ws ≡ map f xs
-few_processed f n xs bs os ns zs ws e1 e2 e3 e4 e5 =
+first_processed f n xs bs os ns zs ws e1 e2 e3 e4 e5 =
     e1 ∙ ap (take n) (e2 ∙ e3 ∙ ap (map f) e4) ∙ take-map f n bs ∙ ap (map f) e5
 
 -- a loop that applies f to each element of a list, some at a time, and has come to the place `done`

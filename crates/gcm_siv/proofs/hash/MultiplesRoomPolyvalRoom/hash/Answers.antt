@@ -5,7 +5,7 @@ use Rattle.aes_cipher.specs.Blocks.{padded}
 use Rattle.gcm.specs.Gcm.{product}
 use Rattle.gcm.specs.Hashed.{hashed_as}
 use Rattle.gcm_siv.proofs.Hashing.{hash_is}
-use Rattle.gcm_siv.proofs.hash.RoomPolyvalRoom.hash.Goals as goal
+use Rattle.gcm_siv.proofs.hash.MultiplesRoomPolyvalRoom.hash.Goals as goal
 
 pub returns : goal.returns
 returns c h small is =

@@ -1,6 +1,6 @@
 -- The first k blocks of the slice are those of the batch.
 use Rattle.std.proofs.Common.{◌≡◌, length, take}
-use Rattle.aes_narrow.proofs.blocks.put_few.Given as goal
+use Rattle.aes_narrow.proofs.blocks.put_first.Given as goal
 
 abbrev pub invariant-put : goal.invariant-put
 invariant-put g l = record {

@@ -1,7 +1,7 @@
 -- A product by the multiples of H that the room has.
 use Rattle.std.proofs.Common.{◌∙◌}
 use Rattle.gcm.specs.Gcm.{product}
-use Rattle.gcm.proofs.hash_room.RoomHashRoom.product.Goals as goal
+use Rattle.gcm.proofs.hash_room.MultiplesRoomHashRoom.product.Goals as goal
 
 pub returns : goal.returns
 returns c =

@@ -5,7 +5,7 @@ use Rattle.aes_cipher.specs.Blocks.{padded}
 use Rattle.gcm.specs.Hashed.{hashed_as}
 use Rattle.gcm.specs.Multiples.{subkey_in}
 use Rattle.gcm.proofs.Messages.Hashing.{hashed_is}
-use Rattle.gcm.proofs.hash_room.RoomHashRoom.hash_on.Goals as goal
+use Rattle.gcm.proofs.hash_room.MultiplesRoomHashRoom.hash_on.Goals as goal
 
 pub returns : goal.returns
 returns c =
