@@ -1,5 +1,4 @@
 -- What is left to show of `rounds::encrypting_key`.
-use Rattle.std.proofs.Common.{◌-◌, ◌%◌}
 use Rattle.aes_permute.proofs.DeferredRows.{shifted_back_indices, stored_is}
 use Rattle.aes_permute.proofs.rounds.encrypting_key.Goals as goal
 
