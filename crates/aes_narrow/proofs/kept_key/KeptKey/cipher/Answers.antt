@@ -1,5 +1,5 @@
 -- The key that the words are read as has as many bytes as the struct says.
-use Rattle.std.proofs.Common.{◌≤◌, ◌∙◌, ap, arith, length}
+use Rattle.std.proofs.Common.{◌∙◌, ap, arith, length}
 use Rattle.aes_narrow.specs.KeptWord.{kept_bits, kept_blocks}
 use Rattle.aes_narrow.proofs.KeyLength.{sized_key}
 use Rattle.aes_narrow.proofs.kept_key.KeptKey.cipher.Goals as goal
