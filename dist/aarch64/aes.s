@@ -18532,5 +18532,5 @@ aes.fotsgure_aes_ccm_seal:                  // @aes.fotsgure_aes_ccm_seal
 	.long	9, 116, 1
 	.asciz	"Fotsgure"
 	.p2align	2, 0x0
-	.asciz	"fotsgure_aes 0.4.0, aarch64/aes.s, sources SHA-256 46921789358eaca23fa4ae4eea30ab0e26ba1bdf6ccb1d0247d98ca9f1c6b73d"
+	.asciz	"fotsgure_aes 0.4.0, aarch64/aes.s, sources SHA-256 568705d49fc313d51a3118f972883289c0abab049ad136132806690e516afe49"
 	.p2align	2, 0x0

@@ -1026,7 +1026,7 @@ gcm.aes_permute.lane_keys.expand_lanes: // @gcm.aes_permute.lane_keys.expand_lan
 	.size	gcm.aes_permute.lane_keys.expand_lanes, .Lgcm_func_end4-gcm.aes_permute.lane_keys.expand_lanes
                                         // -- End function
 	.section	.text.gcm.gcm.mode.BorrowedGcm.put_pre_counter,"ax",@progbits
-	.p2align	2                               // -- Begin function gcm::mode::BorrowedGcm::put_pre_counter::<#8bfc6ace315c867e>
+	.p2align	2                               // -- Begin function gcm::mode::BorrowedGcm::put_pre_counter::<#e698720ccb2969c4>
 	.type	gcm.gcm.mode.BorrowedGcm.put_pre_counter,@function
 gcm.gcm.mode.BorrowedGcm.put_pre_counter: // @gcm.gcm.mode.BorrowedGcm.put_pre_counter
 // %bb.0:                               // %start
@@ -1067,7 +1067,7 @@ gcm.gcm.mode.BorrowedGcm.put_pre_counter: // @gcm.gcm.mode.BorrowedGcm.put_pre_c
 	mov	x4, x1
 	mov	x0, x8
 	mov	x5, x20
-	bl	gcm.gcm.hash_room.RoomHashRoom.hash_on
+	bl	gcm.gcm.hash_room.MultiplesRoomHashRoom.hash_on
 	lsl	x8, x20, #43
 	lsr	x9, x20, #13
 	lsr	x10, x20, #21
@@ -1128,10 +1128,10 @@ gcm.gcm.mode.BorrowedGcm.put_pre_counter: // @gcm.gcm.mode.BorrowedGcm.put_pre_c
 .Lgcm_func_end5:
 	.size	gcm.gcm.mode.BorrowedGcm.put_pre_counter, .Lgcm_func_end5-gcm.gcm.mode.BorrowedGcm.put_pre_counter
                                         // -- End function
-	.section	.text.gcm.gcm.hash_room.RoomHashRoom.hash_on,"ax",@progbits
-	.p2align	2                               // -- Begin function gcm::hash_room::RoomHashRoom::hash_on
-	.type	gcm.gcm.hash_room.RoomHashRoom.hash_on,@function
-gcm.gcm.hash_room.RoomHashRoom.hash_on: // @gcm.gcm.hash_room.RoomHashRoom.hash_on
+	.section	.text.gcm.gcm.hash_room.MultiplesRoomHashRoom.hash_on,"ax",@progbits
+	.p2align	2                               // -- Begin function gcm::hash_room::MultiplesRoomHashRoom::hash_on
+	.type	gcm.gcm.hash_room.MultiplesRoomHashRoom.hash_on,@function
+gcm.gcm.hash_room.MultiplesRoomHashRoom.hash_on: // @gcm.gcm.hash_room.MultiplesRoomHashRoom.hash_on
 // %bb.0:                               // %start
 	sub	sp, sp, #112
 	fmov	d0, x2
@@ -1259,7 +1259,7 @@ gcm.gcm.hash_room.RoomHashRoom.hash_on: // @gcm.gcm.hash_room.RoomHashRoom.hash_
 	add	sp, sp, #112
 	ret
 .Lgcm_func_end6:
-	.size	gcm.gcm.hash_room.RoomHashRoom.hash_on, .Lgcm_func_end6-gcm.gcm.hash_room.RoomHashRoom.hash_on
+	.size	gcm.gcm.hash_room.MultiplesRoomHashRoom.hash_on, .Lgcm_func_end6-gcm.gcm.hash_room.MultiplesRoomHashRoom.hash_on
                                         // -- End function
 	.section	.rodata.cst16,"aM",@progbits,16
 	.p2align	4, 0x0                          // -- Begin function gcm::multiples::Multiples::three_products
@@ -1604,7 +1604,7 @@ gcm.aes_cipher.zeroize.stack.wipe_stack.512: // @gcm.aes_cipher.zeroize.stack.wi
 	.size	gcm.aes_cipher.zeroize.stack.wipe_stack.512, .Lgcm_func_end10-gcm.aes_cipher.zeroize.stack.wipe_stack.512
                                         // -- End function
 	.section	.text.gcm.gcm.mode.BorrowedGcm.put_tag_so_far,"ax",@progbits
-	.p2align	2                               // -- Begin function gcm::mode::BorrowedGcm::put_tag_so_far::<#8bfc6ace315c867e>
+	.p2align	2                               // -- Begin function gcm::mode::BorrowedGcm::put_tag_so_far::<#e698720ccb2969c4>
 	.type	gcm.gcm.mode.BorrowedGcm.put_tag_so_far,@function
 gcm.gcm.mode.BorrowedGcm.put_tag_so_far: // @gcm.gcm.mode.BorrowedGcm.put_tag_so_far
 // %bb.0:                               // %start
@@ -1970,7 +1970,7 @@ gcm.gcm.tags.put_mask: // @gcm.gcm.tags.put_mask
 	.size	gcm.gcm.tags.put_mask, .Lgcm_func_end12-gcm.gcm.tags.put_mask
                                         // -- End function
 	.section	.text.gcm.gcm.mode.BorrowedGcm.hash_what_came,"ax",@progbits
-	.p2align	2                               // -- Begin function gcm::mode::BorrowedGcm::hash_what_came::<#8bfc6ace315c867e>
+	.p2align	2                               // -- Begin function gcm::mode::BorrowedGcm::hash_what_came::<#e698720ccb2969c4>
 	.type	gcm.gcm.mode.BorrowedGcm.hash_what_came,@function
 gcm.gcm.mode.BorrowedGcm.hash_what_came: // @gcm.gcm.mode.BorrowedGcm.hash_what_came
 // %bb.0:                               // %start
@@ -1984,12 +1984,12 @@ gcm.gcm.mode.BorrowedGcm.hash_what_came: // @gcm.gcm.mode.BorrowedGcm.hash_what_
 	rev	x2, x10
 	rev	x3, x9
 	and	x5, x8, #0xf
-	b	gcm.gcm.hash_room.RoomHashRoom.hash_on
+	b	gcm.gcm.hash_room.MultiplesRoomHashRoom.hash_on
 .Lgcm_func_end13:
 	.size	gcm.gcm.mode.BorrowedGcm.hash_what_came, .Lgcm_func_end13-gcm.gcm.mode.BorrowedGcm.hash_what_came
                                         // -- End function
 	.section	.rodata.cst16,"aM",@progbits,16
-	.p2align	4, 0x0                          // -- Begin function gcm::mode::put_subkey::<#1ee4a1f63270783c>
+	.p2align	4, 0x0                          // -- Begin function gcm::mode::put_subkey::<#df66d58823e28773>
 .Lgcm_CPI14_0:
 	.byte	0                               // 0x0
 	.byte	1                               // 0x1
@@ -3547,7 +3547,7 @@ gcm.gcm.multiples.put_table:            // @gcm.gcm.multiples.put_table
 	.size	gcm.gcm.multiples.put_table, .Lgcm_func_end16-gcm.gcm.multiples.put_table
                                         // -- End function
 	.section	.text.gcm.gcm.mode.BorrowedGcm.compare,"ax",@progbits
-	.p2align	2                               // -- Begin function gcm::mode::BorrowedGcm::compare::<#8bfc6ace315c867e>
+	.p2align	2                               // -- Begin function gcm::mode::BorrowedGcm::compare::<#e698720ccb2969c4>
 	.type	gcm.gcm.mode.BorrowedGcm.compare,@function
 gcm.gcm.mode.BorrowedGcm.compare: // @gcm.gcm.mode.BorrowedGcm.compare
 // %bb.0:                               // %start
@@ -3613,7 +3613,7 @@ gcm.gcm.mode.BorrowedGcm.compare: // @gcm.gcm.mode.BorrowedGcm.compare
 	.size	gcm.gcm.mode.BorrowedGcm.compare, .Lgcm_func_end17-gcm.gcm.mode.BorrowedGcm.compare
                                         // -- End function
 	.section	.rodata.cst16,"aM",@progbits,16
-	.p2align	4, 0x0                          // -- Begin function gcm::mode::BorrowedGcm::put_tag::<#8bfc6ace315c867e>
+	.p2align	4, 0x0                          // -- Begin function gcm::mode::BorrowedGcm::put_tag::<#e698720ccb2969c4>
 .Lgcm_CPI18_0:
 	.xword	3                               // 0x3
 	.xword	0                               // 0x0
@@ -3665,7 +3665,7 @@ gcm.gcm.mode.BorrowedGcm.put_tag: // @gcm.gcm.mode.BorrowedGcm.put_tag
 	mov	x3, xzr
 	mov	x4, x24
 	mov	x5, x23
-	bl	gcm.gcm.hash_room.RoomHashRoom.hash_on
+	bl	gcm.gcm.hash_room.MultiplesRoomHashRoom.hash_on
 	lsl	x8, x21, #3
 	dup	v0.2d, x23
 	adrp	x9, .Lgcm_CPI18_0
@@ -3750,7 +3750,7 @@ gcm.gcm.mode.BorrowedGcm.put_tag: // @gcm.gcm.mode.BorrowedGcm.put_tag
 	b.ne	.Lgcm_BB18_7
 // %bb.5:                               // %then.1.i.i.i
 	eor	v0.16b, v2.16b, v4.16b
-.Lgcm_BB18_6:                               // %"gcm::tags::hash::<#de867e0411c14352>.exit"
+.Lgcm_BB18_6:                               // %"gcm::tags::hash::<#84904cd934dcda78>.exit"
 	add	x0, sp, #32
 	mov	x1, x22
 	bl	gcm.gcm.multiples.Multiples.block_product
@@ -3804,7 +3804,7 @@ gcm.gcm.mode.BorrowedGcm.put_tag: // @gcm.gcm.mode.BorrowedGcm.put_tag
 	add	x0, sp, #32
 	mov	x1, x22
 	bl	gcm.gcm.multiples.Multiples.three_products
-.Lgcm_BB18_15:                              // %"gcm::tags::hash::<#de867e0411c14352>.exit"
+.Lgcm_BB18_15:                              // %"gcm::tags::hash::<#84904cd934dcda78>.exit"
 	ldp	x9, x8, [sp, #32]
 	ldr	q1, [x19]
 	ldp	x22, x21, [sp, #128]            // 16-byte Folded Reload
@@ -10564,7 +10564,7 @@ gcm.aes_cipher.zeroize.stack.wipe_stack.2816: // @gcm.aes_cipher.zeroize.stack.w
 	.size	gcm.aes_cipher.zeroize.stack.wipe_stack.2816, .Lgcm_func_end47-gcm.aes_cipher.zeroize.stack.wipe_stack.2816
                                         // -- End function
 	.section	.text.gcm.gcm_c.siv.open_in.2,"ax",@progbits
-	.p2align	2                               // -- Begin function gcm_c::siv::open_in::<#730c80b4023fbf8d>
+	.p2align	2                               // -- Begin function gcm_c::siv::open_in::<#6ee9233b1430bb0c>
 	.type	gcm.gcm_c.siv.open_in.2,@function
 gcm.gcm_c.siv.open_in.2: // @gcm.gcm_c.siv.open_in.2
 // %bb.0:                               // %start
@@ -10651,7 +10651,7 @@ gcm.gcm_c.siv.open_in.2: // @gcm.gcm_c.siv.open_in.2
 	.size	gcm.gcm_c.siv.open_in.2, .Lgcm_func_end48-gcm.gcm_c.siv.open_in.2
                                         // -- End function
 	.section	.text.gcm.gcm_c.siv.prepare.2,"ax",@progbits
-	.p2align	2                               // -- Begin function gcm_c::siv::prepare::<#730c80b4023fbf8d>
+	.p2align	2                               // -- Begin function gcm_c::siv::prepare::<#6ee9233b1430bb0c>
 	.type	gcm.gcm_c.siv.prepare.2,@function
 gcm.gcm_c.siv.prepare.2: // @gcm.gcm_c.siv.prepare.2
 // %bb.0:                               // %start
@@ -10763,7 +10763,7 @@ gcm.gcm_c.siv.prepare.2: // @gcm.gcm_c.siv.prepare.2
 	.size	gcm.gcm_c.siv.prepare.2, .Lgcm_func_end49-gcm.gcm_c.siv.prepare.2
                                         // -- End function
 	.section	.text.gcm.gcm_siv.message.open.2,"ax",@progbits
-	.p2align	2                               // -- Begin function gcm_siv::message::open::<#891d1eb781147f79>
+	.p2align	2                               // -- Begin function gcm_siv::message::open::<#7927255b4de34720>
 	.type	gcm.gcm_siv.message.open.2,@function
 gcm.gcm_siv.message.open.2: // @gcm.gcm_siv.message.open.2
 // %bb.0:                               // %start
@@ -10823,7 +10823,7 @@ gcm.gcm_siv.message.open.2: // @gcm.gcm_siv.message.open.2
 	.size	gcm.gcm_siv.message.open.2, .Lgcm_func_end50-gcm.gcm_siv.message.open.2
                                         // -- End function
 	.section	.rodata.cst16,"aM",@progbits,16
-	.p2align	4, 0x0                          // -- Begin function gcm_siv::message::put_tag::<#891d1eb781147f79>
+	.p2align	4, 0x0                          // -- Begin function gcm_siv::message::put_tag::<#7927255b4de34720>
 .Lgcm_CPI51_0:
 	.xword	-8                              // 0xfffffffffffffff8
 	.xword	-16                             // 0xfffffffffffffff0
@@ -11262,7 +11262,7 @@ gcm.gcm_siv.message.put_tag.2: // @gcm.gcm_siv.message.put_tag.2
 	b.ne	.Lgcm_BB51_24
 // %bb.22:                              // %then.1.i139.i
 	eor	v0.16b, v19.16b, v2.16b
-.Lgcm_BB51_23:                              // %"gcm_siv::hash::RoomPolyvalRoom::hash.exit"
+.Lgcm_BB51_23:                              // %"gcm_siv::hash::MultiplesRoomPolyvalRoom::hash.exit"
 	add	x0, sp, #32
 	mov	x1, x22
 	bl	gcm.gcm.multiples.Multiples.block_product
@@ -11321,7 +11321,7 @@ gcm.gcm_siv.message.put_tag.2: // @gcm.gcm_siv.message.put_tag.2
 	rev64	v1.16b, v1.16b
 	ext	v1.16b, v1.16b, v1.16b, #8
 	bl	gcm.gcm.multiples.Multiples.three_products
-.Lgcm_BB51_32:                              // %"gcm_siv::hash::RoomPolyvalRoom::hash.exit"
+.Lgcm_BB51_32:                              // %"gcm_siv::hash::MultiplesRoomPolyvalRoom::hash.exit"
 	ldp	x10, x8, [sp, #32]
 	adrp	x11, .Lgcm_CPI51_10
 	ldr	d1, [x21]
@@ -11656,7 +11656,7 @@ gcm.gcm_siv.message.seal.1: // @gcm.gcm_siv.message.seal.1
 	.size	gcm.gcm_siv.message.seal.1, .Lgcm_func_end53-gcm.gcm_siv.message.seal.1
                                         // -- End function
 	.section	.text.gcm.gcm_c.siv.seal_in.2,"ax",@progbits
-	.p2align	2                               // -- Begin function gcm_c::siv::seal_in::<#730c80b4023fbf8d>
+	.p2align	2                               // -- Begin function gcm_c::siv::seal_in::<#6ee9233b1430bb0c>
 	.type	gcm.gcm_c.siv.seal_in.2,@function
 gcm.gcm_c.siv.seal_in.2: // @gcm.gcm_c.siv.seal_in.2
 // %bb.0:                               // %start
@@ -11743,7 +11743,7 @@ gcm.gcm_c.siv.seal_in.2: // @gcm.gcm_c.siv.seal_in.2
 	.size	gcm.gcm_c.siv.seal_in.2, .Lgcm_func_end54-gcm.gcm_c.siv.seal_in.2
                                         // -- End function
 	.section	.text.gcm.gcm_siv.message.seal.2,"ax",@progbits
-	.p2align	2                               // -- Begin function gcm_siv::message::seal::<#891d1eb781147f79>
+	.p2align	2                               // -- Begin function gcm_siv::message::seal::<#7927255b4de34720>
 	.type	gcm.gcm_siv.message.seal.2,@function
 gcm.gcm_siv.message.seal.2: // @gcm.gcm_siv.message.seal.2
 // %bb.0:                               // %start
@@ -11782,7 +11782,7 @@ gcm.gcm_siv.message.seal.2: // @gcm.gcm_siv.message.seal.2
 	.size	gcm.gcm_siv.message.seal.2, .Lgcm_func_end55-gcm.gcm_siv.message.seal.2
                                         // -- End function
 	.section	.text.gcm.gcm.hash_room.hash_piece,"ax",@progbits
-	.p2align	2                               // -- Begin function gcm::hash_room::hash_piece::<#de867e0411c14352>
+	.p2align	2                               // -- Begin function gcm::hash_room::hash_piece::<#84904cd934dcda78>
 	.type	gcm.gcm.hash_room.hash_piece,@function
 gcm.gcm.hash_room.hash_piece: // @gcm.gcm.hash_room.hash_piece
 // %bb.0:                               // %start
@@ -11917,7 +11917,7 @@ gcm.gcm.hash_room.hash_piece: // @gcm.gcm.hash_room.hash_piece
 	mov	x3, x25
 	mov	x4, x22
 	mov	x5, x23
-	bl	gcm.gcm.hash_room.RoomHashRoom.hash_on
+	bl	gcm.gcm.hash_room.MultiplesRoomHashRoom.hash_on
 	fmov	d0, x0
 	mov	v0.d[1], x1
 	rev64	v0.16b, v0.16b
@@ -12003,7 +12003,7 @@ gcm.gcm.hash_room.hash_piece: // @gcm.gcm.hash_room.hash_piece
 	.size	gcm.gcm.hash_room.hash_piece, .Lgcm_func_end56-gcm.gcm.hash_room.hash_piece
                                         // -- End function
 	.section	.text.gcm.gcm.mode.BorrowedGcm.turn_to,"ax",@progbits
-	.p2align	2                               // -- Begin function gcm::mode::BorrowedGcm::turn_to::<#8bfc6ace315c867e>
+	.p2align	2                               // -- Begin function gcm::mode::BorrowedGcm::turn_to::<#e698720ccb2969c4>
 	.type	gcm.gcm.mode.BorrowedGcm.turn_to,@function
 gcm.gcm.mode.BorrowedGcm.turn_to: // @gcm.gcm.mode.BorrowedGcm.turn_to
 // %bb.0:                               // %start
@@ -12070,7 +12070,7 @@ gcm.gcm.mode.BorrowedGcm.turn_to: // @gcm.gcm.mode.BorrowedGcm.turn_to
 	.size	gcm.gcm.mode.BorrowedGcm.turn_to, .Lgcm_func_end57-gcm.gcm.mode.BorrowedGcm.turn_to
                                         // -- End function
 	.section	.text.gcm.gcm.mode.BorrowedGcm.is_tag_so_far,"ax",@progbits
-	.p2align	2                               // -- Begin function gcm::mode::BorrowedGcm::is_tag_so_far::<#8bfc6ace315c867e>
+	.p2align	2                               // -- Begin function gcm::mode::BorrowedGcm::is_tag_so_far::<#e698720ccb2969c4>
 	.type	gcm.gcm.mode.BorrowedGcm.is_tag_so_far,@function
 gcm.gcm.mode.BorrowedGcm.is_tag_so_far: // @gcm.gcm.mode.BorrowedGcm.is_tag_so_far
 // %bb.0:                               // %start
@@ -12097,7 +12097,7 @@ gcm.gcm.mode.BorrowedGcm.is_tag_so_far: // @gcm.gcm.mode.BorrowedGcm.is_tag_so_f
 	.size	gcm.gcm.mode.BorrowedGcm.is_tag_so_far, .Lgcm_func_end58-gcm.gcm.mode.BorrowedGcm.is_tag_so_far
                                         // -- End function
 	.section	.text.gcm.gcm.mode.BorrowedGcm.is_short_tag_so_far,"ax",@progbits
-	.p2align	2                               // -- Begin function gcm::mode::BorrowedGcm::is_short_tag_so_far::<#8bfc6ace315c867e>
+	.p2align	2                               // -- Begin function gcm::mode::BorrowedGcm::is_short_tag_so_far::<#e698720ccb2969c4>
 	.type	gcm.gcm.mode.BorrowedGcm.is_short_tag_so_far,@function
 gcm.gcm.mode.BorrowedGcm.is_short_tag_so_far: // @gcm.gcm.mode.BorrowedGcm.is_short_tag_so_far
 // %bb.0:                               // %start
@@ -12820,7 +12820,7 @@ gcm.fotsgure_gcm_begin_next:                // @gcm.fotsgure_gcm_begin_next
 	rev	x11, x11
 	str	w8, [x2]
 	stur	x11, [x2, #4]
-.Lgcm_BB67_9:                               // %"gcm::mode::BorrowedGcm::begin_next::<#8bfc6ace315c867e>.exit.i"
+.Lgcm_BB67_9:                               // %"gcm::mode::BorrowedGcm::begin_next::<#e698720ccb2969c4>.exit.i"
 	add	x0, sp, #8
 	sub	x1, x29, #12
 	add	x3, x20, #32
@@ -13882,7 +13882,7 @@ gcm.fotsgure_gcm_open_to:                   // @gcm.fotsgure_gcm_open_to
 	blr	x16
 .Lgcm_BB72_15:                              // %after.4.i.i.i
 	strb	wzr, [x19, x20]
-.Lgcm_BB72_16:                              // %"gcm::mode::BorrowedGcm::decrypt_to::<#8bfc6ace315c867e>.exit.i"
+.Lgcm_BB72_16:                              // %"gcm::mode::BorrowedGcm::decrypt_to::<#e698720ccb2969c4>.exit.i"
 	mov	w19, #6                         // =0x6
 	b	.Lgcm_BB72_35
 .Lgcm_BB72_17:                              // %then.1.i.i
@@ -13981,7 +13981,7 @@ gcm.fotsgure_gcm_open_to:                   // @gcm.fotsgure_gcm_open_to
 	mov	x3, x19
 	bl	gcm.gcm.gctr.add_gctr
 	mov	w19, wzr
-.Lgcm_BB72_35:                              // %"gcm::mode::BorrowedGcm::decrypt_to::<#8bfc6ace315c867e>.exit.i"
+.Lgcm_BB72_35:                              // %"gcm::mode::BorrowedGcm::decrypt_to::<#e698720ccb2969c4>.exit.i"
 	sub	x0, x29, #16
 	bl	gcm.aes_cipher.zeroize.elements.zeroize_elements.3
 	bl	gcm.aes_cipher.zeroize.stack.wipe_stack.1536
@@ -16350,5 +16350,5 @@ gcm.fotsgure_gcm_accept_short:              // @gcm.fotsgure_gcm_accept_short
 	.long	9, 116, 1
 	.asciz	"Fotsgure"
 	.p2align	2, 0x0
-	.asciz	"fotsgure_gcm 0.4.0, aarch64/gcm.s, sources SHA-256 c5580fd5c08fd1ce251de00bc68bbabc41e05f02470d0c531f44ab6d5c423d70"
+	.asciz	"fotsgure_gcm 0.4.0, aarch64/gcm.s, sources SHA-256 7ffbfed4fdc57d310dc7b2575290ae8baa1c67d9e3c172c81948d4bb9f7ef94b"
 	.p2align	2, 0x0

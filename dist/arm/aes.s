@@ -2916,7 +2916,7 @@ aes.aes_narrow.blocks.process_in_batches.1: @ @aes.aes_narrow.blocks.process_in_
 	mov	r3, r8
 	str	r0, [sp, #12]
 	mov	r0, r6
-	bl	aes.aes_narrow.blocks.process_few.1
+	bl	aes.aes_narrow.blocks.process_filled_up.1
 	adds	r5, r10, r5
 	adc	r9, r9, #0
 	subs	r0, r5, r4
@@ -2930,11 +2930,11 @@ aes.aes_narrow.blocks.process_in_batches.1: @ @aes.aes_narrow.blocks.process_in_
 	.cantunwind
 	.fnend
                                         @ -- End function
-	.section	.text.aes.aes_narrow.blocks.process_few.1,"ax",%progbits
-	.p2align	2                               @ -- Begin function aes_narrow::blocks::process_few::<#1a21aa7f601e7603>
-	.type	aes.aes_narrow.blocks.process_few.1,%function
+	.section	.text.aes.aes_narrow.blocks.process_filled_up.1,"ax",%progbits
+	.p2align	2                               @ -- Begin function aes_narrow::blocks::process_filled_up::<#1a21aa7f601e7603>
+	.type	aes.aes_narrow.blocks.process_filled_up.1,%function
 	.code	32
-aes.aes_narrow.blocks.process_few.1: @ @aes.aes_narrow.blocks.process_few.1
+aes.aes_narrow.blocks.process_filled_up.1: @ @aes.aes_narrow.blocks.process_filled_up.1
 	.fnstart
 @ %bb.0:                                @ %start
 	.save	{r4, r5, r6, r7, r8, r9, r10, r11, lr}
@@ -3002,7 +3002,7 @@ aes.aes_narrow.blocks.process_few.1: @ @aes.aes_narrow.blocks.process_few.1
 	str	r6, [sp, #128]
 	str	r7, [sp, #124]
 	str	r1, [sp, #120]
-.Laes_BB5_3:                                @ %"aes_narrow::blocks::batch_of_few::<#7d3b633001169d8c>.exit"
+.Laes_BB5_3:                                @ %"aes_narrow::blocks::filled_up::<#7d3b633001169d8c>.exit"
 	ldr	r7, [sp, #104]
 	movw	r1, #21845
 	ldr	r5, [sp, #120]
@@ -3190,11 +3190,11 @@ aes.aes_narrow.blocks.process_few.1: @ @aes.aes_narrow.blocks.process_few.1
 	str	r2, [r12, #24]
 	str	r1, [r12, #20]
 	str	r0, [r12, #16]
-.Laes_BB5_6:                                @ %"aes_narrow::blocks::put_few::<#7d3b633001169d8c>.exit"
+.Laes_BB5_6:                                @ %"aes_narrow::blocks::put_first::<#7d3b633001169d8c>.exit"
 	add	sp, sp, #140
 	pop	{r4, r5, r6, r7, r8, r9, r10, r11, pc}
 .Laes_func_end5:
-	.size	aes.aes_narrow.blocks.process_few.1, .Laes_func_end5-aes.aes_narrow.blocks.process_few.1
+	.size	aes.aes_narrow.blocks.process_filled_up.1, .Laes_func_end5-aes.aes_narrow.blocks.process_filled_up.1
 	.cantunwind
 	.fnend
                                         @ -- End function
@@ -5801,7 +5801,7 @@ aes.aes_narrow.borrowed_words.call_to_encrypt: @ @aes.aes_narrow.borrowed_words.
 	strb	r4, [sp, #181]
 	strb	r5, [sp, #177]
 	strb	r1, [sp, #185]
-	bl	aes.aes_narrow.blocks.process_few.1
+	bl	aes.aes_narrow.blocks.process_filled_up.1
 	mov	r0, r9
 	ldrb	r4, [sp, #168]
 	ldrb	r1, [r0, r6]!
@@ -6184,7 +6184,7 @@ aes.aes_ctr.add_in_batches.add_next: @ @aes.aes_ctr.add_in_batches.add_next
 	ldr	r4, [sp, #432]
 	str	r1, [sp, #12]
 	str	r10, [sp]
-	bl	aes.aes_narrow.blocks.process_few.1
+	bl	aes.aes_narrow.blocks.process_filled_up.1
 	ldr	r0, [sp, #424]
 	ldr	r8, [sp, #24]                   @ 4-byte Reload
 	ldr	r11, [sp, #32]                  @ 4-byte Reload
@@ -7815,7 +7815,7 @@ aes.aes_narrow.borrowed_words.call_to_decrypt: @ @aes.aes_narrow.borrowed_words.
 	mov	r2, r10
 	mov	r3, r8
 	str	r9, [sp, #12]
-	bl	aes.aes_narrow.blocks.process_few.2
+	bl	aes.aes_narrow.blocks.process_filled_up.2
 	adds	r4, r4, #2
 	adc	r5, r5, #0
 	subs	r0, r11, r4
@@ -7834,7 +7834,7 @@ aes.aes_narrow.borrowed_words.call_to_decrypt: @ @aes.aes_narrow.borrowed_words.
 	mov	r0, r7
 	mov	r2, r10
 	mov	r3, r8
-	bl	aes.aes_narrow.blocks.process_few.2
+	bl	aes.aes_narrow.blocks.process_filled_up.2
 	adds	r4, r4, #1
 	adc	r5, r5, #0
 .Laes_BB20_6:                               @ %join.10.i.i.i.i
@@ -8004,11 +8004,11 @@ aes.aes_narrow.borrowed_words.call_to_decrypt: @ @aes.aes_narrow.borrowed_words.
 	.cantunwind
 	.fnend
                                         @ -- End function
-	.section	.text.aes.aes_narrow.blocks.process_few.2,"ax",%progbits
-	.p2align	2                               @ -- Begin function aes_narrow::blocks::process_few::<#a3dcb71d05bd149b>
-	.type	aes.aes_narrow.blocks.process_few.2,%function
+	.section	.text.aes.aes_narrow.blocks.process_filled_up.2,"ax",%progbits
+	.p2align	2                               @ -- Begin function aes_narrow::blocks::process_filled_up::<#a3dcb71d05bd149b>
+	.type	aes.aes_narrow.blocks.process_filled_up.2,%function
 	.code	32
-aes.aes_narrow.blocks.process_few.2: @ @aes.aes_narrow.blocks.process_few.2
+aes.aes_narrow.blocks.process_filled_up.2: @ @aes.aes_narrow.blocks.process_filled_up.2
 	.fnstart
 @ %bb.0:                                @ %start
 	.save	{r4, r5, r6, r7, r8, r9, r10, r11, lr}
@@ -8076,7 +8076,7 @@ aes.aes_narrow.blocks.process_few.2: @ @aes.aes_narrow.blocks.process_few.2
 	str	r6, [sp, #128]
 	str	r7, [sp, #124]
 	str	r1, [sp, #120]
-.Laes_BB21_3:                               @ %"aes_narrow::blocks::batch_of_few::<#7d3b633001169d8c>.exit"
+.Laes_BB21_3:                               @ %"aes_narrow::blocks::filled_up::<#7d3b633001169d8c>.exit"
 	ldr	r7, [sp, #104]
 	movw	r1, #21845
 	ldr	r5, [sp, #120]
@@ -8264,11 +8264,11 @@ aes.aes_narrow.blocks.process_few.2: @ @aes.aes_narrow.blocks.process_few.2
 	str	r2, [r12, #24]
 	str	r1, [r12, #20]
 	str	r0, [r12, #16]
-.Laes_BB21_6:                               @ %"aes_narrow::blocks::put_few::<#7d3b633001169d8c>.exit"
+.Laes_BB21_6:                               @ %"aes_narrow::blocks::put_first::<#7d3b633001169d8c>.exit"
 	add	sp, sp, #140
 	pop	{r4, r5, r6, r7, r8, r9, r10, r11, pc}
 .Laes_func_end21:
-	.size	aes.aes_narrow.blocks.process_few.2, .Laes_func_end21-aes.aes_narrow.blocks.process_few.2
+	.size	aes.aes_narrow.blocks.process_filled_up.2, .Laes_func_end21-aes.aes_narrow.blocks.process_filled_up.2
 	.cantunwind
 	.fnend
                                         @ -- End function
@@ -11174,7 +11174,7 @@ aes.aes_narrow.blocks.process_in_batches.2: @ @aes.aes_narrow.blocks.process_in_
 	mov	r3, r8
 	str	r0, [sp, #12]
 	mov	r0, r6
-	bl	aes.aes_narrow.blocks.process_few.2
+	bl	aes.aes_narrow.blocks.process_filled_up.2
 	adds	r5, r10, r5
 	adc	r9, r9, #0
 	subs	r0, r5, r4
@@ -16763,5 +16763,5 @@ aes.fotsgure_aes_add_keystream_with:        @ @aes.fotsgure_aes_add_keystream_wi
 	.long	9, 112, 1
 	.asciz	"Fotsgure"
 	.p2align	2, 0x0
-	.asciz	"fotsgure_aes 0.4.0, arm/aes.s, sources SHA-256 46921789358eaca23fa4ae4eea30ab0e26ba1bdf6ccb1d0247d98ca9f1c6b73d"
+	.asciz	"fotsgure_aes 0.4.0, arm/aes.s, sources SHA-256 568705d49fc313d51a3118f972883289c0abab049ad136132806690e516afe49"
 	.p2align	2, 0x0

@@ -3444,7 +3444,7 @@ gcm.aes_narrow.blocks.process_in_batches: @ @gcm.aes_narrow.blocks.process_in_ba
 	mov	r3, r8
 	str	r0, [sp, #12]
 	mov	r0, r6
-	bl	gcm.aes_narrow.blocks.process_few
+	bl	gcm.aes_narrow.blocks.process_filled_up
 	adds	r5, r4, r5
 	adc	r9, r9, #0
 	subs	r0, r5, r10
@@ -3458,11 +3458,11 @@ gcm.aes_narrow.blocks.process_in_batches: @ @gcm.aes_narrow.blocks.process_in_ba
 	.cantunwind
 	.fnend
                                         @ -- End function
-	.section	.text.gcm.aes_narrow.blocks.process_few,"ax",%progbits
-	.p2align	2                               @ -- Begin function aes_narrow::blocks::process_few::<#f6c900d3ac1e47b9>
-	.type	gcm.aes_narrow.blocks.process_few,%function
+	.section	.text.gcm.aes_narrow.blocks.process_filled_up,"ax",%progbits
+	.p2align	2                               @ -- Begin function aes_narrow::blocks::process_filled_up::<#f6c900d3ac1e47b9>
+	.type	gcm.aes_narrow.blocks.process_filled_up,%function
 	.code	32
-gcm.aes_narrow.blocks.process_few: @ @gcm.aes_narrow.blocks.process_few
+gcm.aes_narrow.blocks.process_filled_up: @ @gcm.aes_narrow.blocks.process_filled_up
 	.fnstart
 @ %bb.0:                                @ %start
 	.save	{r4, r5, r6, r7, r8, r9, r10, r11, lr}
@@ -3530,7 +3530,7 @@ gcm.aes_narrow.blocks.process_few: @ @gcm.aes_narrow.blocks.process_few
 	str	r6, [sp, #128]
 	str	r7, [sp, #124]
 	str	r1, [sp, #120]
-.Lgcm_BB13_3:                               @ %"aes_narrow::blocks::batch_of_few::<#ee324ebdabaa1892>.exit"
+.Lgcm_BB13_3:                               @ %"aes_narrow::blocks::filled_up::<#ee324ebdabaa1892>.exit"
 	ldr	r7, [sp, #104]
 	movw	r1, #21845
 	ldr	r5, [sp, #120]
@@ -3718,11 +3718,11 @@ gcm.aes_narrow.blocks.process_few: @ @gcm.aes_narrow.blocks.process_few
 	str	r2, [r12, #24]
 	str	r1, [r12, #20]
 	str	r0, [r12, #16]
-.Lgcm_BB13_6:                               @ %"aes_narrow::blocks::put_few::<#ee324ebdabaa1892>.exit"
+.Lgcm_BB13_6:                               @ %"aes_narrow::blocks::put_first::<#ee324ebdabaa1892>.exit"
 	add	sp, sp, #140
 	pop	{r4, r5, r6, r7, r8, r9, r10, r11, pc}
 .Lgcm_func_end13:
-	.size	gcm.aes_narrow.blocks.process_few, .Lgcm_func_end13-gcm.aes_narrow.blocks.process_few
+	.size	gcm.aes_narrow.blocks.process_filled_up, .Lgcm_func_end13-gcm.aes_narrow.blocks.process_filled_up
 	.cantunwind
 	.fnend
                                         @ -- End function
@@ -6983,7 +6983,7 @@ gcm.aes_narrow.borrowed_words.call_to_encrypt.1: @ @gcm.aes_narrow.borrowed_word
 	strb	r4, [sp, #170]
 	str	r10, [sp, #144]                 @ 4-byte Spill
 	strb	r1, [sp, #197]
-	bl	gcm.aes_narrow.blocks.process_few
+	bl	gcm.aes_narrow.blocks.process_filled_up
 	mov	r0, r9
 	ldrb	r5, [sp, #168]
 	ldrb	r1, [r0, r7]!
@@ -7354,7 +7354,7 @@ gcm.aes_ctr.add_in_batches.add_next.1: @ @gcm.aes_ctr.add_in_batches.add_next.1
 	str	r8, [sp, #8]
 	str	r1, [sp, #12]
 	str	r11, [sp]
-	bl	gcm.aes_narrow.blocks.process_few
+	bl	gcm.aes_narrow.blocks.process_filled_up
 	ldr	r12, [sp, #24]                  @ 4-byte Reload
 	add	r5, r7, r9
 	ldr	lr, [sp, #32]                   @ 4-byte Reload
@@ -8700,7 +8700,7 @@ gcm.aes_narrow.borrowed_words.call_to_encrypt.2: @ @gcm.aes_narrow.borrowed_word
 	str	r0, [sp]
 	ldr	r0, [sp, #68]                   @ 4-byte Reload
 	str	r11, [sp, #12]
-	bl	gcm.aes_narrow.blocks.process_few
+	bl	gcm.aes_narrow.blocks.process_filled_up
 	mov	r0, r9
 	ldrb	r5, [sp, #176]
 	ldrb	lr, [r0, r7]!
@@ -9015,7 +9015,7 @@ gcm.aes_ctr.add_in_batches.add_next.2: @ @gcm.aes_ctr.add_in_batches.add_next.2
 	str	r10, [sp]
 	str	r8, [sp, #8]
 	str	r4, [sp, #12]
-	bl	gcm.aes_narrow.blocks.process_few
+	bl	gcm.aes_narrow.blocks.process_filled_up
 	ldr	r8, [sp, #24]                   @ 4-byte Reload
 	add	r4, r5, r7
 	ldr	r12, [sp, #32]                  @ 4-byte Reload
@@ -11936,5 +11936,5 @@ gcm.fotsgure_gcm_siv_wipe:                  @ @gcm.fotsgure_gcm_siv_wipe
 	.long	9, 112, 1
 	.asciz	"Fotsgure"
 	.p2align	2, 0x0
-	.asciz	"fotsgure_gcm 0.4.0, arm/gcm.s, sources SHA-256 c5580fd5c08fd1ce251de00bc68bbabc41e05f02470d0c531f44ab6d5c423d70"
+	.asciz	"fotsgure_gcm 0.4.0, arm/gcm.s, sources SHA-256 7ffbfed4fdc57d310dc7b2575290ae8baa1c67d9e3c172c81948d4bb9f7ef94b"
 	.p2align	2, 0x0

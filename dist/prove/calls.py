@@ -25,8 +25,8 @@ class Buffer:
 
     head = None
 
-    def __init__(self, name, content, after=None, secret=False, align=1):
-        """`secret`: what it holds after the call is as secret as the key. `align`: of the struct that it is."""
+    def __init__(self, name, content, after=None, secret=(), align=1):
+        """`secret`: which of MAY_NOT_COME may come there, as what it holds is as secret as the key. `align`: of the struct that it is."""
         self.name, self.content, self.after, self.secret, self.align = name, content, after, secret, align
 
     def region(self, machine):
@@ -238,9 +238,9 @@ def no_secret_in_buffers(m, call):
     known, plain = named(m, call)
     ends = [b for a in call.buffers if not a.secret and isinstance(a.after, list) for b in a.after if isinstance(b, int)]
     known = {**known, "result": known["result"] | bits_of(m, ends)}
-    for _, name, b in in_buffers(m, call):
-        if tells(m, b, known, plain) in MAY_NOT_COME:
-            raise Unproved("writes something secret to %s in a loop" % name)
+    for a, b in in_buffers(m, call):
+        if (kind := tells(m, b, known, plain)) in MAY_NOT_COME and kind not in a.secret:
+            raise Unproved("writes something secret to %s in a loop" % a.name)
 
 
 def compare(domain, have, want, what):
@@ -433,7 +433,9 @@ def named(m, call):
 
 
 def in_buffers(m, call):
-    return [(IN_BUFFERS, a.name, b) for a in call.buffers if not a.secret and a.after is not ANY for b in m.wrote.get(a.name, ())]
+    """What was written to buffers, also if it was written over since, with the Buffer. In a call of any length a byte that differs from pass
+    to pass counts as part of the key, so what came to structs isn't looked at there."""
+    return [(a, b) for a in call.buffers if a.after is not ANY and not (a.secret and call.any_length) for b in m.wrote.get(a.name, ())]
 
 
 def left(m, call):
@@ -443,7 +445,7 @@ def left(m, call):
     known = {**known, "result": known["result"] | bits_of(m, m.results)}
     places = [("stack", k - m.top, m.regions["stack"].content[k]) for k in range(m.lowest, m.top)]
     places += [("a message", k, b) for k, b in enumerate(m.unsaid)]
-    places += in_buffers(m, call)
+    places += [(IN_BUFFERS, a, b) for a, b in in_buffers(m, call)]
     places += [("registers", r, b) for r, v in m.general.items() for b in m.to_bytes(v, 8)]
     places += [("registers", "vector %d" % n, b) for n, v in enumerate(m.vectors) for b in v]
     reveals = call.reveals(m) if callable(call.reveals) else call.reveals
@@ -451,6 +453,6 @@ def left(m, call):
     if call.any_length and any(max(m.domain.blocks(b), default=0) >= LAST for b in kinds):
         raise Unproved("leaves a block with a number that isn't known")
     for place, where, b in places:
-        if kinds[b]:
-            out.setdefault((place, kinds[b]), []).append(where)
+        if kinds[b] and not (place == IN_BUFFERS and kinds[b] in where.secret):
+            out.setdefault((place, kinds[b]), []).append(where.name if place == IN_BUFFERS else where)
     return out

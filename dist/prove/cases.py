@@ -29,8 +29,9 @@ ROUNDS = [Row("a_round", "a round, or eight (`_par`); they need no key", few=SIN
 AES_ROWS = [
     Row("any_blocks", "16 n + r blocks for every n: the direction, r, into the same buffer or another (`_to`), or under a key (`_with`)",
         few=[(way, 7, to) for way in DIRECTIONS for to in ("", "_to")] + [(way, 1, "_with") for way in DIRECTIONS],
-        full=[(way, rest) for way in DIRECTIONS for rest in range(16) if rest != 7],
-        first=[(way, rest, "_to") for way in DIRECTIONS for rest in (0, 1, 2, 14)]),
+        full=[(way, rest) for way in DIRECTIONS for rest in range(16) if rest != 7]
+             + [(way, *more) for way in DIRECTIONS for more in ((1, "_to"), (7, "_with"))],
+        first=[(way, rest, "_to") for way in DIRECTIONS for rest in (0, 2, 14)]),
     Row("blocks", "the direction and the number of blocks", few=[("encrypt", 2), ("encrypt", 1, "_with")],
         full=[("encrypt", n) for n in (0, 16, 17)],
         other=[(way, n, to) for way in DIRECTIONS for n, to in ((2, ""), (32, ""), (1, "_to"), (1, "_with"))]),
@@ -40,15 +41,15 @@ AES_ROWS = [
     Row("add_keystream", "the position, the number of bytes, and before which block the low half of the counter carries, if anywhere",
         few=[(0, 33), (0, 5), (0, 15), (2 ** 64 - 21, 20), (5, 40, 2), (21, 40, 1), (21, 40, 2), (16, 64, 1), (0, 16, BLOCK_BEHIND),
              (3, 33, NO_CARRY, "_to"), (3, 33, NO_CARRY, "_with")],
-        full=[(0, 1), (0, 16), (0, 64), (0, 130), (3, 0, NO_CARRY, "_to"), (3, 130, NO_CARRY, "_to"), (5, 40, BLOCK_BEHIND), (21, 11),
+        full=[(0, 1), (0, 16), (0, 64), (0, 130), (21, 3), (21, 8), (3, 130, NO_CARRY, "_with"), (3, 0, NO_CARRY, "_to"), (3, 130, NO_CARRY, "_to"), (5, 40, BLOCK_BEHIND), (21, 11),
               (21, 11, 1), (21, 11, 1, "_to"), (21, 11, 1, "_with"), *((16, 64, block) for block in range(2, 6)),
               # Positions, and numbers of blocks, that don't fit into 32 bits; and one that would be below 0 if it had a sign.
-              (2 ** 32 - 20, 40), (2 ** 63 + 2 ** 36, 64)],
+              (2 ** 32 - 20, 40), *((2 ** 63 + 2 ** 36, 64, NO_CARRY, way) for way in ("", "_with"))],
         more=[(0, 33, 5)], other=[(0, 33), (3, 33, NO_CARRY, "_to"), (3, 33, NO_CARRY, "_with")]),
     Row("any_cbc_encrypt", "every number of blocks", few=ONCE),
     Row("any_cbc_decrypt", "64 n + r blocks for every n: r", full=[9], more=[0]),
     Row("cbc_encrypt", "the number of blocks", full=[1, 2], other=[1]),
-    Row("cbc_decrypt", "the number of blocks", few=[9], full=[0, 1, 3, 4, 8, 17], other=[1]),
+    Row("cbc_decrypt", "the number of blocks", few=[9], full=[0, 1, 3, 4, 8, 17, 47], other=[1]),
     Row("any_wrap", "a key of every number of semiblocks", full=ONCE),
     Row("any_unwrap", "a key of every number of semiblocks, also of what is refused", full=ONCE),
     Row("any_wrap_padded", "a key of 16 n + r bytes for every n: r", full=[3], first=[7, 9, 15, 16]),
@@ -61,14 +62,14 @@ AES_ROWS = [
         "and 2^k - 1 for every so many k", full=[(1, 8)], first=[(2, 16)], more=[(1, 1)]),
     Row("any_cmac", "16 n + r bytes for every n: r", few=[1], full=[16], first=[12, 15]),
     Row("any_cmac_verify", "the same, also of what is refused: r and the tag's length", few=[(1, 16)], first=[(1, 11)]),
-    Row("cmac", "the number of bytes", full=[0, 1, 16], other=[1]),
-    Row("cmac_verify", "the number of bytes and the tag's length, also of what is refused", full=[(0, tag) for tag in modes.CMAC_TAGS],
+    Row("cmac", "the number of bytes", full=[0, 1, 16, 23], other=[1]),
+    Row("cmac_verify", "the number of bytes and the tag's length, also of what is refused", full=[(n, tag) for n in (0, 17) for tag in modes.CMAC_TAGS],
         other=[(0, 4)]),
     *(Row(call, "16 a + b bytes of additional data, none if b is 0, and 256 n + r of text for every a and n: the lengths of nonce, b, r, tag; "
           "the encoded length of additional data takes 2 bytes, or 6 or 10 if it says so", full=full, first=first,
           more=[(13, 0, 16, 16), (9, 15, 255, 4, 6), (11, 9, 0, 6, 10)])
       for call, full, first in (("any_ccm_seal", (), [(8, 15, 33, 8), (8, 16, 33, 8, 6), (8, 16, 33, 8, 10)]),
-                                ("any_ccm_open", [(12, 15, 33, 8)], ()))),
+                                ("any_ccm_open", [(12, 15, 33, 8), (13, 15, 255, 8)], ()))),
     *(Row(call, "the lengths of nonce, additional data, text and tag", few=[(13, 8, 33, 8)],
           full=[(7, 0, 1, 4), (12, 14, 16, 16), (8, 15, 17, 6), (10, 33, 0, 14), (9, 0, 0, 10), (11, 0, 0, 12)],
           more=[(nonce, 20, 40, tag) for nonce, tag in zip(modes.NONCES, modes.CCM_TAGS)],
@@ -109,11 +110,11 @@ GCM_ROWS = [
     *(Row("any_" + call, PIECE % step, first=[(3, 46)], more=[(15, 48)]) for call, step in (
         ("additional", 48), ("verify", 48), ("encrypt", 768), ("decrypt", 768), ("decrypt_unverified", 768))),
     Row("seal", "the lengths of additional data and text, and a nonce of another length", few=[(13, 33), (13, 33, (), "_to")],
-        full=[(0, 0), (0, 5), (1, 1), (13, 0), (16, 16), (32, 32), (49, 1), (0, 449, gcm.UNKNOWN), (0, 0, (), "_to"), *((5, 20, nonce) for nonce in NONCES)],
+        full=[(0, 0), (0, 5), (1, 1), (13, 0), (16, 16), (20, 64), (32, 32), (49, 1), (0, 449, gcm.UNKNOWN), (0, 0, (), "_to"), *((5, 20, nonce) for nonce in NONCES)],
         more=[*((5, 40, nonce) for nonce in NONCES), *((5, n, (60,)) for n in (0, 129, 300))],
         other=[(13, 481, gcm.UNKNOWN), (0, 0, (), "_to")]),
     Row("open", "the same, also of what is refused", few=[(13, 33), (13, 33, (), "_to")],
-        full=[(0, 0), (13, 0), (0, 0, (), "_to"), (3, 20, gcm.UNKNOWN)], more=[(3, 20, nonce) for nonce in NONCES[1:]],
+        full=[(0, 0), (13, 0), (20, 64), (0, 0, (), "_to"), (3, 20, gcm.UNKNOWN)], more=[(3, 20, nonce) for nonce in NONCES[1:]],
         other=[(13, 33), (0, 0, (), "_to")]),
     Row("begin", "the nonce", few=[(), *((nonce,) for nonce in NONCES)], other=[()]),
     Row("seal_next", "the lengths of additional data and text, and the counter: if a carry comes to a byte, this one is any, those behind it are "
@@ -121,33 +122,33 @@ GCM_ROWS = [
         other=[(3, 1, counter) for counter in FEW_COUNTERS]),
     Row("begin_next", "the counter, as above", few=FEW_COUNTERS, full=CARRIES, other=FEW_COUNTERS),
     Row("additional", "how many bytes came before, and how many come", few=[(3, 13)],
-        full=[(3, 100), (0, 0), (0, 5), (32, 48), (2 ** 32 - 3, 13), (MANY, 7)], other=[(3, 13)]),
+        full=[(3, 5), (3, 100), (0, 0), (0, 5), (32, 48), (2 ** 32 - 3, 13), (MANY, 7)], other=[(3, 13)]),
     Row("piece", "the call; " + STATE + "; the number of bytes", few=[(call, gcm.ADDITIONAL, 5, 0, 3) for call in PHASES],
-        full=[*((call, phase, 5, 20, 50) for call, phase in PHASES.items()), *((call, gcm.ADDITIONAL, 0, 0, 16) for call in PHASES),
-              *((call, phase, 5, 7, 9) for call, phase in PHASES.items())],
+        full=[*((call, phase, 5, *numbers) for call, phase in PHASES.items() for numbers in ((4, 3), (5, 4), (7, 9), (20, 50), (20, 300))),
+              *((call, gcm.ADDITIONAL, *numbers) for call in PHASES for numbers in ((0, 0, 16), (32, 0, 3)))],
         other=[(call, gcm.ADDITIONAL, 5, 0, 3) for call in PHASES]),
     Row("piece", "the same, of no bytes, and after many bytes", few=[("encrypt", gcm.ENCRYPTING, 5, MANY, n, (12,)) for n in (64, 500)],
         full=[*((call, phase, 0, 0, 0) for call, phase in PHASES.items()), *((call, gcm.ADDITIONAL, 5, 0, 0) for call in PHASES),
-              ("encrypt", gcm.ENCRYPTING, 5, 2 ** 32 - 5, 20, (12,)), ("verify", gcm.VERIFYING, MANY, MANY, 9, (12,))]),
+              *((call, phase, 5, 2 ** 32 - 5, 20, (12,)) for call, phase in PHASES.items()), ("verify", gcm.VERIFYING, MANY, MANY, 9, (12,))]),
     Row("piece", "the same, up to the longest text", full=[(call, phase, 5, gcm.MOST - 9, 9, (12,)) for call, phase in PHASES.items()]),
     Row("decrypt", "the length of the text, how many bytes of it came before, and how many come", few=[(100, 7, 20)],
-        full=[(100, 7, 0), (100, 32, 68), (2 * MANY, MANY - 5, 20, (12,))], more=[(100, 0, 16)], other=[(100, 7, 20)]),
+        full=[(100, 7, 0), (100, 5, 4), (100, 32, 68), (2 * MANY, MANY - 5, 20, (12,))], more=[(100, 0, 16)], other=[(100, 7, 20)]),
     *(Row(call, STATE + also, few=[(phase, 16, 7), *few], other=[(phase, 16, 7), *few],
           first=[(gcm.ADDITIONAL, n, 0) if call == "finish" else (phase, 5, n) for n in ENDS],
-          full=[(gcm.ADDITIONAL, 0, 0), (gcm.ADDITIONAL, 5, 0), (phase, 5, 16), (phase, MANY + 16, MANY + 7), *full])
+          full=[*((gcm.ADDITIONAL, n, 0) for n in (0, 5, 16)), (phase, 5, 0), (phase, 5, 16), (phase, MANY + 16, MANY + 7), *full])
       for call, phase, also, few, full in (
           ("finish", gcm.ENCRYPTING, "", (), ()),
           ("accept", gcm.VERIFYING, "; also of what is refused, and of a shorter tag", [(gcm.VERIFYING, 16, 7, gcm.UNKNOWN, 12)],
-           [(gcm.VERIFYING, 16, 7, gcm.UNKNOWN, n) for n in TAGS if n != 12])))]
+           [(gcm.ADDITIONAL, 5, 0, gcm.UNKNOWN, 12), *((gcm.VERIFYING, 16, 7, gcm.UNKNOWN, n) for n in TAGS if n != 12)])))]
 
 SIV_ROWS = [
     Row("any_seal", WHOLE + "; both may have 2^36 bytes", full=[(33, 77), (16, 256)], first=[(13, 33, "_to")],
         more=[(0, 0), (47, 767)]),
     Row("any_open", WHOLE + "; also of what is refused", full=[(13, 33, "_to"), (13, 225)],
         more=[(33, 48), (0, 0, "_to")]),
-    Row("seal", "the lengths of additional data and text", few=[(13, 33), (13, 33, "_to")], full=[(13, 0), (1, 1), (0, 16)],
+    Row("seal", "the lengths of additional data and text", few=[(13, 33), (13, 33, "_to")], full=[(13, 0), (1, 1), (13, 7), (0, 16)],
         other=[(13, 33), (13, 33, "_to")]),
-    Row("open", "the same, also of what is refused", few=[(1, 1), (13, 33, "_to")], full=[(13, 0), (0, 16)], other=[(1, 1), (13, 33, "_to")])]
+    Row("open", "the same, also of what is refused", few=[(1, 1), (13, 33, "_to")], full=[(13, 0), (13, 7), (0, 16)], other=[(1, 1), (13, 33, "_to")])]
 
 
 def common_rows(library, version):

@@ -9,7 +9,7 @@ from dataclasses import dataclass
 
 from aes import DONE, NEVER, PTRDIFF_MAX, STRUCT as AES_STRUCT, CounterWord, between, nothing, unequal, unread
 from bits import DATA, KEY, PUBLIC
-from calls import ANY, Buffer, Call, Stream
+from calls import ANY, MAY_NOT_COME, Buffer, Call, Stream
 from hashing import Hashing, KeyedHash, threes
 from linear import unknown
 from operands import Content, Number, Pointer
@@ -83,7 +83,7 @@ class KeyedGcm(KeyedHash):
             yield self.subkey_in, self.aes.cipher(ZEROS, self.w), self.powers[0]
             for power, after in zip(self.powers, self.powers[1:]):
                 yield "hash", functools.partial(self.with_powers, [power]), after
-        gcm = self.struct_of(self.undefined(self.struct_size), self.struct, secret=True)
+        gcm = self.struct_of(self.undefined(self.struct_size), self.struct, secret=MAY_NOT_COME)
         return Call("gcm_set_key_of", [gcm, self.key_of_blocks()], DONE, steps=steps)
 
     def set_key_of_none(self):
@@ -300,7 +300,7 @@ class KeyedGcm(KeyedHash):
         return counts + self.counter_block(first, 0) + value + rest
 
     def message(self, before, after=None):
-        return Buffer("message", before, after, secret=True, align=8)
+        return Buffer("message", before, after, secret=("inner",), align=8)
 
     def any_state(self, phase, additional, text, first, decrypted=0):
         """A message of which so much has come, with any value of GHASH and any part of a block."""

@@ -3204,7 +3204,7 @@ aes.aes_narrow.blocks.process_in_batches.1: # @aes.aes_narrow.blocks.process_in_
 	mv	a1, s4
 	mv	a2, s3
 	li	a5, 0
-	call	aes.aes_narrow.blocks.process_few.1
+	call	aes.aes_narrow.blocks.process_filled_up.1
 	bne	s0, s6, .Laes_BB4_2
 # %bb.6:                                #   in Loop: Header=BB4_3 Depth=1
 	sltu	a1, s1, s7
@@ -3225,10 +3225,10 @@ aes.aes_narrow.blocks.process_in_batches.1: # @aes.aes_narrow.blocks.process_in_
 .Laes_func_end4:
 	.size	aes.aes_narrow.blocks.process_in_batches.1, .Laes_func_end4-aes.aes_narrow.blocks.process_in_batches.1
                                         # -- End function
-	.section	.text.aes.aes_narrow.blocks.process_few.1,"ax",@progbits
-	.p2align	1                               # -- Begin function aes_narrow::blocks::process_few::<#1a21aa7f601e7603>
-	.type	aes.aes_narrow.blocks.process_few.1,@function
-aes.aes_narrow.blocks.process_few.1: # @aes.aes_narrow.blocks.process_few.1
+	.section	.text.aes.aes_narrow.blocks.process_filled_up.1,"ax",@progbits
+	.p2align	1                               # -- Begin function aes_narrow::blocks::process_filled_up::<#1a21aa7f601e7603>
+	.type	aes.aes_narrow.blocks.process_filled_up.1,@function
+aes.aes_narrow.blocks.process_filled_up.1: # @aes.aes_narrow.blocks.process_filled_up.1
 # %bb.0:                                # %start
 	addi	sp, sp, -160
 	sw	ra, 156(sp)                     # 4-byte Folded Spill
@@ -3367,7 +3367,7 @@ aes.aes_narrow.blocks.process_few.1: # @aes.aes_narrow.blocks.process_few.1
 	addi	a0, sp, 92
 	li	a2, 16
 	call	memcpy
-.Laes_BB5_3:                                # %"aes_narrow::blocks::batch_of_few::<#7d3b633001169d8c>.exit"
+.Laes_BB5_3:                                # %"aes_narrow::blocks::filled_up::<#7d3b633001169d8c>.exit"
 	lw	a5, 76(sp)
 	lw	t1, 80(sp)
 	lw	a6, 84(sp)
@@ -3616,7 +3616,7 @@ aes.aes_narrow.blocks.process_few.1: # @aes.aes_narrow.blocks.process_few.1
 	addi	a0, s10, 16
 	li	a2, 16
 	call	memcpy
-.Laes_BB5_6:                                # %"aes_narrow::blocks::put_few::<#7d3b633001169d8c>.exit"
+.Laes_BB5_6:                                # %"aes_narrow::blocks::put_first::<#7d3b633001169d8c>.exit"
 	lw	ra, 156(sp)                     # 4-byte Folded Reload
 	lw	s0, 152(sp)                     # 4-byte Folded Reload
 	lw	s1, 148(sp)                     # 4-byte Folded Reload
@@ -3633,7 +3633,7 @@ aes.aes_narrow.blocks.process_few.1: # @aes.aes_narrow.blocks.process_few.1
 	addi	sp, sp, 160
 	ret
 .Laes_func_end5:
-	.size	aes.aes_narrow.blocks.process_few.1, .Laes_func_end5-aes.aes_narrow.blocks.process_few.1
+	.size	aes.aes_narrow.blocks.process_filled_up.1, .Laes_func_end5-aes.aes_narrow.blocks.process_filled_up.1
                                         # -- End function
 	.section	.text.aes.aes_narrow.blocks.process_state.1,"ax",@progbits
 	.p2align	1                               # -- Begin function aes_narrow::blocks::process_state::<#1a21aa7f601e7603>
@@ -6302,7 +6302,7 @@ aes.aes_narrow.borrowed_words.call_to_encrypt: # @aes.aes_narrow.borrowed_words.
 	lw	a1, 32(sp)                      # 4-byte Folded Reload
 	lw	a2, 36(sp)                      # 4-byte Folded Reload
 	li	a5, 0
-	call	aes.aes_narrow.blocks.process_few.1
+	call	aes.aes_narrow.blocks.process_filled_up.1
 	lbu	a0, 12(s5)
 	sw	a0, 80(sp)                      # 4-byte Folded Spill
 	lbu	s11, 13(s5)
@@ -6835,7 +6835,7 @@ aes.aes_ctr.add_in_batches.add_next: # @aes.aes_ctr.add_in_batches.add_next
 	li	a4, 2
 .Laes_BB9_9:                                # %"aes_ctr::keystream::fill_by_backend::<#a8e061590e9ece31>.exit"
 	li	a5, 0
-	call	aes.aes_narrow.blocks.process_few.1
+	call	aes.aes_narrow.blocks.process_filled_up.1
 	lw	s0, 40(sp)                      # 4-byte Folded Reload
 	lw	a0, 24(sp)                      # 4-byte Folded Reload
 	add	s4, a0, s9
@@ -9509,7 +9509,7 @@ aes.aes_narrow.borrowed_words.call_to_decrypt: # @aes.aes_narrow.borrowed_words.
 	mv	a1, s3
 	mv	a2, s2
 	li	a5, 0
-	call	aes.aes_narrow.blocks.process_few.2
+	call	aes.aes_narrow.blocks.process_filled_up.2
 	sltu	a0, s5, s1
 	sub	a1, s5, s1
 	add	a0, a0, s0
@@ -9539,7 +9539,7 @@ aes.aes_narrow.borrowed_words.call_to_decrypt: # @aes.aes_narrow.borrowed_words.
 	mv	a1, s3
 	mv	a2, s2
 	li	a5, 0
-	call	aes.aes_narrow.blocks.process_few.2
+	call	aes.aes_narrow.blocks.process_filled_up.2
 	addi	s1, s1, 1
 	seqz	a0, s1
 	add	s0, s0, a0
@@ -9704,10 +9704,10 @@ aes.aes_narrow.borrowed_words.call_to_decrypt: # @aes.aes_narrow.borrowed_words.
 .Laes_func_end19:
 	.size	aes.aes_narrow.borrowed_words.call_to_decrypt, .Laes_func_end19-aes.aes_narrow.borrowed_words.call_to_decrypt
                                         # -- End function
-	.section	.text.aes.aes_narrow.blocks.process_few.2,"ax",@progbits
-	.p2align	1                               # -- Begin function aes_narrow::blocks::process_few::<#a3dcb71d05bd149b>
-	.type	aes.aes_narrow.blocks.process_few.2,@function
-aes.aes_narrow.blocks.process_few.2: # @aes.aes_narrow.blocks.process_few.2
+	.section	.text.aes.aes_narrow.blocks.process_filled_up.2,"ax",@progbits
+	.p2align	1                               # -- Begin function aes_narrow::blocks::process_filled_up::<#a3dcb71d05bd149b>
+	.type	aes.aes_narrow.blocks.process_filled_up.2,@function
+aes.aes_narrow.blocks.process_filled_up.2: # @aes.aes_narrow.blocks.process_filled_up.2
 # %bb.0:                                # %start
 	addi	sp, sp, -160
 	sw	ra, 156(sp)                     # 4-byte Folded Spill
@@ -9846,7 +9846,7 @@ aes.aes_narrow.blocks.process_few.2: # @aes.aes_narrow.blocks.process_few.2
 	addi	a0, sp, 92
 	li	a2, 16
 	call	memcpy
-.Laes_BB20_3:                               # %"aes_narrow::blocks::batch_of_few::<#7d3b633001169d8c>.exit"
+.Laes_BB20_3:                               # %"aes_narrow::blocks::filled_up::<#7d3b633001169d8c>.exit"
 	lw	a5, 76(sp)
 	lw	t1, 80(sp)
 	lw	a6, 84(sp)
@@ -10095,7 +10095,7 @@ aes.aes_narrow.blocks.process_few.2: # @aes.aes_narrow.blocks.process_few.2
 	addi	a0, s10, 16
 	li	a2, 16
 	call	memcpy
-.Laes_BB20_6:                               # %"aes_narrow::blocks::put_few::<#7d3b633001169d8c>.exit"
+.Laes_BB20_6:                               # %"aes_narrow::blocks::put_first::<#7d3b633001169d8c>.exit"
 	lw	ra, 156(sp)                     # 4-byte Folded Reload
 	lw	s0, 152(sp)                     # 4-byte Folded Reload
 	lw	s1, 148(sp)                     # 4-byte Folded Reload
@@ -10112,7 +10112,7 @@ aes.aes_narrow.blocks.process_few.2: # @aes.aes_narrow.blocks.process_few.2
 	addi	sp, sp, 160
 	ret
 .Laes_func_end20:
-	.size	aes.aes_narrow.blocks.process_few.2, .Laes_func_end20-aes.aes_narrow.blocks.process_few.2
+	.size	aes.aes_narrow.blocks.process_filled_up.2, .Laes_func_end20-aes.aes_narrow.blocks.process_filled_up.2
                                         # -- End function
 	.section	.text.aes.aes_narrow.blocks.process_state.2,"ax",@progbits
 	.p2align	1                               # -- Begin function aes_narrow::blocks::process_state::<#a3dcb71d05bd149b>
@@ -12888,7 +12888,7 @@ aes.aes_narrow.blocks.process_in_batches.2: # @aes.aes_narrow.blocks.process_in_
 	mv	a1, s4
 	mv	a2, s3
 	li	a5, 0
-	call	aes.aes_narrow.blocks.process_few.2
+	call	aes.aes_narrow.blocks.process_filled_up.2
 	bne	s0, s6, .Laes_BB22_2
 # %bb.6:                                #   in Loop: Header=BB22_3 Depth=1
 	sltu	a1, s1, s7
@@ -21117,5 +21117,5 @@ aes.fotsgure_aes_add_keystream_with:        # @aes.fotsgure_aes_add_keystream_wi
 	.long	9, 116, 1
 	.asciz	"Fotsgure"
 	.p2align	2, 0x0
-	.asciz	"fotsgure_aes 0.4.0, riscv32/aes.s, sources SHA-256 46921789358eaca23fa4ae4eea30ab0e26ba1bdf6ccb1d0247d98ca9f1c6b73d"
+	.asciz	"fotsgure_aes 0.4.0, riscv32/aes.s, sources SHA-256 568705d49fc313d51a3118f972883289c0abab049ad136132806690e516afe49"
 	.p2align	2, 0x0

@@ -3099,7 +3099,7 @@ aes_small.aes_narrow.blocks.process_in_batches.1: # @aes_small.aes_narrow.blocks
 	mv	a1, s4
 	mv	a2, s3
 	li	a5, 0
-	call	aes_small.aes_narrow.blocks.process_few.1
+	call	aes_small.aes_narrow.blocks.process_filled_up.1
 	bne	s0, s6, .Laes_small_BB24_2
 # %bb.6:                                #   in Loop: Header=BB24_3 Depth=1
 	sltu	a1, s1, s7
@@ -3120,10 +3120,10 @@ aes_small.aes_narrow.blocks.process_in_batches.1: # @aes_small.aes_narrow.blocks
 .Laes_small_func_end24:
 	.size	aes_small.aes_narrow.blocks.process_in_batches.1, .Laes_small_func_end24-aes_small.aes_narrow.blocks.process_in_batches.1
                                         # -- End function
-	.section	.text.aes_small.aes_narrow.blocks.process_few.1,"ax",@progbits
-	.p2align	1                               # -- Begin function aes_narrow::blocks::process_few::<#1a21aa7f601e7603>
-	.type	aes_small.aes_narrow.blocks.process_few.1,@function
-aes_small.aes_narrow.blocks.process_few.1: # @aes_small.aes_narrow.blocks.process_few.1
+	.section	.text.aes_small.aes_narrow.blocks.process_filled_up.1,"ax",@progbits
+	.p2align	1                               # -- Begin function aes_narrow::blocks::process_filled_up::<#1a21aa7f601e7603>
+	.type	aes_small.aes_narrow.blocks.process_filled_up.1,@function
+aes_small.aes_narrow.blocks.process_filled_up.1: # @aes_small.aes_narrow.blocks.process_filled_up.1
 # %bb.0:                                # %start
 	addi	sp, sp, -208
 	sw	ra, 204(sp)                     # 4-byte Folded Spill
@@ -3261,7 +3261,7 @@ aes_small.aes_narrow.blocks.process_few.1: # @aes_small.aes_narrow.blocks.proces
 	addi	a0, sp, 124
 	li	a2, 16
 	call	memcpy
-.Laes_small_BB25_3:                               # %"aes_narrow::blocks::batch_of_few::<#7d3b633001169d8c>.exit"
+.Laes_small_BB25_3:                               # %"aes_narrow::blocks::filled_up::<#7d3b633001169d8c>.exit"
 	lw	a6, 108(sp)
 	lw	a1, 112(sp)
 	lw	a2, 116(sp)
@@ -3382,7 +3382,7 @@ aes_small.aes_narrow.blocks.process_few.1: # @aes_small.aes_narrow.blocks.proces
 	addi	a0, s0, 16
 	li	a2, 16
 	call	memcpy
-.Laes_small_BB25_6:                               # %"aes_narrow::blocks::put_few::<#7d3b633001169d8c>.exit"
+.Laes_small_BB25_6:                               # %"aes_narrow::blocks::put_first::<#7d3b633001169d8c>.exit"
 	lw	ra, 204(sp)                     # 4-byte Folded Reload
 	lw	s0, 200(sp)                     # 4-byte Folded Reload
 	lw	s1, 196(sp)                     # 4-byte Folded Reload
@@ -3395,7 +3395,7 @@ aes_small.aes_narrow.blocks.process_few.1: # @aes_small.aes_narrow.blocks.proces
 	addi	sp, sp, 208
 	ret
 .Laes_small_func_end25:
-	.size	aes_small.aes_narrow.blocks.process_few.1, .Laes_small_func_end25-aes_small.aes_narrow.blocks.process_few.1
+	.size	aes_small.aes_narrow.blocks.process_filled_up.1, .Laes_small_func_end25-aes_small.aes_narrow.blocks.process_filled_up.1
                                         # -- End function
 	.section	.text.aes_small.aes_narrow.blocks.process_state.1,"ax",@progbits
 	.p2align	1                               # -- Begin function aes_narrow::blocks::process_state::<#1a21aa7f601e7603>
@@ -5467,7 +5467,7 @@ aes_small.aes_ctr.add_in_batches.add_batch: # @aes_small.aes_ctr.add_in_batches.
 	addi	a3, sp, 8
 	li	a4, 2
 	li	a5, 0
-	call	aes_small.aes_narrow.blocks.process_few.1
+	call	aes_small.aes_narrow.blocks.process_filled_up.1
 	addi	a0, sp, 8
 	li	a4, 32
 	li	a1, 0
@@ -5555,7 +5555,7 @@ aes_small.aes_ctr.keystream.fill_by_backend: # @aes_small.aes_ctr.keystream.fill
 	lw	s2, 16(sp)                      # 4-byte Folded Reload
 	lw	s3, 12(sp)                      # 4-byte Folded Reload
 	addi	sp, sp, 32
-	tail	aes_small.aes_narrow.blocks.process_few.1
+	tail	aes_small.aes_narrow.blocks.process_filled_up.1
 .Laes_small_func_end38:
 	.size	aes_small.aes_ctr.keystream.fill_by_backend, .Laes_small_func_end38-aes_small.aes_ctr.keystream.fill_by_backend
                                         # -- End function
@@ -7319,7 +7319,7 @@ aes_small.aes_narrow.borrowed_words.call_to_decrypt: # @aes_small.aes_narrow.bor
 	mv	a1, s3
 	mv	a2, s2
 	li	a5, 0
-	call	aes_small.aes_narrow.blocks.process_few.2
+	call	aes_small.aes_narrow.blocks.process_filled_up.2
 	sltu	a0, s5, s1
 	sub	a1, s5, s1
 	add	a0, a0, s0
@@ -7349,7 +7349,7 @@ aes_small.aes_narrow.borrowed_words.call_to_decrypt: # @aes_small.aes_narrow.bor
 	mv	a1, s3
 	mv	a2, s2
 	li	a5, 0
-	call	aes_small.aes_narrow.blocks.process_few.2
+	call	aes_small.aes_narrow.blocks.process_filled_up.2
 	addi	s1, s1, 1
 	seqz	a0, s1
 	add	s0, s0, a0
@@ -7514,10 +7514,10 @@ aes_small.aes_narrow.borrowed_words.call_to_decrypt: # @aes_small.aes_narrow.bor
 .Laes_small_func_end47:
 	.size	aes_small.aes_narrow.borrowed_words.call_to_decrypt, .Laes_small_func_end47-aes_small.aes_narrow.borrowed_words.call_to_decrypt
                                         # -- End function
-	.section	.text.aes_small.aes_narrow.blocks.process_few.2,"ax",@progbits
-	.p2align	1                               # -- Begin function aes_narrow::blocks::process_few::<#a3dcb71d05bd149b>
-	.type	aes_small.aes_narrow.blocks.process_few.2,@function
-aes_small.aes_narrow.blocks.process_few.2: # @aes_small.aes_narrow.blocks.process_few.2
+	.section	.text.aes_small.aes_narrow.blocks.process_filled_up.2,"ax",@progbits
+	.p2align	1                               # -- Begin function aes_narrow::blocks::process_filled_up::<#a3dcb71d05bd149b>
+	.type	aes_small.aes_narrow.blocks.process_filled_up.2,@function
+aes_small.aes_narrow.blocks.process_filled_up.2: # @aes_small.aes_narrow.blocks.process_filled_up.2
 # %bb.0:                                # %start
 	addi	sp, sp, -208
 	sw	ra, 204(sp)                     # 4-byte Folded Spill
@@ -7655,7 +7655,7 @@ aes_small.aes_narrow.blocks.process_few.2: # @aes_small.aes_narrow.blocks.proces
 	addi	a0, sp, 124
 	li	a2, 16
 	call	memcpy
-.Laes_small_BB48_3:                               # %"aes_narrow::blocks::batch_of_few::<#7d3b633001169d8c>.exit"
+.Laes_small_BB48_3:                               # %"aes_narrow::blocks::filled_up::<#7d3b633001169d8c>.exit"
 	lw	a6, 108(sp)
 	lw	a1, 112(sp)
 	lw	a2, 116(sp)
@@ -7776,7 +7776,7 @@ aes_small.aes_narrow.blocks.process_few.2: # @aes_small.aes_narrow.blocks.proces
 	addi	a0, s0, 16
 	li	a2, 16
 	call	memcpy
-.Laes_small_BB48_6:                               # %"aes_narrow::blocks::put_few::<#7d3b633001169d8c>.exit"
+.Laes_small_BB48_6:                               # %"aes_narrow::blocks::put_first::<#7d3b633001169d8c>.exit"
 	lw	ra, 204(sp)                     # 4-byte Folded Reload
 	lw	s0, 200(sp)                     # 4-byte Folded Reload
 	lw	s1, 196(sp)                     # 4-byte Folded Reload
@@ -7789,7 +7789,7 @@ aes_small.aes_narrow.blocks.process_few.2: # @aes_small.aes_narrow.blocks.proces
 	addi	sp, sp, 208
 	ret
 .Laes_small_func_end48:
-	.size	aes_small.aes_narrow.blocks.process_few.2, .Laes_small_func_end48-aes_small.aes_narrow.blocks.process_few.2
+	.size	aes_small.aes_narrow.blocks.process_filled_up.2, .Laes_small_func_end48-aes_small.aes_narrow.blocks.process_filled_up.2
                                         # -- End function
 	.section	.text.aes_small.aes_narrow.blocks.process_state.2,"ax",@progbits
 	.p2align	1                               # -- Begin function aes_narrow::blocks::process_state::<#a3dcb71d05bd149b>
@@ -9459,7 +9459,7 @@ aes_small.aes_narrow.blocks.process_in_batches.2: # @aes_small.aes_narrow.blocks
 	mv	a1, s4
 	mv	a2, s3
 	li	a5, 0
-	call	aes_small.aes_narrow.blocks.process_few.2
+	call	aes_small.aes_narrow.blocks.process_filled_up.2
 	bne	s0, s6, .Laes_small_BB55_2
 # %bb.6:                                #   in Loop: Header=BB55_3 Depth=1
 	sltu	a1, s1, s7
@@ -15325,5 +15325,5 @@ aes_small.fotsgure_aes_add_keystream_with:        # @aes_small.fotsgure_aes_add_
 	.long	9, 122, 1
 	.asciz	"Fotsgure"
 	.p2align	2, 0x0
-	.asciz	"fotsgure_aes 0.4.0, riscv32/aes_small.s, sources SHA-256 46921789358eaca23fa4ae4eea30ab0e26ba1bdf6ccb1d0247d98ca9f1c6b73d"
+	.asciz	"fotsgure_aes 0.4.0, riscv32/aes_small.s, sources SHA-256 568705d49fc313d51a3118f972883289c0abab049ad136132806690e516afe49"
 	.p2align	2, 0x0

@@ -3835,7 +3835,7 @@ gcm.aes_narrow.blocks.process_in_batches: # @gcm.aes_narrow.blocks.process_in_ba
 	mv	a1, s4
 	mv	a2, s3
 	li	a5, 0
-	call	gcm.aes_narrow.blocks.process_few
+	call	gcm.aes_narrow.blocks.process_filled_up
 	bne	s0, s6, .Lgcm_BB13_1
 # %bb.5:                                #   in Loop: Header=BB13_2 Depth=1
 	sltu	a1, s1, s7
@@ -3856,10 +3856,10 @@ gcm.aes_narrow.blocks.process_in_batches: # @gcm.aes_narrow.blocks.process_in_ba
 .Lgcm_func_end13:
 	.size	gcm.aes_narrow.blocks.process_in_batches, .Lgcm_func_end13-gcm.aes_narrow.blocks.process_in_batches
                                         # -- End function
-	.section	.text.gcm.aes_narrow.blocks.process_few,"ax",@progbits
-	.p2align	1                               # -- Begin function aes_narrow::blocks::process_few::<#f6c900d3ac1e47b9>
-	.type	gcm.aes_narrow.blocks.process_few,@function
-gcm.aes_narrow.blocks.process_few: # @gcm.aes_narrow.blocks.process_few
+	.section	.text.gcm.aes_narrow.blocks.process_filled_up,"ax",@progbits
+	.p2align	1                               # -- Begin function aes_narrow::blocks::process_filled_up::<#f6c900d3ac1e47b9>
+	.type	gcm.aes_narrow.blocks.process_filled_up,@function
+gcm.aes_narrow.blocks.process_filled_up: # @gcm.aes_narrow.blocks.process_filled_up
 # %bb.0:                                # %start
 	addi	sp, sp, -160
 	sw	ra, 156(sp)                     # 4-byte Folded Spill
@@ -3998,7 +3998,7 @@ gcm.aes_narrow.blocks.process_few: # @gcm.aes_narrow.blocks.process_few
 	addi	a0, sp, 92
 	li	a2, 16
 	call	memcpy
-.Lgcm_BB14_3:                               # %"aes_narrow::blocks::batch_of_few::<#ee324ebdabaa1892>.exit"
+.Lgcm_BB14_3:                               # %"aes_narrow::blocks::filled_up::<#ee324ebdabaa1892>.exit"
 	lw	a5, 76(sp)
 	lw	t1, 80(sp)
 	lw	a6, 84(sp)
@@ -4247,7 +4247,7 @@ gcm.aes_narrow.blocks.process_few: # @gcm.aes_narrow.blocks.process_few
 	addi	a0, s10, 16
 	li	a2, 16
 	call	memcpy
-.Lgcm_BB14_6:                               # %"aes_narrow::blocks::put_few::<#ee324ebdabaa1892>.exit"
+.Lgcm_BB14_6:                               # %"aes_narrow::blocks::put_first::<#ee324ebdabaa1892>.exit"
 	lw	ra, 156(sp)                     # 4-byte Folded Reload
 	lw	s0, 152(sp)                     # 4-byte Folded Reload
 	lw	s1, 148(sp)                     # 4-byte Folded Reload
@@ -4264,7 +4264,7 @@ gcm.aes_narrow.blocks.process_few: # @gcm.aes_narrow.blocks.process_few
 	addi	sp, sp, 160
 	ret
 .Lgcm_func_end14:
-	.size	gcm.aes_narrow.blocks.process_few, .Lgcm_func_end14-gcm.aes_narrow.blocks.process_few
+	.size	gcm.aes_narrow.blocks.process_filled_up, .Lgcm_func_end14-gcm.aes_narrow.blocks.process_filled_up
                                         # -- End function
 	.section	.text.gcm.aes_narrow.blocks.process_state,"ax",@progbits
 	.p2align	1                               # -- Begin function aes_narrow::blocks::process_state::<#f6c900d3ac1e47b9>
@@ -8105,7 +8105,7 @@ gcm.aes_narrow.borrowed_words.call_to_encrypt.1: # @gcm.aes_narrow.borrowed_word
 	mv	a1, s8
 	mv	a2, s7
 	li	a5, 0
-	call	gcm.aes_narrow.blocks.process_few
+	call	gcm.aes_narrow.blocks.process_filled_up
 	lbu	t1, 12(s5)
 	lbu	a0, 13(s5)
 	sw	a0, 92(sp)                      # 4-byte Folded Spill
@@ -8538,7 +8538,7 @@ gcm.aes_ctr.add_in_batches.add_next.1: # @gcm.aes_ctr.add_in_batches.add_next.1
 	li	a4, 2
 .Lgcm_BB24_7:                               # %"aes_ctr::keystream::fill_by_backend::<#8f445e75de4b0592>.exit"
 	li	a5, 0
-	call	gcm.aes_narrow.blocks.process_few
+	call	gcm.aes_narrow.blocks.process_filled_up
 	add	s4, s5, s9
 	lw	s0, 24(sp)                      # 4-byte Folded Reload
 	lw	a1, 20(sp)                      # 4-byte Folded Reload
@@ -10399,7 +10399,7 @@ gcm.aes_narrow.borrowed_words.call_to_encrypt.2: # @gcm.aes_narrow.borrowed_word
 	mv	a1, s7
 	mv	a2, s6
 	li	a5, 0
-	call	gcm.aes_narrow.blocks.process_few
+	call	gcm.aes_narrow.blocks.process_filled_up
 	lbu	a0, 12(s5)
 	sw	a0, 84(sp)                      # 4-byte Folded Spill
 	lbu	a0, 13(s5)
@@ -10770,7 +10770,7 @@ gcm.aes_ctr.add_in_batches.add_next.2: # @gcm.aes_ctr.add_in_batches.add_next.2
 	li	a4, 2
 .Lgcm_BB36_7:                               # %"aes_ctr::keystream::fill_by_backend::<#9f5b6b63b811461e>.exit"
 	li	a5, 0
-	call	gcm.aes_narrow.blocks.process_few
+	call	gcm.aes_narrow.blocks.process_filled_up
 	add	s4, s3, s9
 	lw	s0, 24(sp)                      # 4-byte Folded Reload
 	lw	a1, 20(sp)                      # 4-byte Folded Reload
@@ -15099,5 +15099,5 @@ gcm.fotsgure_gcm_siv_wipe:                  # @gcm.fotsgure_gcm_siv_wipe
 	.long	9, 116, 1
 	.asciz	"Fotsgure"
 	.p2align	2, 0x0
-	.asciz	"fotsgure_gcm 0.4.0, riscv32/gcm.s, sources SHA-256 c5580fd5c08fd1ce251de00bc68bbabc41e05f02470d0c531f44ab6d5c423d70"
+	.asciz	"fotsgure_gcm 0.4.0, riscv32/gcm.s, sources SHA-256 7ffbfed4fdc57d310dc7b2575290ae8baa1c67d9e3c172c81948d4bb9f7ef94b"
 	.p2align	2, 0x0

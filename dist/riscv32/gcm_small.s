@@ -3925,7 +3925,7 @@ gcm_small.aes_narrow.blocks.process_in_batches: # @gcm_small.aes_narrow.blocks.p
 	mv	a1, s4
 	mv	a2, s3
 	li	a5, 0
-	call	gcm_small.aes_narrow.blocks.process_few
+	call	gcm_small.aes_narrow.blocks.process_filled_up
 	bne	s0, s6, .Lgcm_small_BB32_1
 # %bb.5:                                #   in Loop: Header=BB32_2 Depth=1
 	sltu	a1, s1, s7
@@ -3946,10 +3946,10 @@ gcm_small.aes_narrow.blocks.process_in_batches: # @gcm_small.aes_narrow.blocks.p
 .Lgcm_small_func_end32:
 	.size	gcm_small.aes_narrow.blocks.process_in_batches, .Lgcm_small_func_end32-gcm_small.aes_narrow.blocks.process_in_batches
                                         # -- End function
-	.section	.text.gcm_small.aes_narrow.blocks.process_few,"ax",@progbits
-	.p2align	1                               # -- Begin function aes_narrow::blocks::process_few::<#f6c900d3ac1e47b9>
-	.type	gcm_small.aes_narrow.blocks.process_few,@function
-gcm_small.aes_narrow.blocks.process_few: # @gcm_small.aes_narrow.blocks.process_few
+	.section	.text.gcm_small.aes_narrow.blocks.process_filled_up,"ax",@progbits
+	.p2align	1                               # -- Begin function aes_narrow::blocks::process_filled_up::<#f6c900d3ac1e47b9>
+	.type	gcm_small.aes_narrow.blocks.process_filled_up,@function
+gcm_small.aes_narrow.blocks.process_filled_up: # @gcm_small.aes_narrow.blocks.process_filled_up
 # %bb.0:                                # %start
 	addi	sp, sp, -208
 	sw	ra, 204(sp)                     # 4-byte Folded Spill
@@ -4087,7 +4087,7 @@ gcm_small.aes_narrow.blocks.process_few: # @gcm_small.aes_narrow.blocks.process_
 	addi	a0, sp, 124
 	li	a2, 16
 	call	memcpy
-.Lgcm_small_BB33_3:                               # %"aes_narrow::blocks::batch_of_few::<#ee324ebdabaa1892>.exit"
+.Lgcm_small_BB33_3:                               # %"aes_narrow::blocks::filled_up::<#ee324ebdabaa1892>.exit"
 	lw	a6, 108(sp)
 	lw	a1, 112(sp)
 	lw	a2, 116(sp)
@@ -4208,7 +4208,7 @@ gcm_small.aes_narrow.blocks.process_few: # @gcm_small.aes_narrow.blocks.process_
 	addi	a0, s0, 16
 	li	a2, 16
 	call	memcpy
-.Lgcm_small_BB33_6:                               # %"aes_narrow::blocks::put_few::<#ee324ebdabaa1892>.exit"
+.Lgcm_small_BB33_6:                               # %"aes_narrow::blocks::put_first::<#ee324ebdabaa1892>.exit"
 	lw	ra, 204(sp)                     # 4-byte Folded Reload
 	lw	s0, 200(sp)                     # 4-byte Folded Reload
 	lw	s1, 196(sp)                     # 4-byte Folded Reload
@@ -4221,7 +4221,7 @@ gcm_small.aes_narrow.blocks.process_few: # @gcm_small.aes_narrow.blocks.process_
 	addi	sp, sp, 208
 	ret
 .Lgcm_small_func_end33:
-	.size	gcm_small.aes_narrow.blocks.process_few, .Lgcm_small_func_end33-gcm_small.aes_narrow.blocks.process_few
+	.size	gcm_small.aes_narrow.blocks.process_filled_up, .Lgcm_small_func_end33-gcm_small.aes_narrow.blocks.process_filled_up
                                         # -- End function
 	.section	.text.gcm_small.aes_narrow.blocks.process_state,"ax",@progbits
 	.p2align	1                               # -- Begin function aes_narrow::blocks::process_state::<#f6c900d3ac1e47b9>
@@ -7502,7 +7502,7 @@ gcm_small.aes_ctr.add_in_batches.add_batch.1: # @gcm_small.aes_ctr.add_in_batche
 	addi	a3, sp, 8
 	li	a4, 2
 	li	a5, 0
-	call	gcm_small.aes_narrow.blocks.process_few
+	call	gcm_small.aes_narrow.blocks.process_filled_up
 	addi	a0, sp, 8
 	li	a4, 32
 	li	a1, 0
@@ -7688,7 +7688,7 @@ gcm_small.aes_ctr.keystream.fill_by_backend.1: # @gcm_small.aes_ctr.keystream.fi
 	lw	s8, 12(sp)                      # 4-byte Folded Reload
 	lw	s9, 8(sp)                       # 4-byte Folded Reload
 	addi	sp, sp, 48
-	tail	gcm_small.aes_narrow.blocks.process_few
+	tail	gcm_small.aes_narrow.blocks.process_filled_up
 .Lgcm_small_func_end55:
 	.size	gcm_small.aes_ctr.keystream.fill_by_backend.1, .Lgcm_small_func_end55-gcm_small.aes_ctr.keystream.fill_by_backend.1
                                         # -- End function
@@ -9426,7 +9426,7 @@ gcm_small.aes_ctr.add_in_batches.add_batch.2: # @gcm_small.aes_ctr.add_in_batche
 	addi	a3, sp, 4
 	li	a4, 2
 	li	a5, 0
-	call	gcm_small.aes_narrow.blocks.process_few
+	call	gcm_small.aes_narrow.blocks.process_filled_up
 	addi	a0, sp, 4
 	li	a4, 32
 	li	a1, 0
@@ -9611,7 +9611,7 @@ gcm_small.aes_ctr.keystream.fill_by_backend.2: # @gcm_small.aes_ctr.keystream.fi
 	lw	s4, 40(sp)                      # 4-byte Folded Reload
 	lw	s5, 36(sp)                      # 4-byte Folded Reload
 	addi	sp, sp, 64
-	tail	gcm_small.aes_narrow.blocks.process_few
+	tail	gcm_small.aes_narrow.blocks.process_filled_up
 .Lgcm_small_func_end70:
 	.size	gcm_small.aes_ctr.keystream.fill_by_backend.2, .Lgcm_small_func_end70-gcm_small.aes_ctr.keystream.fill_by_backend.2
                                         # -- End function
@@ -13423,5 +13423,5 @@ gcm_small.fotsgure_gcm_siv_wipe:                  # @gcm_small.fotsgure_gcm_siv_
 	.long	9, 122, 1
 	.asciz	"Fotsgure"
 	.p2align	2, 0x0
-	.asciz	"fotsgure_gcm 0.4.0, riscv32/gcm_small.s, sources SHA-256 c5580fd5c08fd1ce251de00bc68bbabc41e05f02470d0c531f44ab6d5c423d70"
+	.asciz	"fotsgure_gcm 0.4.0, riscv32/gcm_small.s, sources SHA-256 7ffbfed4fdc57d310dc7b2575290ae8baa1c67d9e3c172c81948d4bb9f7ef94b"
 	.p2align	2, 0x0

@@ -3128,7 +3128,7 @@ aes_narrow.aes_narrow.blocks.process_in_batches.1: # @aes_narrow.aes_narrow.bloc
 	add	a2, s2, a0
 	mv	a0, s4
 	mv	a1, s3
-	call	aes_narrow.aes_narrow.blocks.process_few.1
+	call	aes_narrow.aes_narrow.blocks.process_filled_up.1
 	mv	a0, s1
 	bgeu	s1, s0, .Laes_narrow_BB3_5
 .Laes_narrow_BB3_3:                                # %join.5
@@ -3153,10 +3153,10 @@ aes_narrow.aes_narrow.blocks.process_in_batches.1: # @aes_narrow.aes_narrow.bloc
 .Laes_narrow_func_end3:
 	.size	aes_narrow.aes_narrow.blocks.process_in_batches.1, .Laes_narrow_func_end3-aes_narrow.aes_narrow.blocks.process_in_batches.1
                                         # -- End function
-	.section	.text.aes_narrow.aes_narrow.blocks.process_few.1,"ax",@progbits
-	.p2align	1                               # -- Begin function aes_narrow::blocks::process_few::<#fa0365327da542a1>
-	.type	aes_narrow.aes_narrow.blocks.process_few.1,@function
-aes_narrow.aes_narrow.blocks.process_few.1: # @aes_narrow.aes_narrow.blocks.process_few.1
+	.section	.text.aes_narrow.aes_narrow.blocks.process_filled_up.1,"ax",@progbits
+	.p2align	1                               # -- Begin function aes_narrow::blocks::process_filled_up::<#fa0365327da542a1>
+	.type	aes_narrow.aes_narrow.blocks.process_filled_up.1,@function
+aes_narrow.aes_narrow.blocks.process_filled_up.1: # @aes_narrow.aes_narrow.blocks.process_filled_up.1
 # %bb.0:                                # %start
 	addi	sp, sp, -528
 	sd	ra, 520(sp)                     # 8-byte Folded Spill
@@ -3286,7 +3286,7 @@ aes_narrow.aes_narrow.blocks.process_few.1: # @aes_narrow.aes_narrow.blocks.proc
 	addi	s1, s1, 16
 	addi	s0, s0, 16
 	bne	s1, s2, .Laes_narrow_BB4_2
-.Laes_narrow_BB4_3:                                # %"aes_narrow::blocks::batch_of_few::<#11fd18120a35d742>.exit"
+.Laes_narrow_BB4_3:                                # %"aes_narrow::blocks::filled_up::<#11fd18120a35d742>.exit"
 	sd	s3, 0(sp)                       # 8-byte Folded Spill
 	lbu	a0, 296(sp)
 	sd	a0, 128(sp)                     # 8-byte Folded Spill
@@ -3852,7 +3852,7 @@ aes_narrow.aes_narrow.blocks.process_few.1: # @aes_narrow.aes_narrow.blocks.proc
 	addi	s5, s5, 16
 	addi	s1, s1, 16
 	bne	s5, s0, .Laes_narrow_BB4_5
-.Laes_narrow_BB4_6:                                # %"aes_narrow::blocks::put_few::<#11fd18120a35d742>.exit"
+.Laes_narrow_BB4_6:                                # %"aes_narrow::blocks::put_first::<#11fd18120a35d742>.exit"
 	ld	ra, 520(sp)                     # 8-byte Folded Reload
 	ld	s0, 512(sp)                     # 8-byte Folded Reload
 	ld	s1, 504(sp)                     # 8-byte Folded Reload
@@ -3869,7 +3869,7 @@ aes_narrow.aes_narrow.blocks.process_few.1: # @aes_narrow.aes_narrow.blocks.proc
 	addi	sp, sp, 528
 	ret
 .Laes_narrow_func_end4:
-	.size	aes_narrow.aes_narrow.blocks.process_few.1, .Laes_narrow_func_end4-aes_narrow.aes_narrow.blocks.process_few.1
+	.size	aes_narrow.aes_narrow.blocks.process_filled_up.1, .Laes_narrow_func_end4-aes_narrow.aes_narrow.blocks.process_filled_up.1
                                         # -- End function
 	.section	.rodata.cst8,"aM",@progbits,8
 	.p2align	3, 0x0                          # -- Begin function aes_narrow::blocks::process_state::<#fa0365327da542a1>
@@ -6874,7 +6874,7 @@ aes_narrow.aes_narrow.borrowed_words.call_to_encrypt: # @aes_narrow.aes_narrow.b
 	li	a3, 4
 	ld	a0, 24(sp)                      # 8-byte Folded Reload
 	ld	a1, 32(sp)                      # 8-byte Folded Reload
-	call	aes_narrow.aes_narrow.blocks.process_few.1
+	call	aes_narrow.aes_narrow.blocks.process_filled_up.1
 	lbu	t6, 12(s0)
 	lbu	t5, 13(s0)
 	lbu	t4, 14(s0)
@@ -7467,7 +7467,7 @@ aes_narrow.aes_ctr.add_in_batches.add_next: # @aes_narrow.aes_ctr.add_in_batches
 	li	a3, 4
 .Laes_narrow_BB8_5:                                # %"aes_ctr::keystream::fill_by_backend::<#8dcac0e3988224e6>.exit"
 	mv	a0, s8
-	call	aes_narrow.aes_narrow.blocks.process_few.1
+	call	aes_narrow.aes_narrow.blocks.process_filled_up.1
 	ld	s11, 40(sp)                     # 8-byte Folded Reload
 	ld	s2, 24(sp)                      # 8-byte Folded Reload
 	add	s2, s2, s11
@@ -10085,7 +10085,7 @@ aes_narrow.aes_narrow.borrowed_words.call_to_decrypt: # @aes_narrow.aes_narrow.b
 	mv	a0, s3
 	mv	a1, s2
 	mv	a2, s8
-	call	aes_narrow.aes_narrow.blocks.process_few.2
+	call	aes_narrow.aes_narrow.blocks.process_filled_up.2
 	addi	s0, s0, -4
 	li	a0, 3
 	addi	s8, s8, 64
@@ -10107,7 +10107,7 @@ aes_narrow.aes_narrow.borrowed_words.call_to_decrypt: # @aes_narrow.aes_narrow.b
 	mv	a0, s3
 	mv	a1, s2
 	mv	a2, s1
-	call	aes_narrow.aes_narrow.blocks.process_few.2
+	call	aes_narrow.aes_narrow.blocks.process_filled_up.2
 	addi	s0, s0, -1
 	addi	s1, s1, 16
 	bnez	s0, .Laes_narrow_BB18_9
@@ -10245,10 +10245,10 @@ aes_narrow.aes_narrow.borrowed_words.call_to_decrypt: # @aes_narrow.aes_narrow.b
 .Laes_narrow_func_end18:
 	.size	aes_narrow.aes_narrow.borrowed_words.call_to_decrypt, .Laes_narrow_func_end18-aes_narrow.aes_narrow.borrowed_words.call_to_decrypt
                                         # -- End function
-	.section	.text.aes_narrow.aes_narrow.blocks.process_few.2,"ax",@progbits
-	.p2align	1                               # -- Begin function aes_narrow::blocks::process_few::<#e30bc42c140a48e9>
-	.type	aes_narrow.aes_narrow.blocks.process_few.2,@function
-aes_narrow.aes_narrow.blocks.process_few.2: # @aes_narrow.aes_narrow.blocks.process_few.2
+	.section	.text.aes_narrow.aes_narrow.blocks.process_filled_up.2,"ax",@progbits
+	.p2align	1                               # -- Begin function aes_narrow::blocks::process_filled_up::<#e30bc42c140a48e9>
+	.type	aes_narrow.aes_narrow.blocks.process_filled_up.2,@function
+aes_narrow.aes_narrow.blocks.process_filled_up.2: # @aes_narrow.aes_narrow.blocks.process_filled_up.2
 # %bb.0:                                # %start
 	addi	sp, sp, -528
 	sd	ra, 520(sp)                     # 8-byte Folded Spill
@@ -10378,7 +10378,7 @@ aes_narrow.aes_narrow.blocks.process_few.2: # @aes_narrow.aes_narrow.blocks.proc
 	addi	s1, s1, 16
 	addi	s0, s0, 16
 	bne	s1, s2, .Laes_narrow_BB19_2
-.Laes_narrow_BB19_3:                               # %"aes_narrow::blocks::batch_of_few::<#11fd18120a35d742>.exit"
+.Laes_narrow_BB19_3:                               # %"aes_narrow::blocks::filled_up::<#11fd18120a35d742>.exit"
 	sd	s3, 0(sp)                       # 8-byte Folded Spill
 	lbu	a0, 296(sp)
 	sd	a0, 128(sp)                     # 8-byte Folded Spill
@@ -10944,7 +10944,7 @@ aes_narrow.aes_narrow.blocks.process_few.2: # @aes_narrow.aes_narrow.blocks.proc
 	addi	s5, s5, 16
 	addi	s1, s1, 16
 	bne	s5, s0, .Laes_narrow_BB19_5
-.Laes_narrow_BB19_6:                               # %"aes_narrow::blocks::put_few::<#11fd18120a35d742>.exit"
+.Laes_narrow_BB19_6:                               # %"aes_narrow::blocks::put_first::<#11fd18120a35d742>.exit"
 	ld	ra, 520(sp)                     # 8-byte Folded Reload
 	ld	s0, 512(sp)                     # 8-byte Folded Reload
 	ld	s1, 504(sp)                     # 8-byte Folded Reload
@@ -10961,7 +10961,7 @@ aes_narrow.aes_narrow.blocks.process_few.2: # @aes_narrow.aes_narrow.blocks.proc
 	addi	sp, sp, 528
 	ret
 .Laes_narrow_func_end19:
-	.size	aes_narrow.aes_narrow.blocks.process_few.2, .Laes_narrow_func_end19-aes_narrow.aes_narrow.blocks.process_few.2
+	.size	aes_narrow.aes_narrow.blocks.process_filled_up.2, .Laes_narrow_func_end19-aes_narrow.aes_narrow.blocks.process_filled_up.2
                                         # -- End function
 	.section	.rodata.cst8,"aM",@progbits,8
 	.p2align	3, 0x0                          # -- Begin function aes_narrow::blocks::process_state::<#e30bc42c140a48e9>
@@ -13927,7 +13927,7 @@ aes_narrow.aes_narrow.blocks.process_in_batches.2: # @aes_narrow.aes_narrow.bloc
 	add	a2, s2, a0
 	mv	a0, s4
 	mv	a1, s3
-	call	aes_narrow.aes_narrow.blocks.process_few.2
+	call	aes_narrow.aes_narrow.blocks.process_filled_up.2
 	mv	a0, s1
 	bgeu	s1, s0, .Laes_narrow_BB21_5
 .Laes_narrow_BB21_3:                               # %join.5
@@ -22558,5 +22558,5 @@ aes_narrow.fotsgure_aes_ccm_seal:                  # @aes_narrow.fotsgure_aes_cc
 	.long	9, 123, 1
 	.asciz	"Fotsgure"
 	.p2align	2, 0x0
-	.asciz	"fotsgure_aes 0.4.0, riscv64/aes_narrow.s, sources SHA-256 46921789358eaca23fa4ae4eea30ab0e26ba1bdf6ccb1d0247d98ca9f1c6b73d"
+	.asciz	"fotsgure_aes 0.4.0, riscv64/aes_narrow.s, sources SHA-256 568705d49fc313d51a3118f972883289c0abab049ad136132806690e516afe49"
 	.p2align	2, 0x0

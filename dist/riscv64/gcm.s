@@ -1262,7 +1262,7 @@ gcm.aes_permute.lane_keys.expand_lanes: # @gcm.aes_permute.lane_keys.expand_lane
 	.size	gcm.aes_permute.lane_keys.expand_lanes, .Lgcm_func_end4-gcm.aes_permute.lane_keys.expand_lanes
                                         # -- End function
 	.section	.text.gcm.gcm.mode.BorrowedGcm.put_pre_counter,"ax",@progbits
-	.p2align	1                               # -- Begin function gcm::mode::BorrowedGcm::put_pre_counter::<#8bfc6ace315c867e>
+	.p2align	1                               # -- Begin function gcm::mode::BorrowedGcm::put_pre_counter::<#e698720ccb2969c4>
 	.type	gcm.gcm.mode.BorrowedGcm.put_pre_counter,@function
 gcm.gcm.mode.BorrowedGcm.put_pre_counter: # @gcm.gcm.mode.BorrowedGcm.put_pre_counter
 # %bb.0:                                # %start
@@ -1334,7 +1334,7 @@ gcm.gcm.mode.BorrowedGcm.put_pre_counter: # @gcm.gcm.mode.BorrowedGcm.put_pre_co
 	li	a1, 0
 	li	a2, 0
 	mv	a4, s1
-	call	gcm.gcm.hash_room.RoomHashRoom.hash_on
+	call	gcm.gcm.hash_room.MultiplesRoomHashRoom.hash_on
 	mv	a6, a1
 	ld	a1, 32(s0)
 	srli	s4, s1, 53
@@ -1495,10 +1495,10 @@ gcm.gcm.mode.BorrowedGcm.put_pre_counter: # @gcm.gcm.mode.BorrowedGcm.put_pre_co
 .Lgcm_func_end5:
 	.size	gcm.gcm.mode.BorrowedGcm.put_pre_counter, .Lgcm_func_end5-gcm.gcm.mode.BorrowedGcm.put_pre_counter
                                         # -- End function
-	.section	.text.gcm.gcm.hash_room.RoomHashRoom.hash_on,"ax",@progbits
-	.p2align	1                               # -- Begin function gcm::hash_room::RoomHashRoom::hash_on
-	.type	gcm.gcm.hash_room.RoomHashRoom.hash_on,@function
-gcm.gcm.hash_room.RoomHashRoom.hash_on: # @gcm.gcm.hash_room.RoomHashRoom.hash_on
+	.section	.text.gcm.gcm.hash_room.MultiplesRoomHashRoom.hash_on,"ax",@progbits
+	.p2align	1                               # -- Begin function gcm::hash_room::MultiplesRoomHashRoom::hash_on
+	.type	gcm.gcm.hash_room.MultiplesRoomHashRoom.hash_on,@function
+gcm.gcm.hash_room.MultiplesRoomHashRoom.hash_on: # @gcm.gcm.hash_room.MultiplesRoomHashRoom.hash_on
 # %bb.0:                                # %start
 	addi	sp, sp, -144
 	sd	ra, 136(sp)                     # 8-byte Folded Spill
@@ -1728,7 +1728,7 @@ gcm.gcm.hash_room.RoomHashRoom.hash_on: # @gcm.gcm.hash_room.RoomHashRoom.hash_o
 	addi	sp, sp, 144
 	ret
 .Lgcm_func_end6:
-	.size	gcm.gcm.hash_room.RoomHashRoom.hash_on, .Lgcm_func_end6-gcm.gcm.hash_room.RoomHashRoom.hash_on
+	.size	gcm.gcm.hash_room.MultiplesRoomHashRoom.hash_on, .Lgcm_func_end6-gcm.gcm.hash_room.MultiplesRoomHashRoom.hash_on
                                         # -- End function
 	.section	.text.gcm.gcm.multiples.Multiples.three_products,"ax",@progbits
 	.p2align	1                               # -- Begin function gcm::multiples::Multiples::three_products
@@ -2454,7 +2454,7 @@ gcm.aes_cipher.zeroize.stack.wipe_stack.512: # @gcm.aes_cipher.zeroize.stack.wip
 	.size	gcm.aes_cipher.zeroize.stack.wipe_stack.512, .Lgcm_func_end10-gcm.aes_cipher.zeroize.stack.wipe_stack.512
                                         # -- End function
 	.section	.text.gcm.gcm.mode.BorrowedGcm.put_tag_so_far,"ax",@progbits
-	.p2align	1                               # -- Begin function gcm::mode::BorrowedGcm::put_tag_so_far::<#8bfc6ace315c867e>
+	.p2align	1                               # -- Begin function gcm::mode::BorrowedGcm::put_tag_so_far::<#e698720ccb2969c4>
 	.type	gcm.gcm.mode.BorrowedGcm.put_tag_so_far,@function
 gcm.gcm.mode.BorrowedGcm.put_tag_so_far: # @gcm.gcm.mode.BorrowedGcm.put_tag_so_far
 # %bb.0:                                # %start
@@ -3060,7 +3060,7 @@ gcm.gcm.tags.put_mask: # @gcm.gcm.tags.put_mask
 	.size	gcm.gcm.tags.put_mask, .Lgcm_func_end12-gcm.gcm.tags.put_mask
                                         # -- End function
 	.section	.text.gcm.gcm.mode.BorrowedGcm.hash_what_came,"ax",@progbits
-	.p2align	1                               # -- Begin function gcm::mode::BorrowedGcm::hash_what_came::<#8bfc6ace315c867e>
+	.p2align	1                               # -- Begin function gcm::mode::BorrowedGcm::hash_what_came::<#e698720ccb2969c4>
 	.type	gcm.gcm.mode.BorrowedGcm.hash_what_came,@function
 gcm.gcm.mode.BorrowedGcm.hash_what_came: # @gcm.gcm.mode.BorrowedGcm.hash_what_came
 # %bb.0:                                # %start
@@ -3122,12 +3122,12 @@ gcm.gcm.mode.BorrowedGcm.hash_what_came: # @gcm.gcm.mode.BorrowedGcm.hash_what_c
 	andi	a4, a5, 15
 	addi	a3, a1, 64
 	mv	a1, a6
-	tail	gcm.gcm.hash_room.RoomHashRoom.hash_on
+	tail	gcm.gcm.hash_room.MultiplesRoomHashRoom.hash_on
 .Lgcm_func_end13:
 	.size	gcm.gcm.mode.BorrowedGcm.hash_what_came, .Lgcm_func_end13-gcm.gcm.mode.BorrowedGcm.hash_what_came
                                         # -- End function
 	.section	.rodata.cst16,"aM",@progbits,16
-	.p2align	4, 0x0                          # -- Begin function gcm::mode::put_subkey::<#1ee4a1f63270783c>
+	.p2align	4, 0x0                          # -- Begin function gcm::mode::put_subkey::<#df66d58823e28773>
 .Lgcm_CPI14_0:
 	.byte	0                               # 0x0
 	.byte	1                               # 0x1
@@ -4255,7 +4255,7 @@ gcm.gcm.multiples.put_table:            # @gcm.gcm.multiples.put_table
 	.size	gcm.gcm.multiples.put_table, .Lgcm_func_end16-gcm.gcm.multiples.put_table
                                         # -- End function
 	.section	.text.gcm.gcm.mode.BorrowedGcm.compare,"ax",@progbits
-	.p2align	1                               # -- Begin function gcm::mode::BorrowedGcm::compare::<#8bfc6ace315c867e>
+	.p2align	1                               # -- Begin function gcm::mode::BorrowedGcm::compare::<#e698720ccb2969c4>
 	.type	gcm.gcm.mode.BorrowedGcm.compare,@function
 gcm.gcm.mode.BorrowedGcm.compare: # @gcm.gcm.mode.BorrowedGcm.compare
 # %bb.0:                                # %start
@@ -4326,7 +4326,7 @@ gcm.gcm.mode.BorrowedGcm.compare: # @gcm.gcm.mode.BorrowedGcm.compare
 	.size	gcm.gcm.mode.BorrowedGcm.compare, .Lgcm_func_end17-gcm.gcm.mode.BorrowedGcm.compare
                                         # -- End function
 	.section	.text.gcm.gcm.mode.BorrowedGcm.put_tag,"ax",@progbits
-	.p2align	1                               # -- Begin function gcm::mode::BorrowedGcm::put_tag::<#8bfc6ace315c867e>
+	.p2align	1                               # -- Begin function gcm::mode::BorrowedGcm::put_tag::<#e698720ccb2969c4>
 	.type	gcm.gcm.mode.BorrowedGcm.put_tag,@function
 gcm.gcm.mode.BorrowedGcm.put_tag: # @gcm.gcm.mode.BorrowedGcm.put_tag
 # %bb.0:                                # %start
@@ -4367,7 +4367,7 @@ gcm.gcm.mode.BorrowedGcm.put_tag: # @gcm.gcm.mode.BorrowedGcm.put_tag
 	li	a2, 0
 	mv	a3, s4
 	mv	a4, s1
-	call	gcm.gcm.hash_room.RoomHashRoom.hash_on
+	call	gcm.gcm.hash_room.MultiplesRoomHashRoom.hash_on
 	srli	a3, s1, 53
 	srli	t0, s1, 29
 	srli	a4, s5, 53
@@ -4473,7 +4473,7 @@ gcm.gcm.mode.BorrowedGcm.put_tag: # @gcm.gcm.mode.BorrowedGcm.put_tag
 # %bb.7:                                # %then.1.i.i.i
 	vsetivli	zero, 16, e8, m1, ta, ma
 	vxor.vv	v8, v12, v10
-.Lgcm_BB18_8:                               # %"gcm::tags::hash::<#de867e0411c14352>.exit"
+.Lgcm_BB18_8:                               # %"gcm::tags::hash::<#84904cd934dcda78>.exit"
 	mv	a1, s7
 	call	gcm.gcm.multiples.Multiples.block_product
 	j	.Lgcm_BB18_17
@@ -4549,7 +4549,7 @@ gcm.gcm.mode.BorrowedGcm.put_tag: # @gcm.gcm.mode.BorrowedGcm.put_tag
 	addi	a0, sp, 16
 	mv	a1, s7
 	call	gcm.gcm.multiples.Multiples.three_products
-.Lgcm_BB18_17:                              # %"gcm::tags::hash::<#de867e0411c14352>.exit"
+.Lgcm_BB18_17:                              # %"gcm::tags::hash::<#84904cd934dcda78>.exit"
 	ld	a1, 16(sp)
 	ld	a0, 24(sp)
 	lui	a6, 4080
@@ -14751,7 +14751,7 @@ gcm.aes_cipher.zeroize.stack.wipe_stack.2816: # @gcm.aes_cipher.zeroize.stack.wi
 	.size	gcm.aes_cipher.zeroize.stack.wipe_stack.2816, .Lgcm_func_end47-gcm.aes_cipher.zeroize.stack.wipe_stack.2816
                                         # -- End function
 	.section	.text.gcm.gcm_c.siv.open_in.2,"ax",@progbits
-	.p2align	1                               # -- Begin function gcm_c::siv::open_in::<#730c80b4023fbf8d>
+	.p2align	1                               # -- Begin function gcm_c::siv::open_in::<#6ee9233b1430bb0c>
 	.type	gcm.gcm_c.siv.open_in.2,@function
 gcm.gcm_c.siv.open_in.2: # @gcm.gcm_c.siv.open_in.2
 # %bb.0:                                # %start
@@ -14840,7 +14840,7 @@ gcm.gcm_c.siv.open_in.2: # @gcm.gcm_c.siv.open_in.2
 	.size	gcm.gcm_c.siv.open_in.2, .Lgcm_func_end48-gcm.gcm_c.siv.open_in.2
                                         # -- End function
 	.section	.text.gcm.gcm_c.siv.prepare.2,"ax",@progbits
-	.p2align	1                               # -- Begin function gcm_c::siv::prepare::<#730c80b4023fbf8d>
+	.p2align	1                               # -- Begin function gcm_c::siv::prepare::<#6ee9233b1430bb0c>
 	.type	gcm.gcm_c.siv.prepare.2,@function
 gcm.gcm_c.siv.prepare.2: # @gcm.gcm_c.siv.prepare.2
 # %bb.0:                                # %start
@@ -14987,7 +14987,7 @@ gcm.gcm_c.siv.prepare.2: # @gcm.gcm_c.siv.prepare.2
 	.size	gcm.gcm_c.siv.prepare.2, .Lgcm_func_end49-gcm.gcm_c.siv.prepare.2
                                         # -- End function
 	.section	.text.gcm.gcm_siv.message.open.2,"ax",@progbits
-	.p2align	1                               # -- Begin function gcm_siv::message::open::<#891d1eb781147f79>
+	.p2align	1                               # -- Begin function gcm_siv::message::open::<#7927255b4de34720>
 	.type	gcm.gcm_siv.message.open.2,@function
 gcm.gcm_siv.message.open.2: # @gcm.gcm_siv.message.open.2
 # %bb.0:                                # %start
@@ -15059,7 +15059,7 @@ gcm.gcm_siv.message.open.2: # @gcm.gcm_siv.message.open.2
 	.size	gcm.gcm_siv.message.open.2, .Lgcm_func_end50-gcm.gcm_siv.message.open.2
                                         # -- End function
 	.section	.rodata.cst16,"aM",@progbits,16
-	.p2align	4, 0x0                          # -- Begin function gcm_siv::message::put_tag::<#891d1eb781147f79>
+	.p2align	4, 0x0                          # -- Begin function gcm_siv::message::put_tag::<#7927255b4de34720>
 .Lgcm_CPI51_0:
 	.byte	0                               # 0x0
 	.byte	1                               # 0x1
@@ -15558,7 +15558,7 @@ gcm.gcm_siv.message.put_tag.2: # @gcm.gcm_siv.message.put_tag.2
 # %bb.24:                               # %then.1.i139.i
 	vsetivli	zero, 16, e8, m1, ta, ma
 	vxor.vv	v8, v11, v12
-.Lgcm_BB51_25:                              # %"gcm_siv::hash::RoomPolyvalRoom::hash.exit"
+.Lgcm_BB51_25:                              # %"gcm_siv::hash::MultiplesRoomPolyvalRoom::hash.exit"
 	mv	a1, s11
 	call	gcm.gcm.multiples.Multiples.block_product
 	j	.Lgcm_BB51_34
@@ -15658,7 +15658,7 @@ gcm.gcm_siv.message.put_tag.2: # @gcm.gcm_siv.message.put_tag.2
 	mv	a1, s11
 	vmv1r.v	v10, v12
 	call	gcm.gcm.multiples.Multiples.three_products
-.Lgcm_BB51_34:                              # %"gcm_siv::hash::RoomPolyvalRoom::hash.exit"
+.Lgcm_BB51_34:                              # %"gcm_siv::hash::MultiplesRoomPolyvalRoom::hash.exit"
 	ld	t6, 32(sp)
 	ld	s2, 40(sp)
 	lui	t1, 4080
@@ -16197,7 +16197,7 @@ gcm.gcm_siv.message.seal.1: # @gcm.gcm_siv.message.seal.1
 	.size	gcm.gcm_siv.message.seal.1, .Lgcm_func_end53-gcm.gcm_siv.message.seal.1
                                         # -- End function
 	.section	.text.gcm.gcm_c.siv.seal_in.2,"ax",@progbits
-	.p2align	1                               # -- Begin function gcm_c::siv::seal_in::<#730c80b4023fbf8d>
+	.p2align	1                               # -- Begin function gcm_c::siv::seal_in::<#6ee9233b1430bb0c>
 	.type	gcm.gcm_c.siv.seal_in.2,@function
 gcm.gcm_c.siv.seal_in.2: # @gcm.gcm_c.siv.seal_in.2
 # %bb.0:                                # %start
@@ -16288,7 +16288,7 @@ gcm.gcm_c.siv.seal_in.2: # @gcm.gcm_c.siv.seal_in.2
 	.size	gcm.gcm_c.siv.seal_in.2, .Lgcm_func_end54-gcm.gcm_c.siv.seal_in.2
                                         # -- End function
 	.section	.text.gcm.gcm_siv.message.seal.2,"ax",@progbits
-	.p2align	1                               # -- Begin function gcm_siv::message::seal::<#891d1eb781147f79>
+	.p2align	1                               # -- Begin function gcm_siv::message::seal::<#7927255b4de34720>
 	.type	gcm.gcm_siv.message.seal.2,@function
 gcm.gcm_siv.message.seal.2: # @gcm.gcm_siv.message.seal.2
 # %bb.0:                                # %start
@@ -16336,7 +16336,7 @@ gcm.gcm_siv.message.seal.2: # @gcm.gcm_siv.message.seal.2
 	.size	gcm.gcm_siv.message.seal.2, .Lgcm_func_end55-gcm.gcm_siv.message.seal.2
                                         # -- End function
 	.section	.text.gcm.gcm.hash_room.hash_piece,"ax",@progbits
-	.p2align	1                               # -- Begin function gcm::hash_room::hash_piece::<#de867e0411c14352>
+	.p2align	1                               # -- Begin function gcm::hash_room::hash_piece::<#84904cd934dcda78>
 	.type	gcm.gcm.hash_room.hash_piece,@function
 gcm.gcm.hash_room.hash_piece: # @gcm.gcm.hash_room.hash_piece
 # %bb.0:                                # %start
@@ -16698,7 +16698,7 @@ gcm.gcm.hash_room.hash_piece: # @gcm.gcm.hash_room.hash_piece
 	mv	a2, s9
 	mv	a3, s5
 	mv	a4, s6
-	call	gcm.gcm.hash_room.RoomHashRoom.hash_on
+	call	gcm.gcm.hash_room.MultiplesRoomHashRoom.hash_on
 	vsetivli	zero, 2, e64, m1, ta, ma
 	vmv.v.x	v8, a0
 	vslide1down.vx	v8, v8, a1
@@ -16729,7 +16729,7 @@ gcm.gcm.hash_room.hash_piece: # @gcm.gcm.hash_room.hash_piece
 	.size	gcm.gcm.hash_room.hash_piece, .Lgcm_func_end56-gcm.gcm.hash_room.hash_piece
                                         # -- End function
 	.section	.text.gcm.gcm.mode.BorrowedGcm.turn_to,"ax",@progbits
-	.p2align	1                               # -- Begin function gcm::mode::BorrowedGcm::turn_to::<#8bfc6ace315c867e>
+	.p2align	1                               # -- Begin function gcm::mode::BorrowedGcm::turn_to::<#e698720ccb2969c4>
 	.type	gcm.gcm.mode.BorrowedGcm.turn_to,@function
 gcm.gcm.mode.BorrowedGcm.turn_to: # @gcm.gcm.mode.BorrowedGcm.turn_to
 # %bb.0:                                # %start
@@ -16793,7 +16793,7 @@ gcm.gcm.mode.BorrowedGcm.turn_to: # @gcm.gcm.mode.BorrowedGcm.turn_to
 	.size	gcm.gcm.mode.BorrowedGcm.turn_to, .Lgcm_func_end57-gcm.gcm.mode.BorrowedGcm.turn_to
                                         # -- End function
 	.section	.text.gcm.gcm.mode.BorrowedGcm.is_tag_so_far,"ax",@progbits
-	.p2align	1                               # -- Begin function gcm::mode::BorrowedGcm::is_tag_so_far::<#8bfc6ace315c867e>
+	.p2align	1                               # -- Begin function gcm::mode::BorrowedGcm::is_tag_so_far::<#e698720ccb2969c4>
 	.type	gcm.gcm.mode.BorrowedGcm.is_tag_so_far,@function
 gcm.gcm.mode.BorrowedGcm.is_tag_so_far: # @gcm.gcm.mode.BorrowedGcm.is_tag_so_far
 # %bb.0:                                # %start
@@ -16820,7 +16820,7 @@ gcm.gcm.mode.BorrowedGcm.is_tag_so_far: # @gcm.gcm.mode.BorrowedGcm.is_tag_so_fa
 	.size	gcm.gcm.mode.BorrowedGcm.is_tag_so_far, .Lgcm_func_end58-gcm.gcm.mode.BorrowedGcm.is_tag_so_far
                                         # -- End function
 	.section	.text.gcm.gcm.mode.BorrowedGcm.is_short_tag_so_far,"ax",@progbits
-	.p2align	1                               # -- Begin function gcm::mode::BorrowedGcm::is_short_tag_so_far::<#8bfc6ace315c867e>
+	.p2align	1                               # -- Begin function gcm::mode::BorrowedGcm::is_short_tag_so_far::<#e698720ccb2969c4>
 	.type	gcm.gcm.mode.BorrowedGcm.is_short_tag_so_far,@function
 gcm.gcm.mode.BorrowedGcm.is_short_tag_so_far: # @gcm.gcm.mode.BorrowedGcm.is_short_tag_so_far
 # %bb.0:                                # %start
@@ -17358,7 +17358,7 @@ gcm.fotsgure_gcm_begin_next:                # @gcm.fotsgure_gcm_begin_next
 	sb	a0, 5(a2)
 	sb	s1, 6(a2)
 	sb	t2, 7(a2)
-.Lgcm_BB67_10:                              # %"gcm::mode::BorrowedGcm::begin_next::<#8bfc6ace315c867e>.exit.i"
+.Lgcm_BB67_10:                              # %"gcm::mode::BorrowedGcm::begin_next::<#e698720ccb2969c4>.exit.i"
 	srli	a0, a4, 32
 	sw	a6, 52(sp)
 	sw	a4, 56(sp)
@@ -18086,7 +18086,7 @@ gcm.fotsgure_gcm_open_to:                   # @gcm.fotsgure_gcm_open_to
 	mv	a3, s6
 	call	gcm.gcm.gctr.add_gctr
 	li	s2, 0
-.Lgcm_BB72_24:                              # %"gcm::mode::BorrowedGcm::decrypt_to::<#8bfc6ace315c867e>.exit.i"
+.Lgcm_BB72_24:                              # %"gcm::mode::BorrowedGcm::decrypt_to::<#e698720ccb2969c4>.exit.i"
 	addi	a0, sp, 64
 	call	gcm.aes_cipher.zeroize.elements.zeroize_elements.3
 	call	gcm.aes_cipher.zeroize.stack.wipe_stack.1536
@@ -20056,5 +20056,5 @@ gcm.fotsgure_gcm_accept_short:              # @gcm.fotsgure_gcm_accept_short
 	.long	9, 116, 1
 	.asciz	"Fotsgure"
 	.p2align	2, 0x0
-	.asciz	"fotsgure_gcm 0.4.0, riscv64/gcm.s, sources SHA-256 c5580fd5c08fd1ce251de00bc68bbabc41e05f02470d0c531f44ab6d5c423d70"
+	.asciz	"fotsgure_gcm 0.4.0, riscv64/gcm.s, sources SHA-256 7ffbfed4fdc57d310dc7b2575290ae8baa1c67d9e3c172c81948d4bb9f7ef94b"
 	.p2align	2, 0x0

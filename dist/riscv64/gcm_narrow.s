@@ -3887,7 +3887,7 @@ gcm_narrow.aes_narrow.blocks.process_in_batches: # @gcm_narrow.aes_narrow.blocks
 	add	a2, s2, a0
 	mv	a0, s4
 	mv	a1, s3
-	call	gcm_narrow.aes_narrow.blocks.process_few
+	call	gcm_narrow.aes_narrow.blocks.process_filled_up
 	mv	a0, s1
 	bgeu	s1, s0, .Lgcm_narrow_BB11_4
 .Lgcm_narrow_BB11_2:                               # %join.5
@@ -3911,10 +3911,10 @@ gcm_narrow.aes_narrow.blocks.process_in_batches: # @gcm_narrow.aes_narrow.blocks
 .Lgcm_narrow_func_end11:
 	.size	gcm_narrow.aes_narrow.blocks.process_in_batches, .Lgcm_narrow_func_end11-gcm_narrow.aes_narrow.blocks.process_in_batches
                                         # -- End function
-	.section	.text.gcm_narrow.aes_narrow.blocks.process_few,"ax",@progbits
-	.p2align	1                               # -- Begin function aes_narrow::blocks::process_few::<#6ca5080f6f2d303b>
-	.type	gcm_narrow.aes_narrow.blocks.process_few,@function
-gcm_narrow.aes_narrow.blocks.process_few: # @gcm_narrow.aes_narrow.blocks.process_few
+	.section	.text.gcm_narrow.aes_narrow.blocks.process_filled_up,"ax",@progbits
+	.p2align	1                               # -- Begin function aes_narrow::blocks::process_filled_up::<#6ca5080f6f2d303b>
+	.type	gcm_narrow.aes_narrow.blocks.process_filled_up,@function
+gcm_narrow.aes_narrow.blocks.process_filled_up: # @gcm_narrow.aes_narrow.blocks.process_filled_up
 # %bb.0:                                # %start
 	addi	sp, sp, -528
 	sd	ra, 520(sp)                     # 8-byte Folded Spill
@@ -4044,7 +4044,7 @@ gcm_narrow.aes_narrow.blocks.process_few: # @gcm_narrow.aes_narrow.blocks.proces
 	addi	s1, s1, 16
 	addi	s0, s0, 16
 	bne	s1, s2, .Lgcm_narrow_BB12_2
-.Lgcm_narrow_BB12_3:                               # %"aes_narrow::blocks::batch_of_few::<#9d3cec6f18dfbbf4>.exit"
+.Lgcm_narrow_BB12_3:                               # %"aes_narrow::blocks::filled_up::<#9d3cec6f18dfbbf4>.exit"
 	sd	s3, 0(sp)                       # 8-byte Folded Spill
 	lbu	a0, 296(sp)
 	sd	a0, 128(sp)                     # 8-byte Folded Spill
@@ -4610,7 +4610,7 @@ gcm_narrow.aes_narrow.blocks.process_few: # @gcm_narrow.aes_narrow.blocks.proces
 	addi	s5, s5, 16
 	addi	s1, s1, 16
 	bne	s5, s0, .Lgcm_narrow_BB12_5
-.Lgcm_narrow_BB12_6:                               # %"aes_narrow::blocks::put_few::<#9d3cec6f18dfbbf4>.exit"
+.Lgcm_narrow_BB12_6:                               # %"aes_narrow::blocks::put_first::<#9d3cec6f18dfbbf4>.exit"
 	ld	ra, 520(sp)                     # 8-byte Folded Reload
 	ld	s0, 512(sp)                     # 8-byte Folded Reload
 	ld	s1, 504(sp)                     # 8-byte Folded Reload
@@ -4627,7 +4627,7 @@ gcm_narrow.aes_narrow.blocks.process_few: # @gcm_narrow.aes_narrow.blocks.proces
 	addi	sp, sp, 528
 	ret
 .Lgcm_narrow_func_end12:
-	.size	gcm_narrow.aes_narrow.blocks.process_few, .Lgcm_narrow_func_end12-gcm_narrow.aes_narrow.blocks.process_few
+	.size	gcm_narrow.aes_narrow.blocks.process_filled_up, .Lgcm_narrow_func_end12-gcm_narrow.aes_narrow.blocks.process_filled_up
                                         # -- End function
 	.section	.rodata.cst8,"aM",@progbits,8
 	.p2align	3, 0x0                          # -- Begin function aes_narrow::blocks::process_state::<#6ca5080f6f2d303b>
@@ -8720,7 +8720,7 @@ gcm_narrow.aes_narrow.borrowed_words.call_to_encrypt.1: # @gcm_narrow.aes_narrow
 	li	a3, 4
 	mv	a0, s3
 	mv	a1, s4
-	call	gcm_narrow.aes_narrow.blocks.process_few
+	call	gcm_narrow.aes_narrow.blocks.process_filled_up
 	lbu	t6, 12(s0)
 	lbu	t5, 13(s0)
 	lbu	t4, 14(s0)
@@ -9261,7 +9261,7 @@ gcm_narrow.aes_ctr.add_in_batches.add_next.1: # @gcm_narrow.aes_ctr.add_in_batch
 	bne	t3, a6, .Lgcm_narrow_BB22_16
 # %bb.3:                                # %then.1.i.i.i
 	li	a3, 1
-	call	gcm_narrow.aes_narrow.blocks.process_few
+	call	gcm_narrow.aes_narrow.blocks.process_filled_up
 	ld	s2, 16(sp)                      # 8-byte Folded Reload
 	add	s2, s2, s7
 	beqz	s6, .Lgcm_narrow_BB22_17
@@ -9409,7 +9409,7 @@ gcm_narrow.aes_ctr.add_in_batches.add_next.1: # @gcm_narrow.aes_ctr.add_in_batch
 	ret
 .Lgcm_narrow_BB22_16:                              # %else.2.i.i.i
 	li	a3, 4
-	call	gcm_narrow.aes_narrow.blocks.process_few
+	call	gcm_narrow.aes_narrow.blocks.process_filled_up
 	ld	s2, 16(sp)                      # 8-byte Folded Reload
 	add	s2, s2, s7
 	bnez	s6, .Lgcm_narrow_BB22_4
@@ -11246,7 +11246,7 @@ gcm_narrow.aes_narrow.borrowed_words.call_to_encrypt.2: # @gcm_narrow.aes_narrow
 	li	a3, 4
 	mv	a0, s11
 	mv	a1, s5
-	call	gcm_narrow.aes_narrow.blocks.process_few
+	call	gcm_narrow.aes_narrow.blocks.process_filled_up
 	lbu	t6, -20(s9)
 	lbu	t5, -19(s9)
 	lbu	t4, -18(s9)
@@ -11652,7 +11652,7 @@ gcm_narrow.aes_ctr.add_in_batches.add_next.2: # @gcm_narrow.aes_ctr.add_in_batch
 	bne	s1, a3, .Lgcm_narrow_BB34_16
 # %bb.3:                                # %then.1.i.i.i
 	li	a3, 1
-	call	gcm_narrow.aes_narrow.blocks.process_few
+	call	gcm_narrow.aes_narrow.blocks.process_filled_up
 	add	s2, s2, s4
 	beqz	s6, .Lgcm_narrow_BB34_17
 .Lgcm_narrow_BB34_4:                               # %then.1.i
@@ -11798,7 +11798,7 @@ gcm_narrow.aes_ctr.add_in_batches.add_next.2: # @gcm_narrow.aes_ctr.add_in_batch
 	ret
 .Lgcm_narrow_BB34_16:                              # %else.2.i.i.i
 	li	a3, 4
-	call	gcm_narrow.aes_narrow.blocks.process_few
+	call	gcm_narrow.aes_narrow.blocks.process_filled_up
 	add	s2, s2, s4
 	bnez	s6, .Lgcm_narrow_BB34_4
 .Lgcm_narrow_BB34_17:
@@ -15754,5 +15754,5 @@ gcm_narrow.fotsgure_gcm_accept_short:              # @gcm_narrow.fotsgure_gcm_ac
 	.long	9, 123, 1
 	.asciz	"Fotsgure"
 	.p2align	2, 0x0
-	.asciz	"fotsgure_gcm 0.4.0, riscv64/gcm_narrow.s, sources SHA-256 c5580fd5c08fd1ce251de00bc68bbabc41e05f02470d0c531f44ab6d5c423d70"
+	.asciz	"fotsgure_gcm 0.4.0, riscv64/gcm_narrow.s, sources SHA-256 7ffbfed4fdc57d310dc7b2575290ae8baa1c67d9e3c172c81948d4bb9f7ef94b"
 	.p2align	2, 0x0

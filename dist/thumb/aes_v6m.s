@@ -4519,7 +4519,7 @@ aes_v6m.aes_narrow.blocks.process_in_batches.1: @ @aes_v6m.aes_narrow.blocks.pro
 	str	r4, [sp, #8]
 	add	r3, sp, #32
 	ldm	r3, {r0, r2, r3}                @ 12-byte Folded Reload
-	bl	aes_v6m.aes_narrow.blocks.process_few.1
+	bl	aes_v6m.aes_narrow.blocks.process_filled_up.1
 	adds	r6, r4, r6
 	ldr	r3, [sp, #20]                   @ 4-byte Reload
 	adcs	r5, r3
@@ -4559,12 +4559,12 @@ aes_v6m.aes_narrow.blocks.process_in_batches.1: @ @aes_v6m.aes_narrow.blocks.pro
 	.cantunwind
 	.fnend
                                         @ -- End function
-	.section	.text.aes_v6m.aes_narrow.blocks.process_few.1,"ax",%progbits
-	.p2align	2                               @ -- Begin function aes_narrow::blocks::process_few::<#1a21aa7f601e7603>
-	.type	aes_v6m.aes_narrow.blocks.process_few.1,%function
+	.section	.text.aes_v6m.aes_narrow.blocks.process_filled_up.1,"ax",%progbits
+	.p2align	2                               @ -- Begin function aes_narrow::blocks::process_filled_up::<#1a21aa7f601e7603>
+	.type	aes_v6m.aes_narrow.blocks.process_filled_up.1,%function
 	.code	16
 	.thumb_func
-aes_v6m.aes_narrow.blocks.process_few.1: @ @aes_v6m.aes_narrow.blocks.process_few.1
+aes_v6m.aes_narrow.blocks.process_filled_up.1: @ @aes_v6m.aes_narrow.blocks.process_filled_up.1
 	.fnstart
 @ %bb.0:                                @ %start
 	.save	{r4, r5, r6, r7, lr}
@@ -4702,7 +4702,7 @@ aes_v6m.aes_narrow.blocks.process_few.1: @ @aes_v6m.aes_narrow.blocks.process_fe
 	adds	r1, #16
 	movs	r2, #16
 	bl	memcpy
-.Laes_v6m_BB5_3:                                @ %"aes_narrow::blocks::batch_of_few::<#7d3b633001169d8c>.exit"
+.Laes_v6m_BB5_3:                                @ %"aes_narrow::blocks::filled_up::<#7d3b633001169d8c>.exit"
 	str	r6, [sp, #4]                    @ 4-byte Spill
 	str	r5, [sp, #8]                    @ 4-byte Spill
 	ldr	r0, [sp, #144]
@@ -5026,7 +5026,7 @@ aes_v6m.aes_narrow.blocks.process_few.1: @ @aes_v6m.aes_narrow.blocks.process_fe
 	movs	r2, #16
 	mov	r0, r4
 	bl	memcpy
-.Laes_v6m_BB5_6:                                @ %"aes_narrow::blocks::put_few::<#7d3b633001169d8c>.exit"
+.Laes_v6m_BB5_6:                                @ %"aes_narrow::blocks::put_first::<#7d3b633001169d8c>.exit"
 	add	sp, #164
 	pop	{r4, r5, r6, r7, pc}
 	.p2align	2
@@ -5038,7 +5038,7 @@ aes_v6m.aes_narrow.blocks.process_few.1: @ @aes_v6m.aes_narrow.blocks.process_fe
 .Laes_v6m_CPI5_2:
 	.long	252645135                       @ 0xf0f0f0f
 .Laes_v6m_func_end5:
-	.size	aes_v6m.aes_narrow.blocks.process_few.1, .Laes_v6m_func_end5-aes_v6m.aes_narrow.blocks.process_few.1
+	.size	aes_v6m.aes_narrow.blocks.process_filled_up.1, .Laes_v6m_func_end5-aes_v6m.aes_narrow.blocks.process_filled_up.1
 	.cantunwind
 	.fnend
                                         @ -- End function
@@ -9179,7 +9179,7 @@ aes_v6m.aes_narrow.borrowed_words.call_to_encrypt: @ @aes_v6m.aes_narrow.borrowe
 	str	r5, [sp]
 	add	r3, sp, #36
 	ldm	r3, {r0, r2, r3}                @ 12-byte Folded Reload
-	bl	aes_v6m.aes_narrow.blocks.process_few.1
+	bl	aes_v6m.aes_narrow.blocks.process_filled_up.1
 	ldr	r3, [sp, #180]                  @ 4-byte Reload
 	ldr	r1, [sp, #184]                  @ 4-byte Reload
 	adds	r0, r3, r1
@@ -9714,7 +9714,7 @@ aes_v6m.aes_ctr.add_in_batches.add_next: @ @aes_v6m.aes_ctr.add_in_batches.add_n
 	str	r1, [sp, #12]
 	add	r1, sp, #164
 	str	r1, [sp]
-	bl	aes_v6m.aes_narrow.blocks.process_few.1
+	bl	aes_v6m.aes_narrow.blocks.process_filled_up.1
 	adds	r0, r4, r6
 	str	r0, [sp, #156]                  @ 4-byte Spill
 	movs	r0, #0
@@ -13400,7 +13400,7 @@ aes_v6m.aes_narrow.borrowed_words.call_to_decrypt: @ @aes_v6m.aes_narrow.borrowe
 	str	r0, [sp]
 	ldr	r0, [sp, #52]                   @ 4-byte Reload
 	ldr	r3, [sp, #56]                   @ 4-byte Reload
-	bl	aes_v6m.aes_narrow.blocks.process_few.2
+	bl	aes_v6m.aes_narrow.blocks.process_filled_up.2
 	ldr	r2, [sp, #64]                   @ 4-byte Reload
 	ldr	r3, [sp, #128]                  @ 4-byte Reload
 	adds	r5, r5, #2
@@ -13433,7 +13433,7 @@ aes_v6m.aes_narrow.borrowed_words.call_to_decrypt: @ @aes_v6m.aes_narrow.borrowe
 	str	r0, [sp]
 	ldr	r0, [sp, #52]                   @ 4-byte Reload
 	ldr	r3, [sp, #56]                   @ 4-byte Reload
-	bl	aes_v6m.aes_narrow.blocks.process_few.2
+	bl	aes_v6m.aes_narrow.blocks.process_filled_up.2
 	ldr	r2, [sp, #64]                   @ 4-byte Reload
 	adds	r5, r5, #1
 	adcs	r7, r6
@@ -13626,12 +13626,12 @@ aes_v6m.aes_narrow.borrowed_words.call_to_decrypt: @ @aes_v6m.aes_narrow.borrowe
 	.cantunwind
 	.fnend
                                         @ -- End function
-	.section	.text.aes_v6m.aes_narrow.blocks.process_few.2,"ax",%progbits
-	.p2align	2                               @ -- Begin function aes_narrow::blocks::process_few::<#a3dcb71d05bd149b>
-	.type	aes_v6m.aes_narrow.blocks.process_few.2,%function
+	.section	.text.aes_v6m.aes_narrow.blocks.process_filled_up.2,"ax",%progbits
+	.p2align	2                               @ -- Begin function aes_narrow::blocks::process_filled_up::<#a3dcb71d05bd149b>
+	.type	aes_v6m.aes_narrow.blocks.process_filled_up.2,%function
 	.code	16
 	.thumb_func
-aes_v6m.aes_narrow.blocks.process_few.2: @ @aes_v6m.aes_narrow.blocks.process_few.2
+aes_v6m.aes_narrow.blocks.process_filled_up.2: @ @aes_v6m.aes_narrow.blocks.process_filled_up.2
 	.fnstart
 @ %bb.0:                                @ %start
 	.save	{r4, r5, r6, r7, lr}
@@ -13769,7 +13769,7 @@ aes_v6m.aes_narrow.blocks.process_few.2: @ @aes_v6m.aes_narrow.blocks.process_fe
 	adds	r1, #16
 	movs	r2, #16
 	bl	memcpy
-.Laes_v6m_BB21_3:                               @ %"aes_narrow::blocks::batch_of_few::<#7d3b633001169d8c>.exit"
+.Laes_v6m_BB21_3:                               @ %"aes_narrow::blocks::filled_up::<#7d3b633001169d8c>.exit"
 	str	r6, [sp, #4]                    @ 4-byte Spill
 	str	r5, [sp, #8]                    @ 4-byte Spill
 	ldr	r0, [sp, #144]
@@ -14093,7 +14093,7 @@ aes_v6m.aes_narrow.blocks.process_few.2: @ @aes_v6m.aes_narrow.blocks.process_fe
 	movs	r2, #16
 	mov	r0, r4
 	bl	memcpy
-.Laes_v6m_BB21_6:                               @ %"aes_narrow::blocks::put_few::<#7d3b633001169d8c>.exit"
+.Laes_v6m_BB21_6:                               @ %"aes_narrow::blocks::put_first::<#7d3b633001169d8c>.exit"
 	add	sp, #164
 	pop	{r4, r5, r6, r7, pc}
 	.p2align	2
@@ -14105,7 +14105,7 @@ aes_v6m.aes_narrow.blocks.process_few.2: @ @aes_v6m.aes_narrow.blocks.process_fe
 .Laes_v6m_CPI21_2:
 	.long	252645135                       @ 0xf0f0f0f
 .Laes_v6m_func_end21:
-	.size	aes_v6m.aes_narrow.blocks.process_few.2, .Laes_v6m_func_end21-aes_v6m.aes_narrow.blocks.process_few.2
+	.size	aes_v6m.aes_narrow.blocks.process_filled_up.2, .Laes_v6m_func_end21-aes_v6m.aes_narrow.blocks.process_filled_up.2
 	.cantunwind
 	.fnend
                                         @ -- End function
@@ -18771,7 +18771,7 @@ aes_v6m.aes_narrow.blocks.process_in_batches.2: @ @aes_v6m.aes_narrow.blocks.pro
 	str	r4, [sp, #8]
 	add	r3, sp, #32
 	ldm	r3, {r0, r2, r3}                @ 12-byte Folded Reload
-	bl	aes_v6m.aes_narrow.blocks.process_few.2
+	bl	aes_v6m.aes_narrow.blocks.process_filled_up.2
 	adds	r6, r4, r6
 	ldr	r3, [sp, #20]                   @ 4-byte Reload
 	adcs	r5, r3
@@ -28734,5 +28734,5 @@ aes_v6m.fotsgure_aes_add_keystream_with:        @ @aes_v6m.fotsgure_aes_add_keys
 	.long	9, 118, 1
 	.asciz	"Fotsgure"
 	.p2align	2, 0x0
-	.asciz	"fotsgure_aes 0.4.0, thumb/aes_v6m.s, sources SHA-256 46921789358eaca23fa4ae4eea30ab0e26ba1bdf6ccb1d0247d98ca9f1c6b73d"
+	.asciz	"fotsgure_aes 0.4.0, thumb/aes_v6m.s, sources SHA-256 568705d49fc313d51a3118f972883289c0abab049ad136132806690e516afe49"
 	.p2align	2, 0x0

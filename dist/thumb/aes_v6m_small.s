@@ -2388,7 +2388,7 @@ aes_v6m_small.aes_narrow.blocks.process_in_batches.1: @ @aes_v6m_small.aes_narro
 	str	r4, [sp, #8]
 	add	r3, sp, #32
 	ldm	r3, {r0, r2, r3}                @ 12-byte Folded Reload
-	bl	aes_v6m_small.aes_narrow.blocks.process_few.1
+	bl	aes_v6m_small.aes_narrow.blocks.process_filled_up.1
 	adds	r6, r4, r6
 	ldr	r3, [sp, #20]                   @ 4-byte Reload
 	adcs	r5, r3
@@ -2428,12 +2428,12 @@ aes_v6m_small.aes_narrow.blocks.process_in_batches.1: @ @aes_v6m_small.aes_narro
 	.cantunwind
 	.fnend
                                         @ -- End function
-	.section	.text.aes_v6m_small.aes_narrow.blocks.process_few.1,"ax",%progbits
-	.p2align	1                               @ -- Begin function aes_narrow::blocks::process_few::<#1a21aa7f601e7603>
-	.type	aes_v6m_small.aes_narrow.blocks.process_few.1,%function
+	.section	.text.aes_v6m_small.aes_narrow.blocks.process_filled_up.1,"ax",%progbits
+	.p2align	1                               @ -- Begin function aes_narrow::blocks::process_filled_up::<#1a21aa7f601e7603>
+	.type	aes_v6m_small.aes_narrow.blocks.process_filled_up.1,%function
 	.code	16
 	.thumb_func
-aes_v6m_small.aes_narrow.blocks.process_few.1: @ @aes_v6m_small.aes_narrow.blocks.process_few.1
+aes_v6m_small.aes_narrow.blocks.process_filled_up.1: @ @aes_v6m_small.aes_narrow.blocks.process_filled_up.1
 	.fnstart
 @ %bb.0:                                @ %start
 	.save	{r4, r5, r6, r7, lr}
@@ -2574,7 +2574,7 @@ aes_v6m_small.aes_narrow.blocks.process_few.1: @ @aes_v6m_small.aes_narrow.block
 	adds	r1, #16
 	movs	r2, #16
 	bl	memcpy
-.Laes_v6m_small_BB25_3:                               @ %"aes_narrow::blocks::batch_of_few::<#7d3b633001169d8c>.exit"
+.Laes_v6m_small_BB25_3:                               @ %"aes_narrow::blocks::filled_up::<#7d3b633001169d8c>.exit"
 	str	r6, [sp, #8]                    @ 4-byte Spill
 	str	r5, [sp, #12]                   @ 4-byte Spill
 	ldr	r0, [sp, #132]
@@ -2698,11 +2698,11 @@ aes_v6m_small.aes_narrow.blocks.process_few.1: @ @aes_v6m_small.aes_narrow.block
 	movs	r2, #16
 	mov	r0, r4
 	bl	memcpy
-.Laes_v6m_small_BB25_6:                               @ %"aes_narrow::blocks::put_few::<#7d3b633001169d8c>.exit"
+.Laes_v6m_small_BB25_6:                               @ %"aes_narrow::blocks::put_first::<#7d3b633001169d8c>.exit"
 	add	sp, #196
 	pop	{r4, r5, r6, r7, pc}
 .Laes_v6m_small_func_end25:
-	.size	aes_v6m_small.aes_narrow.blocks.process_few.1, .Laes_v6m_small_func_end25-aes_v6m_small.aes_narrow.blocks.process_few.1
+	.size	aes_v6m_small.aes_narrow.blocks.process_filled_up.1, .Laes_v6m_small_func_end25-aes_v6m_small.aes_narrow.blocks.process_filled_up.1
 	.cantunwind
 	.fnend
                                         @ -- End function
@@ -4854,7 +4854,7 @@ aes_v6m_small.aes_ctr.add_in_batches.add_batch: @ @aes_v6m_small.aes_ctr.add_in_
 	lsls	r5, r5, #24
 	adds	r3, r5, r3
 	adds	r3, r3, r1
-	bl	aes_v6m_small.aes_narrow.blocks.process_few.1
+	bl	aes_v6m_small.aes_narrow.blocks.process_filled_up.1
 	movs	r0, #32
 	str	r0, [sp, #8]
 	str	r4, [sp, #12]
@@ -4935,7 +4935,7 @@ aes_v6m_small.aes_ctr.keystream.fill_by_backend: @ @aes_v6m_small.aes_ctr.keystr
 	str	r1, [sp, #8]
 	str	r5, [sp, #12]
 	str	r6, [sp]
-	bl	aes_v6m_small.aes_narrow.blocks.process_few.1
+	bl	aes_v6m_small.aes_narrow.blocks.process_filled_up.1
 	add	sp, #20
 	pop	{r4, r5, r6, r7, pc}
 .Laes_v6m_small_func_end38:
@@ -7435,7 +7435,7 @@ aes_v6m_small.aes_narrow.borrowed_words.call_to_decrypt: @ @aes_v6m_small.aes_na
 	str	r0, [sp]
 	ldr	r0, [sp, #52]                   @ 4-byte Reload
 	ldr	r3, [sp, #56]                   @ 4-byte Reload
-	bl	aes_v6m_small.aes_narrow.blocks.process_few.2
+	bl	aes_v6m_small.aes_narrow.blocks.process_filled_up.2
 	ldr	r2, [sp, #64]                   @ 4-byte Reload
 	ldr	r3, [sp, #128]                  @ 4-byte Reload
 	adds	r5, r5, #2
@@ -7468,7 +7468,7 @@ aes_v6m_small.aes_narrow.borrowed_words.call_to_decrypt: @ @aes_v6m_small.aes_na
 	str	r0, [sp]
 	ldr	r0, [sp, #52]                   @ 4-byte Reload
 	ldr	r3, [sp, #56]                   @ 4-byte Reload
-	bl	aes_v6m_small.aes_narrow.blocks.process_few.2
+	bl	aes_v6m_small.aes_narrow.blocks.process_filled_up.2
 	ldr	r2, [sp, #64]                   @ 4-byte Reload
 	adds	r5, r5, #1
 	adcs	r7, r6
@@ -7661,12 +7661,12 @@ aes_v6m_small.aes_narrow.borrowed_words.call_to_decrypt: @ @aes_v6m_small.aes_na
 	.cantunwind
 	.fnend
                                         @ -- End function
-	.section	.text.aes_v6m_small.aes_narrow.blocks.process_few.2,"ax",%progbits
-	.p2align	1                               @ -- Begin function aes_narrow::blocks::process_few::<#a3dcb71d05bd149b>
-	.type	aes_v6m_small.aes_narrow.blocks.process_few.2,%function
+	.section	.text.aes_v6m_small.aes_narrow.blocks.process_filled_up.2,"ax",%progbits
+	.p2align	1                               @ -- Begin function aes_narrow::blocks::process_filled_up::<#a3dcb71d05bd149b>
+	.type	aes_v6m_small.aes_narrow.blocks.process_filled_up.2,%function
 	.code	16
 	.thumb_func
-aes_v6m_small.aes_narrow.blocks.process_few.2: @ @aes_v6m_small.aes_narrow.blocks.process_few.2
+aes_v6m_small.aes_narrow.blocks.process_filled_up.2: @ @aes_v6m_small.aes_narrow.blocks.process_filled_up.2
 	.fnstart
 @ %bb.0:                                @ %start
 	.save	{r4, r5, r6, r7, lr}
@@ -7807,7 +7807,7 @@ aes_v6m_small.aes_narrow.blocks.process_few.2: @ @aes_v6m_small.aes_narrow.block
 	adds	r1, #16
 	movs	r2, #16
 	bl	memcpy
-.Laes_v6m_small_BB49_3:                               @ %"aes_narrow::blocks::batch_of_few::<#7d3b633001169d8c>.exit"
+.Laes_v6m_small_BB49_3:                               @ %"aes_narrow::blocks::filled_up::<#7d3b633001169d8c>.exit"
 	str	r6, [sp, #8]                    @ 4-byte Spill
 	str	r5, [sp, #12]                   @ 4-byte Spill
 	ldr	r0, [sp, #132]
@@ -7931,11 +7931,11 @@ aes_v6m_small.aes_narrow.blocks.process_few.2: @ @aes_v6m_small.aes_narrow.block
 	movs	r2, #16
 	mov	r0, r4
 	bl	memcpy
-.Laes_v6m_small_BB49_6:                               @ %"aes_narrow::blocks::put_few::<#7d3b633001169d8c>.exit"
+.Laes_v6m_small_BB49_6:                               @ %"aes_narrow::blocks::put_first::<#7d3b633001169d8c>.exit"
 	add	sp, #196
 	pop	{r4, r5, r6, r7, pc}
 .Laes_v6m_small_func_end49:
-	.size	aes_v6m_small.aes_narrow.blocks.process_few.2, .Laes_v6m_small_func_end49-aes_v6m_small.aes_narrow.blocks.process_few.2
+	.size	aes_v6m_small.aes_narrow.blocks.process_filled_up.2, .Laes_v6m_small_func_end49-aes_v6m_small.aes_narrow.blocks.process_filled_up.2
 	.cantunwind
 	.fnend
                                         @ -- End function
@@ -9793,7 +9793,7 @@ aes_v6m_small.aes_narrow.blocks.process_in_batches.2: @ @aes_v6m_small.aes_narro
 	str	r4, [sp, #8]
 	add	r3, sp, #32
 	ldm	r3, {r0, r2, r3}                @ 12-byte Folded Reload
-	bl	aes_v6m_small.aes_narrow.blocks.process_few.2
+	bl	aes_v6m_small.aes_narrow.blocks.process_filled_up.2
 	adds	r6, r4, r6
 	ldr	r3, [sp, #20]                   @ 4-byte Reload
 	adcs	r5, r3
@@ -16679,5 +16679,5 @@ aes_v6m_small.fotsgure_aes_add_keystream_with:        @ @aes_v6m_small.fotsgure_
 	.long	9, 124, 1
 	.asciz	"Fotsgure"
 	.p2align	2, 0x0
-	.asciz	"fotsgure_aes 0.4.0, thumb/aes_v6m_small.s, sources SHA-256 46921789358eaca23fa4ae4eea30ab0e26ba1bdf6ccb1d0247d98ca9f1c6b73d"
+	.asciz	"fotsgure_aes 0.4.0, thumb/aes_v6m_small.s, sources SHA-256 568705d49fc313d51a3118f972883289c0abab049ad136132806690e516afe49"
 	.p2align	2, 0x0

@@ -2687,7 +2687,7 @@ aes_v7m.aes_narrow.blocks.process_in_batches.1: @ @aes_v7m.aes_narrow.blocks.pro
 	mov	r3, r8
 	adc	r7, r7, #0
 	strd	r1, r10, [sp, #8]
-	bl	aes_v7m.aes_narrow.blocks.process_few.1
+	bl	aes_v7m.aes_narrow.blocks.process_filled_up.1
 	subs.w	r0, r9, r4
 	sbcs.w	r0, r7, r11
 	blo	.Laes_v7m_BB4_2
@@ -2699,12 +2699,12 @@ aes_v7m.aes_narrow.blocks.process_in_batches.1: @ @aes_v7m.aes_narrow.blocks.pro
 	.cantunwind
 	.fnend
                                         @ -- End function
-	.section	.text.aes_v7m.aes_narrow.blocks.process_few.1,"ax",%progbits
-	.p2align	2                               @ -- Begin function aes_narrow::blocks::process_few::<#1a21aa7f601e7603>
-	.type	aes_v7m.aes_narrow.blocks.process_few.1,%function
+	.section	.text.aes_v7m.aes_narrow.blocks.process_filled_up.1,"ax",%progbits
+	.p2align	2                               @ -- Begin function aes_narrow::blocks::process_filled_up::<#1a21aa7f601e7603>
+	.type	aes_v7m.aes_narrow.blocks.process_filled_up.1,%function
 	.code	16
 	.thumb_func
-aes_v7m.aes_narrow.blocks.process_few.1: @ @aes_v7m.aes_narrow.blocks.process_few.1
+aes_v7m.aes_narrow.blocks.process_filled_up.1: @ @aes_v7m.aes_narrow.blocks.process_filled_up.1
 	.fnstart
 @ %bb.0:                                @ %start
 	.save	{r4, r5, r6, r7, r8, r9, r10, r11, lr}
@@ -2756,7 +2756,7 @@ aes_v7m.aes_narrow.blocks.process_few.1: @ @aes_v7m.aes_narrow.blocks.process_fe
 	ldr	r5, [r4, #24]
 	strd	r1, r7, [sp, #92]
 	strd	r5, r6, [sp, #100]
-.Laes_v7m_BB5_3:                                @ %"aes_narrow::blocks::batch_of_few::<#7d3b633001169d8c>.exit"
+.Laes_v7m_BB5_3:                                @ %"aes_narrow::blocks::filled_up::<#7d3b633001169d8c>.exit"
 	add.w	r12, sp, #92
 	ldm.w	r12, {r1, r7, r12}
 	ldrd	r5, r4, [sp, #76]
@@ -2898,11 +2898,11 @@ aes_v7m.aes_narrow.blocks.process_few.1: @ @aes_v7m.aes_narrow.blocks.process_fe
 	str.w	r3, [r12, #24]
 	str.w	r1, [r12, #20]
 	str.w	r0, [r12, #16]
-.Laes_v7m_BB5_6:                                @ %"aes_narrow::blocks::put_few::<#7d3b633001169d8c>.exit"
+.Laes_v7m_BB5_6:                                @ %"aes_narrow::blocks::put_first::<#7d3b633001169d8c>.exit"
 	add	sp, #108
 	pop.w	{r4, r5, r6, r7, r8, r9, r10, r11, pc}
 .Laes_v7m_func_end5:
-	.size	aes_v7m.aes_narrow.blocks.process_few.1, .Laes_v7m_func_end5-aes_v7m.aes_narrow.blocks.process_few.1
+	.size	aes_v7m.aes_narrow.blocks.process_filled_up.1, .Laes_v7m_func_end5-aes_v7m.aes_narrow.blocks.process_filled_up.1
 	.cantunwind
 	.fnend
                                         @ -- End function
@@ -5350,7 +5350,7 @@ aes_v7m.aes_narrow.borrowed_words.call_to_encrypt: @ @aes_v7m.aes_narrow.borrowe
 	add	r1, sp, #124
 	strb.w	r6, [sp, #142]
 	str	r1, [sp]
-	bl	aes_v7m.aes_narrow.blocks.process_few.1
+	bl	aes_v7m.aes_narrow.blocks.process_filled_up.1
 	ldrb.w	lr, [r5, #1]
 	ldrb.w	r1, [sp, #125]
 	ldrb	r7, [r5, #2]
@@ -5702,7 +5702,7 @@ aes_v7m.aes_ctr.add_in_batches.add_next: @ @aes_v7m.aes_ctr.add_in_batches.add_n
 	strd	r1, r7, [sp, #8]
 .Laes_v7m_BB9_3:                                @ %"aes_ctr::keystream::fill_by_backend::<#a8e061590e9ece31>.exit"
 	str.w	r8, [sp]
-	bl	aes_v7m.aes_narrow.blocks.process_few.1
+	bl	aes_v7m.aes_narrow.blocks.process_filled_up.1
 	ldr	r0, [sp, #376]
 	ldr	r4, [sp, #20]                   @ 4-byte Reload
 	mov	r7, r8
@@ -7627,7 +7627,7 @@ aes_v7m.aes_narrow.borrowed_words.call_to_decrypt: @ @aes_v7m.aes_narrow.borrowe
 	mov	r3, r9
 	adc	r4, r4, #0
 	str	r1, [sp]
-	bl	aes_v7m.aes_narrow.blocks.process_few.2
+	bl	aes_v7m.aes_narrow.blocks.process_filled_up.2
 	subs.w	r0, r8, r5
 	sbc.w	r1, r6, r4
 	rsbs.w	r0, r0, #1
@@ -7651,7 +7651,7 @@ aes_v7m.aes_narrow.borrowed_words.call_to_decrypt: @ @aes_v7m.aes_narrow.borrowe
 	mov	r2, r11
 	mov	r3, r9
 	str	r1, [sp]
-	bl	aes_v7m.aes_narrow.blocks.process_few.2
+	bl	aes_v7m.aes_narrow.blocks.process_filled_up.2
 	adds	r5, #1
 	adc	r4, r4, #0
 	subs.w	r0, r5, r8
@@ -7859,12 +7859,12 @@ aes_v7m.aes_narrow.borrowed_words.call_to_decrypt: @ @aes_v7m.aes_narrow.borrowe
 	.cantunwind
 	.fnend
                                         @ -- End function
-	.section	.text.aes_v7m.aes_narrow.blocks.process_few.2,"ax",%progbits
-	.p2align	2                               @ -- Begin function aes_narrow::blocks::process_few::<#a3dcb71d05bd149b>
-	.type	aes_v7m.aes_narrow.blocks.process_few.2,%function
+	.section	.text.aes_v7m.aes_narrow.blocks.process_filled_up.2,"ax",%progbits
+	.p2align	2                               @ -- Begin function aes_narrow::blocks::process_filled_up::<#a3dcb71d05bd149b>
+	.type	aes_v7m.aes_narrow.blocks.process_filled_up.2,%function
 	.code	16
 	.thumb_func
-aes_v7m.aes_narrow.blocks.process_few.2: @ @aes_v7m.aes_narrow.blocks.process_few.2
+aes_v7m.aes_narrow.blocks.process_filled_up.2: @ @aes_v7m.aes_narrow.blocks.process_filled_up.2
 	.fnstart
 @ %bb.0:                                @ %start
 	.save	{r4, r5, r6, r7, r8, r9, r10, r11, lr}
@@ -7916,7 +7916,7 @@ aes_v7m.aes_narrow.blocks.process_few.2: @ @aes_v7m.aes_narrow.blocks.process_fe
 	ldr	r5, [r4, #24]
 	strd	r1, r7, [sp, #92]
 	strd	r5, r6, [sp, #100]
-.Laes_v7m_BB21_3:                               @ %"aes_narrow::blocks::batch_of_few::<#7d3b633001169d8c>.exit"
+.Laes_v7m_BB21_3:                               @ %"aes_narrow::blocks::filled_up::<#7d3b633001169d8c>.exit"
 	add.w	r12, sp, #92
 	ldm.w	r12, {r1, r7, r12}
 	ldrd	r5, r4, [sp, #76]
@@ -8058,11 +8058,11 @@ aes_v7m.aes_narrow.blocks.process_few.2: @ @aes_v7m.aes_narrow.blocks.process_fe
 	str.w	r3, [r12, #24]
 	str.w	r1, [r12, #20]
 	str.w	r0, [r12, #16]
-.Laes_v7m_BB21_6:                               @ %"aes_narrow::blocks::put_few::<#7d3b633001169d8c>.exit"
+.Laes_v7m_BB21_6:                               @ %"aes_narrow::blocks::put_first::<#7d3b633001169d8c>.exit"
 	add	sp, #108
 	pop.w	{r4, r5, r6, r7, r8, r9, r10, r11, pc}
 .Laes_v7m_func_end21:
-	.size	aes_v7m.aes_narrow.blocks.process_few.2, .Laes_v7m_func_end21-aes_v7m.aes_narrow.blocks.process_few.2
+	.size	aes_v7m.aes_narrow.blocks.process_filled_up.2, .Laes_v7m_func_end21-aes_v7m.aes_narrow.blocks.process_filled_up.2
 	.cantunwind
 	.fnend
                                         @ -- End function
@@ -10874,7 +10874,7 @@ aes_v7m.aes_narrow.blocks.process_in_batches.2: @ @aes_v7m.aes_narrow.blocks.pro
 	mov	r3, r8
 	adc	r7, r7, #0
 	strd	r1, r10, [sp, #8]
-	bl	aes_v7m.aes_narrow.blocks.process_few.2
+	bl	aes_v7m.aes_narrow.blocks.process_filled_up.2
 	subs.w	r0, r9, r4
 	sbcs.w	r0, r7, r11
 	blo	.Laes_v7m_BB23_2
@@ -16791,5 +16791,5 @@ aes_v7m.fotsgure_aes_add_keystream_with:        @ @aes_v7m.fotsgure_aes_add_keys
 	.long	9, 118, 1
 	.asciz	"Fotsgure"
 	.p2align	2, 0x0
-	.asciz	"fotsgure_aes 0.4.0, thumb/aes_v7m.s, sources SHA-256 46921789358eaca23fa4ae4eea30ab0e26ba1bdf6ccb1d0247d98ca9f1c6b73d"
+	.asciz	"fotsgure_aes 0.4.0, thumb/aes_v7m.s, sources SHA-256 568705d49fc313d51a3118f972883289c0abab049ad136132806690e516afe49"
 	.p2align	2, 0x0

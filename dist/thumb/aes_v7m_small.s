@@ -1603,7 +1603,7 @@ aes_v7m_small.aes_narrow.blocks.process_in_batches.1: @ @aes_v7m_small.aes_narro
 	mov	r3, r8
 	adc	r7, r7, #0
 	strd	r1, r10, [sp, #8]
-	bl	aes_v7m_small.aes_narrow.blocks.process_few.1
+	bl	aes_v7m_small.aes_narrow.blocks.process_filled_up.1
 	subs.w	r0, r9, r4
 	sbcs.w	r0, r7, r11
 	blo	.Laes_v7m_small_BB24_2
@@ -1615,12 +1615,12 @@ aes_v7m_small.aes_narrow.blocks.process_in_batches.1: @ @aes_v7m_small.aes_narro
 	.cantunwind
 	.fnend
                                         @ -- End function
-	.section	.text.aes_v7m_small.aes_narrow.blocks.process_few.1,"ax",%progbits
-	.p2align	2                               @ -- Begin function aes_narrow::blocks::process_few::<#1a21aa7f601e7603>
-	.type	aes_v7m_small.aes_narrow.blocks.process_few.1,%function
+	.section	.text.aes_v7m_small.aes_narrow.blocks.process_filled_up.1,"ax",%progbits
+	.p2align	2                               @ -- Begin function aes_narrow::blocks::process_filled_up::<#1a21aa7f601e7603>
+	.type	aes_v7m_small.aes_narrow.blocks.process_filled_up.1,%function
 	.code	16
 	.thumb_func
-aes_v7m_small.aes_narrow.blocks.process_few.1: @ @aes_v7m_small.aes_narrow.blocks.process_few.1
+aes_v7m_small.aes_narrow.blocks.process_filled_up.1: @ @aes_v7m_small.aes_narrow.blocks.process_filled_up.1
 	.fnstart
 @ %bb.0:                                @ %start
 	.save	{r4, r5, r6, r7, r8, r9, r10, r11, lr}
@@ -1677,7 +1677,7 @@ aes_v7m_small.aes_narrow.blocks.process_few.1: @ @aes_v7m_small.aes_narrow.block
 	ldr.w	r1, [r8, #20]
 	ldr.w	r3, [r8, #24]
 	stm	r2!, {r0, r1, r3}
-.Laes_v7m_small_BB25_3:                               @ %"aes_narrow::blocks::batch_of_few::<#7d3b633001169d8c>.exit"
+.Laes_v7m_small_BB25_3:                               @ %"aes_narrow::blocks::filled_up::<#7d3b633001169d8c>.exit"
 	add	r7, sp, #108
 	ldm	r7, {r0, r1, r2, r3, r7}
 	ldrd	r4, r6, [sp, #128]
@@ -1736,11 +1736,11 @@ aes_v7m_small.aes_narrow.blocks.process_few.1: @ @aes_v7m_small.aes_narrow.block
 	str.w	r3, [r8, #24]
 	str.w	r1, [r8, #20]
 	str.w	r0, [r8, #16]
-.Laes_v7m_small_BB25_6:                               @ %"aes_narrow::blocks::put_few::<#7d3b633001169d8c>.exit"
+.Laes_v7m_small_BB25_6:                               @ %"aes_narrow::blocks::put_first::<#7d3b633001169d8c>.exit"
 	add	sp, #172
 	pop.w	{r4, r5, r6, r7, r8, r9, r10, r11, pc}
 .Laes_v7m_small_func_end25:
-	.size	aes_v7m_small.aes_narrow.blocks.process_few.1, .Laes_v7m_small_func_end25-aes_v7m_small.aes_narrow.blocks.process_few.1
+	.size	aes_v7m_small.aes_narrow.blocks.process_filled_up.1, .Laes_v7m_small_func_end25-aes_v7m_small.aes_narrow.blocks.process_filled_up.1
 	.cantunwind
 	.fnend
                                         @ -- End function
@@ -3178,7 +3178,7 @@ aes_v7m_small.aes_ctr.add_in_batches.add_batch: @ @aes_v7m_small.aes_ctr.add_in_
 	ldr	r3, [r4, #12]
 	strd	r11, r10, [sp, #8]
 	str.w	r8, [sp]
-	bl	aes_v7m_small.aes_narrow.blocks.process_few.1
+	bl	aes_v7m_small.aes_narrow.blocks.process_filled_up.1
 	movs	r0, #32
 	strd	r0, r10, [sp, #8]
 	mov	r0, r8
@@ -3224,7 +3224,7 @@ aes_v7m_small.aes_ctr.keystream.fill_by_backend: @ @aes_v7m_small.aes_ctr.keystr
 	moveq	r1, #1
 	strdeq	r1, r6, [sp, #8]
 	str.w	r8, [sp]
-	bl	aes_v7m_small.aes_narrow.blocks.process_few.1
+	bl	aes_v7m_small.aes_narrow.blocks.process_filled_up.1
 	add	sp, #20
 	pop.w	{r4, r5, r6, r7, r8, r9, pc}
 .Laes_v7m_small_func_end38:
@@ -4672,7 +4672,7 @@ aes_v7m_small.aes_narrow.borrowed_words.call_to_decrypt: @ @aes_v7m_small.aes_na
 	mov	r3, r9
 	adc	r4, r4, #0
 	str	r1, [sp]
-	bl	aes_v7m_small.aes_narrow.blocks.process_few.2
+	bl	aes_v7m_small.aes_narrow.blocks.process_filled_up.2
 	subs.w	r0, r8, r5
 	sbc.w	r1, r6, r4
 	rsbs.w	r0, r0, #1
@@ -4703,7 +4703,7 @@ aes_v7m_small.aes_narrow.borrowed_words.call_to_decrypt: @ @aes_v7m_small.aes_na
 	mov	r2, r11
 	mov	r3, r9
 	str	r1, [sp]
-	bl	aes_v7m_small.aes_narrow.blocks.process_few.2
+	bl	aes_v7m_small.aes_narrow.blocks.process_filled_up.2
 	adds	r5, #1
 	adc	r4, r4, #0
 	subs.w	r0, r5, r8
@@ -4898,12 +4898,12 @@ aes_v7m_small.aes_narrow.borrowed_words.call_to_decrypt: @ @aes_v7m_small.aes_na
 	.cantunwind
 	.fnend
                                         @ -- End function
-	.section	.text.aes_v7m_small.aes_narrow.blocks.process_few.2,"ax",%progbits
-	.p2align	2                               @ -- Begin function aes_narrow::blocks::process_few::<#a3dcb71d05bd149b>
-	.type	aes_v7m_small.aes_narrow.blocks.process_few.2,%function
+	.section	.text.aes_v7m_small.aes_narrow.blocks.process_filled_up.2,"ax",%progbits
+	.p2align	2                               @ -- Begin function aes_narrow::blocks::process_filled_up::<#a3dcb71d05bd149b>
+	.type	aes_v7m_small.aes_narrow.blocks.process_filled_up.2,%function
 	.code	16
 	.thumb_func
-aes_v7m_small.aes_narrow.blocks.process_few.2: @ @aes_v7m_small.aes_narrow.blocks.process_few.2
+aes_v7m_small.aes_narrow.blocks.process_filled_up.2: @ @aes_v7m_small.aes_narrow.blocks.process_filled_up.2
 	.fnstart
 @ %bb.0:                                @ %start
 	.save	{r4, r5, r6, r7, r8, r9, r10, r11, lr}
@@ -4960,7 +4960,7 @@ aes_v7m_small.aes_narrow.blocks.process_few.2: @ @aes_v7m_small.aes_narrow.block
 	ldr.w	r1, [r8, #20]
 	ldr.w	r3, [r8, #24]
 	stm	r2!, {r0, r1, r3}
-.Laes_v7m_small_BB49_3:                               @ %"aes_narrow::blocks::batch_of_few::<#7d3b633001169d8c>.exit"
+.Laes_v7m_small_BB49_3:                               @ %"aes_narrow::blocks::filled_up::<#7d3b633001169d8c>.exit"
 	add	r7, sp, #108
 	ldm	r7, {r0, r1, r2, r3, r7}
 	ldrd	r4, r6, [sp, #128]
@@ -5019,11 +5019,11 @@ aes_v7m_small.aes_narrow.blocks.process_few.2: @ @aes_v7m_small.aes_narrow.block
 	str.w	r3, [r8, #24]
 	str.w	r1, [r8, #20]
 	str.w	r0, [r8, #16]
-.Laes_v7m_small_BB49_6:                               @ %"aes_narrow::blocks::put_few::<#7d3b633001169d8c>.exit"
+.Laes_v7m_small_BB49_6:                               @ %"aes_narrow::blocks::put_first::<#7d3b633001169d8c>.exit"
 	add	sp, #172
 	pop.w	{r4, r5, r6, r7, r8, r9, r10, r11, pc}
 .Laes_v7m_small_func_end49:
-	.size	aes_v7m_small.aes_narrow.blocks.process_few.2, .Laes_v7m_small_func_end49-aes_v7m_small.aes_narrow.blocks.process_few.2
+	.size	aes_v7m_small.aes_narrow.blocks.process_filled_up.2, .Laes_v7m_small_func_end49-aes_v7m_small.aes_narrow.blocks.process_filled_up.2
 	.cantunwind
 	.fnend
                                         @ -- End function
@@ -6246,7 +6246,7 @@ aes_v7m_small.aes_narrow.blocks.process_in_batches.2: @ @aes_v7m_small.aes_narro
 	mov	r3, r8
 	adc	r7, r7, #0
 	strd	r1, r10, [sp, #8]
-	bl	aes_v7m_small.aes_narrow.blocks.process_few.2
+	bl	aes_v7m_small.aes_narrow.blocks.process_filled_up.2
 	subs.w	r0, r9, r4
 	sbcs.w	r0, r7, r11
 	blo	.Laes_v7m_small_BB56_2
@@ -10546,5 +10546,5 @@ aes_v7m_small.fotsgure_aes_add_keystream_with:        @ @aes_v7m_small.fotsgure_
 	.long	9, 124, 1
 	.asciz	"Fotsgure"
 	.p2align	2, 0x0
-	.asciz	"fotsgure_aes 0.4.0, thumb/aes_v7m_small.s, sources SHA-256 46921789358eaca23fa4ae4eea30ab0e26ba1bdf6ccb1d0247d98ca9f1c6b73d"
+	.asciz	"fotsgure_aes 0.4.0, thumb/aes_v7m_small.s, sources SHA-256 568705d49fc313d51a3118f972883289c0abab049ad136132806690e516afe49"
 	.p2align	2, 0x0

@@ -5135,7 +5135,7 @@ gcm_v6m.aes_narrow.blocks.process_in_batches: @ @gcm_v6m.aes_narrow.blocks.proce
 	str	r4, [sp, #8]
 	add	r3, sp, #32
 	ldm	r3, {r0, r2, r3}                @ 12-byte Folded Reload
-	bl	gcm_v6m.aes_narrow.blocks.process_few
+	bl	gcm_v6m.aes_narrow.blocks.process_filled_up
 	adds	r7, r4, r7
 	ldr	r1, [sp, #28]                   @ 4-byte Reload
 	adcs	r6, r1
@@ -5176,12 +5176,12 @@ gcm_v6m.aes_narrow.blocks.process_in_batches: @ @gcm_v6m.aes_narrow.blocks.proce
 	.cantunwind
 	.fnend
                                         @ -- End function
-	.section	.text.gcm_v6m.aes_narrow.blocks.process_few,"ax",%progbits
-	.p2align	2                               @ -- Begin function aes_narrow::blocks::process_few::<#f6c900d3ac1e47b9>
-	.type	gcm_v6m.aes_narrow.blocks.process_few,%function
+	.section	.text.gcm_v6m.aes_narrow.blocks.process_filled_up,"ax",%progbits
+	.p2align	2                               @ -- Begin function aes_narrow::blocks::process_filled_up::<#f6c900d3ac1e47b9>
+	.type	gcm_v6m.aes_narrow.blocks.process_filled_up,%function
 	.code	16
 	.thumb_func
-gcm_v6m.aes_narrow.blocks.process_few: @ @gcm_v6m.aes_narrow.blocks.process_few
+gcm_v6m.aes_narrow.blocks.process_filled_up: @ @gcm_v6m.aes_narrow.blocks.process_filled_up
 	.fnstart
 @ %bb.0:                                @ %start
 	.save	{r4, r5, r6, r7, lr}
@@ -5319,7 +5319,7 @@ gcm_v6m.aes_narrow.blocks.process_few: @ @gcm_v6m.aes_narrow.blocks.process_few
 	adds	r1, #16
 	movs	r2, #16
 	bl	memcpy
-.Lgcm_v6m_BB14_3:                               @ %"aes_narrow::blocks::batch_of_few::<#ee324ebdabaa1892>.exit"
+.Lgcm_v6m_BB14_3:                               @ %"aes_narrow::blocks::filled_up::<#ee324ebdabaa1892>.exit"
 	str	r6, [sp, #4]                    @ 4-byte Spill
 	str	r5, [sp, #8]                    @ 4-byte Spill
 	ldr	r0, [sp, #144]
@@ -5643,7 +5643,7 @@ gcm_v6m.aes_narrow.blocks.process_few: @ @gcm_v6m.aes_narrow.blocks.process_few
 	movs	r2, #16
 	mov	r0, r4
 	bl	memcpy
-.Lgcm_v6m_BB14_6:                               @ %"aes_narrow::blocks::put_few::<#ee324ebdabaa1892>.exit"
+.Lgcm_v6m_BB14_6:                               @ %"aes_narrow::blocks::put_first::<#ee324ebdabaa1892>.exit"
 	add	sp, #164
 	pop	{r4, r5, r6, r7, pc}
 	.p2align	2
@@ -5655,7 +5655,7 @@ gcm_v6m.aes_narrow.blocks.process_few: @ @gcm_v6m.aes_narrow.blocks.process_few
 .Lgcm_v6m_CPI14_2:
 	.long	252645135                       @ 0xf0f0f0f
 .Lgcm_v6m_func_end14:
-	.size	gcm_v6m.aes_narrow.blocks.process_few, .Lgcm_v6m_func_end14-gcm_v6m.aes_narrow.blocks.process_few
+	.size	gcm_v6m.aes_narrow.blocks.process_filled_up, .Lgcm_v6m_func_end14-gcm_v6m.aes_narrow.blocks.process_filled_up
 	.cantunwind
 	.fnend
                                         @ -- End function
@@ -11087,7 +11087,7 @@ gcm_v6m.aes_narrow.borrowed_words.call_to_encrypt.1: @ @gcm_v6m.aes_narrow.borro
 	str	r4, [sp]
 	add	r3, sp, #40
 	ldm	r3, {r0, r2, r3}                @ 12-byte Folded Reload
-	bl	gcm_v6m.aes_narrow.blocks.process_few
+	bl	gcm_v6m.aes_narrow.blocks.process_filled_up
 	ldr	r2, [sp, #180]                  @ 4-byte Reload
 	str	r6, [sp, #188]                  @ 4-byte Spill
 	adds	r0, r2, r6
@@ -11592,7 +11592,7 @@ gcm_v6m.aes_ctr.add_in_batches.add_next.1: @ @gcm_v6m.aes_ctr.add_in_batches.add
 	str	r1, [sp, #12]
 	add	r1, sp, #164
 	str	r1, [sp]
-	bl	gcm_v6m.aes_narrow.blocks.process_few
+	bl	gcm_v6m.aes_narrow.blocks.process_filled_up
 	ldr	r0, [sp, #24]                   @ 4-byte Reload
 	adds	r0, r4, r0
 	str	r0, [sp, #160]                  @ 4-byte Spill
@@ -13710,7 +13710,7 @@ gcm_v6m.aes_narrow.borrowed_words.call_to_encrypt.2: @ @gcm_v6m.aes_narrow.borro
 	str	r6, [sp]
 	add	r3, sp, #48
 	ldm	r3, {r0, r2, r3}                @ 12-byte Folded Reload
-	bl	gcm_v6m.aes_narrow.blocks.process_few
+	bl	gcm_v6m.aes_narrow.blocks.process_filled_up
 	ldr	r3, [sp, #192]                  @ 4-byte Reload
 	ldr	r1, [sp, #196]                  @ 4-byte Reload
 	adds	r0, r3, r1
@@ -14147,7 +14147,7 @@ gcm_v6m.aes_ctr.add_in_batches.add_next.2: @ @gcm_v6m.aes_ctr.add_in_batches.add
 	str	r1, [sp, #12]
 	add	r1, sp, #164
 	str	r1, [sp]
-	bl	gcm_v6m.aes_narrow.blocks.process_few
+	bl	gcm_v6m.aes_narrow.blocks.process_filled_up
 	adds	r0, r4, r7
 	str	r0, [sp, #160]                  @ 4-byte Spill
 	movs	r1, #0
@@ -18835,5 +18835,5 @@ gcm_v6m.fotsgure_gcm_siv_wipe:                  @ @gcm_v6m.fotsgure_gcm_siv_wipe
 	.long	9, 118, 1
 	.asciz	"Fotsgure"
 	.p2align	2, 0x0
-	.asciz	"fotsgure_gcm 0.4.0, thumb/gcm_v6m.s, sources SHA-256 c5580fd5c08fd1ce251de00bc68bbabc41e05f02470d0c531f44ab6d5c423d70"
+	.asciz	"fotsgure_gcm 0.4.0, thumb/gcm_v6m.s, sources SHA-256 7ffbfed4fdc57d310dc7b2575290ae8baa1c67d9e3c172c81948d4bb9f7ef94b"
 	.p2align	2, 0x0

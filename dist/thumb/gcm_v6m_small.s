@@ -3365,7 +3365,7 @@ gcm_v6m_small.aes_narrow.blocks.process_in_batches: @ @gcm_v6m_small.aes_narrow.
 	str	r4, [sp, #8]
 	add	r3, sp, #32
 	ldm	r3, {r0, r2, r3}                @ 12-byte Folded Reload
-	bl	gcm_v6m_small.aes_narrow.blocks.process_few
+	bl	gcm_v6m_small.aes_narrow.blocks.process_filled_up
 	adds	r7, r4, r7
 	ldr	r1, [sp, #28]                   @ 4-byte Reload
 	adcs	r6, r1
@@ -3406,12 +3406,12 @@ gcm_v6m_small.aes_narrow.blocks.process_in_batches: @ @gcm_v6m_small.aes_narrow.
 	.cantunwind
 	.fnend
                                         @ -- End function
-	.section	.text.gcm_v6m_small.aes_narrow.blocks.process_few,"ax",%progbits
-	.p2align	1                               @ -- Begin function aes_narrow::blocks::process_few::<#f6c900d3ac1e47b9>
-	.type	gcm_v6m_small.aes_narrow.blocks.process_few,%function
+	.section	.text.gcm_v6m_small.aes_narrow.blocks.process_filled_up,"ax",%progbits
+	.p2align	1                               @ -- Begin function aes_narrow::blocks::process_filled_up::<#f6c900d3ac1e47b9>
+	.type	gcm_v6m_small.aes_narrow.blocks.process_filled_up,%function
 	.code	16
 	.thumb_func
-gcm_v6m_small.aes_narrow.blocks.process_few: @ @gcm_v6m_small.aes_narrow.blocks.process_few
+gcm_v6m_small.aes_narrow.blocks.process_filled_up: @ @gcm_v6m_small.aes_narrow.blocks.process_filled_up
 	.fnstart
 @ %bb.0:                                @ %start
 	.save	{r4, r5, r6, r7, lr}
@@ -3552,7 +3552,7 @@ gcm_v6m_small.aes_narrow.blocks.process_few: @ @gcm_v6m_small.aes_narrow.blocks.
 	adds	r1, #16
 	movs	r2, #16
 	bl	memcpy
-.Lgcm_v6m_small_BB33_3:                               @ %"aes_narrow::blocks::batch_of_few::<#ee324ebdabaa1892>.exit"
+.Lgcm_v6m_small_BB33_3:                               @ %"aes_narrow::blocks::filled_up::<#ee324ebdabaa1892>.exit"
 	str	r6, [sp, #8]                    @ 4-byte Spill
 	str	r5, [sp, #12]                   @ 4-byte Spill
 	ldr	r0, [sp, #132]
@@ -3676,11 +3676,11 @@ gcm_v6m_small.aes_narrow.blocks.process_few: @ @gcm_v6m_small.aes_narrow.blocks.
 	movs	r2, #16
 	mov	r0, r4
 	bl	memcpy
-.Lgcm_v6m_small_BB33_6:                               @ %"aes_narrow::blocks::put_few::<#ee324ebdabaa1892>.exit"
+.Lgcm_v6m_small_BB33_6:                               @ %"aes_narrow::blocks::put_first::<#ee324ebdabaa1892>.exit"
 	add	sp, #196
 	pop	{r4, r5, r6, r7, pc}
 .Lgcm_v6m_small_func_end33:
-	.size	gcm_v6m_small.aes_narrow.blocks.process_few, .Lgcm_v6m_small_func_end33-gcm_v6m_small.aes_narrow.blocks.process_few
+	.size	gcm_v6m_small.aes_narrow.blocks.process_filled_up, .Lgcm_v6m_small_func_end33-gcm_v6m_small.aes_narrow.blocks.process_filled_up
 	.cantunwind
 	.fnend
                                         @ -- End function
@@ -6947,7 +6947,7 @@ gcm_v6m_small.aes_ctr.add_in_batches.add_batch.1: @ @gcm_v6m_small.aes_ctr.add_i
 	lsls	r5, r5, #24
 	adds	r3, r5, r3
 	adds	r3, r3, r1
-	bl	gcm_v6m_small.aes_narrow.blocks.process_few
+	bl	gcm_v6m_small.aes_narrow.blocks.process_filled_up
 	movs	r0, #32
 	str	r0, [sp, #8]
 	mov	r2, r7
@@ -7138,7 +7138,7 @@ gcm_v6m_small.aes_ctr.keystream.fill_by_backend.1: @ @gcm_v6m_small.aes_ctr.keys
 	str	r2, [sp, #12]
 	str	r1, [sp]
 	mov	r2, r5
-	bl	gcm_v6m_small.aes_narrow.blocks.process_few
+	bl	gcm_v6m_small.aes_narrow.blocks.process_filled_up
 	add	sp, #68
 	pop	{r4, r5, r6, r7, pc}
 .Lgcm_v6m_small_func_end55:
@@ -9029,7 +9029,7 @@ gcm_v6m_small.aes_ctr.add_in_batches.add_batch.2: @ @gcm_v6m_small.aes_ctr.add_i
 	lsls	r4, r4, #24
 	adds	r3, r4, r3
 	adds	r3, r3, r1
-	bl	gcm_v6m_small.aes_narrow.blocks.process_few
+	bl	gcm_v6m_small.aes_narrow.blocks.process_filled_up
 	movs	r0, #32
 	str	r0, [sp, #8]
 	str	r5, [sp, #12]
@@ -9216,7 +9216,7 @@ gcm_v6m_small.aes_ctr.keystream.fill_by_backend.2: @ @gcm_v6m_small.aes_ctr.keys
 	str	r1, [sp, #12]
 .Lgcm_v6m_small_BB70_3:                               @ %"aes_narrow::borrowed_words::BorrowedWordsBlockCipherEncBackend::encrypt_first_blocks::<#5b4689a38c32c9c5>.exit"
 	str	r6, [sp]
-	bl	gcm_v6m_small.aes_narrow.blocks.process_few
+	bl	gcm_v6m_small.aes_narrow.blocks.process_filled_up
 	add	sp, #52
 	pop	{r4, r5, r6, r7, pc}
 .Lgcm_v6m_small_func_end70:
@@ -13456,5 +13456,5 @@ gcm_v6m_small.fotsgure_gcm_siv_wipe:                  @ @gcm_v6m_small.fotsgure_
 	.long	9, 124, 1
 	.asciz	"Fotsgure"
 	.p2align	2, 0x0
-	.asciz	"fotsgure_gcm 0.4.0, thumb/gcm_v6m_small.s, sources SHA-256 c5580fd5c08fd1ce251de00bc68bbabc41e05f02470d0c531f44ab6d5c423d70"
+	.asciz	"fotsgure_gcm 0.4.0, thumb/gcm_v6m_small.s, sources SHA-256 7ffbfed4fdc57d310dc7b2575290ae8baa1c67d9e3c172c81948d4bb9f7ef94b"
 	.p2align	2, 0x0

@@ -3115,7 +3115,7 @@ gcm_v7m.aes_narrow.blocks.process_in_batches: @ @gcm_v7m.aes_narrow.blocks.proce
 	mov.w	r6, #0
 	adc	r5, r5, #0
 	strd	r1, r6, [sp, #8]
-	bl	gcm_v7m.aes_narrow.blocks.process_few
+	bl	gcm_v7m.aes_narrow.blocks.process_filled_up
 	subs.w	r0, r8, r4
 	sbcs.w	r0, r5, r7
 	blo	.Lgcm_v7m_BB12_1
@@ -3127,12 +3127,12 @@ gcm_v7m.aes_narrow.blocks.process_in_batches: @ @gcm_v7m.aes_narrow.blocks.proce
 	.cantunwind
 	.fnend
                                         @ -- End function
-	.section	.text.gcm_v7m.aes_narrow.blocks.process_few,"ax",%progbits
-	.p2align	2                               @ -- Begin function aes_narrow::blocks::process_few::<#f6c900d3ac1e47b9>
-	.type	gcm_v7m.aes_narrow.blocks.process_few,%function
+	.section	.text.gcm_v7m.aes_narrow.blocks.process_filled_up,"ax",%progbits
+	.p2align	2                               @ -- Begin function aes_narrow::blocks::process_filled_up::<#f6c900d3ac1e47b9>
+	.type	gcm_v7m.aes_narrow.blocks.process_filled_up,%function
 	.code	16
 	.thumb_func
-gcm_v7m.aes_narrow.blocks.process_few: @ @gcm_v7m.aes_narrow.blocks.process_few
+gcm_v7m.aes_narrow.blocks.process_filled_up: @ @gcm_v7m.aes_narrow.blocks.process_filled_up
 	.fnstart
 @ %bb.0:                                @ %start
 	.save	{r4, r5, r6, r7, r8, r9, r10, r11, lr}
@@ -3184,7 +3184,7 @@ gcm_v7m.aes_narrow.blocks.process_few: @ @gcm_v7m.aes_narrow.blocks.process_few
 	ldr	r5, [r4, #24]
 	strd	r1, r7, [sp, #92]
 	strd	r5, r6, [sp, #100]
-.Lgcm_v7m_BB13_3:                               @ %"aes_narrow::blocks::batch_of_few::<#ee324ebdabaa1892>.exit"
+.Lgcm_v7m_BB13_3:                               @ %"aes_narrow::blocks::filled_up::<#ee324ebdabaa1892>.exit"
 	add.w	r12, sp, #92
 	ldm.w	r12, {r1, r7, r12}
 	ldrd	r5, r4, [sp, #76]
@@ -3326,11 +3326,11 @@ gcm_v7m.aes_narrow.blocks.process_few: @ @gcm_v7m.aes_narrow.blocks.process_few
 	str.w	r3, [r12, #24]
 	str.w	r1, [r12, #20]
 	str.w	r0, [r12, #16]
-.Lgcm_v7m_BB13_6:                               @ %"aes_narrow::blocks::put_few::<#ee324ebdabaa1892>.exit"
+.Lgcm_v7m_BB13_6:                               @ %"aes_narrow::blocks::put_first::<#ee324ebdabaa1892>.exit"
 	add	sp, #108
 	pop.w	{r4, r5, r6, r7, r8, r9, r10, r11, pc}
 .Lgcm_v7m_func_end13:
-	.size	gcm_v7m.aes_narrow.blocks.process_few, .Lgcm_v7m_func_end13-gcm_v7m.aes_narrow.blocks.process_few
+	.size	gcm_v7m.aes_narrow.blocks.process_filled_up, .Lgcm_v7m_func_end13-gcm_v7m.aes_narrow.blocks.process_filled_up
 	.cantunwind
 	.fnend
                                         @ -- End function
@@ -6513,7 +6513,7 @@ gcm_v7m.aes_narrow.borrowed_words.call_to_encrypt.1: @ @gcm_v7m.aes_narrow.borro
 	mov	r3, r7
 	add	r1, sp, #124
 	str	r1, [sp]
-	bl	gcm_v7m.aes_narrow.blocks.process_few
+	bl	gcm_v7m.aes_narrow.blocks.process_filled_up
 	ldrb.w	lr, [r5, #1]
 	ldrb.w	r1, [sp, #125]
 	ldrb	r7, [r5, #2]
@@ -6842,7 +6842,7 @@ gcm_v7m.aes_ctr.add_in_batches.add_next.1: @ @gcm_v7m.aes_ctr.add_in_batches.add
 	moveq	r1, #1
 	strd	r1, r7, [sp, #8]
 	str	r4, [sp]
-	bl	gcm_v7m.aes_narrow.blocks.process_few
+	bl	gcm_v7m.aes_narrow.blocks.process_filled_up
 	mov	r7, r4
 	ldr	r0, [sp, #376]
 	ldr	r4, [sp, #24]                   @ 4-byte Reload
@@ -8345,7 +8345,7 @@ gcm_v7m.aes_narrow.borrowed_words.call_to_encrypt.2: @ @gcm_v7m.aes_narrow.borro
 	mov	r3, r4
 	add	r1, sp, #140
 	str	r1, [sp]
-	bl	gcm_v7m.aes_narrow.blocks.process_few
+	bl	gcm_v7m.aes_narrow.blocks.process_filled_up
 	ldrb.w	r2, [r8, r7]
 	ldrb.w	r4, [sp, #140]
 	ldrb.w	r0, [r11, #10]
@@ -8612,7 +8612,7 @@ gcm_v7m.aes_ctr.add_in_batches.add_next.2: @ @gcm_v7m.aes_ctr.add_in_batches.add
 	moveq	r1, #1
 	strd	r1, r9, [sp, #8]
 	str.w	r8, [sp]
-	bl	gcm_v7m.aes_narrow.blocks.process_few
+	bl	gcm_v7m.aes_narrow.blocks.process_filled_up
 	ldr	r0, [sp, #376]
 	ldr	r4, [sp, #20]                   @ 4-byte Reload
 	mov	r7, r8
@@ -11999,5 +11999,5 @@ gcm_v7m.fotsgure_gcm_siv_wipe:                  @ @gcm_v7m.fotsgure_gcm_siv_wipe
 	.long	9, 118, 1
 	.asciz	"Fotsgure"
 	.p2align	2, 0x0
-	.asciz	"fotsgure_gcm 0.4.0, thumb/gcm_v7m.s, sources SHA-256 c5580fd5c08fd1ce251de00bc68bbabc41e05f02470d0c531f44ab6d5c423d70"
+	.asciz	"fotsgure_gcm 0.4.0, thumb/gcm_v7m.s, sources SHA-256 7ffbfed4fdc57d310dc7b2575290ae8baa1c67d9e3c172c81948d4bb9f7ef94b"
 	.p2align	2, 0x0

@@ -2275,7 +2275,7 @@ gcm_v7m_small.aes_narrow.blocks.process_in_batches: @ @gcm_v7m_small.aes_narrow.
 	mov.w	r6, #0
 	adc	r5, r5, #0
 	strd	r1, r6, [sp, #8]
-	bl	gcm_v7m_small.aes_narrow.blocks.process_few
+	bl	gcm_v7m_small.aes_narrow.blocks.process_filled_up
 	subs.w	r0, r8, r4
 	sbcs.w	r0, r5, r7
 	blo	.Lgcm_v7m_small_BB31_1
@@ -2287,12 +2287,12 @@ gcm_v7m_small.aes_narrow.blocks.process_in_batches: @ @gcm_v7m_small.aes_narrow.
 	.cantunwind
 	.fnend
                                         @ -- End function
-	.section	.text.gcm_v7m_small.aes_narrow.blocks.process_few,"ax",%progbits
-	.p2align	2                               @ -- Begin function aes_narrow::blocks::process_few::<#f6c900d3ac1e47b9>
-	.type	gcm_v7m_small.aes_narrow.blocks.process_few,%function
+	.section	.text.gcm_v7m_small.aes_narrow.blocks.process_filled_up,"ax",%progbits
+	.p2align	2                               @ -- Begin function aes_narrow::blocks::process_filled_up::<#f6c900d3ac1e47b9>
+	.type	gcm_v7m_small.aes_narrow.blocks.process_filled_up,%function
 	.code	16
 	.thumb_func
-gcm_v7m_small.aes_narrow.blocks.process_few: @ @gcm_v7m_small.aes_narrow.blocks.process_few
+gcm_v7m_small.aes_narrow.blocks.process_filled_up: @ @gcm_v7m_small.aes_narrow.blocks.process_filled_up
 	.fnstart
 @ %bb.0:                                @ %start
 	.save	{r4, r5, r6, r7, r8, r9, r10, r11, lr}
@@ -2349,7 +2349,7 @@ gcm_v7m_small.aes_narrow.blocks.process_few: @ @gcm_v7m_small.aes_narrow.blocks.
 	ldr.w	r1, [r8, #20]
 	ldr.w	r3, [r8, #24]
 	stm	r2!, {r0, r1, r3}
-.Lgcm_v7m_small_BB32_3:                               @ %"aes_narrow::blocks::batch_of_few::<#ee324ebdabaa1892>.exit"
+.Lgcm_v7m_small_BB32_3:                               @ %"aes_narrow::blocks::filled_up::<#ee324ebdabaa1892>.exit"
 	add	r7, sp, #108
 	ldm	r7, {r0, r1, r2, r3, r7}
 	ldrd	r4, r6, [sp, #128]
@@ -2408,11 +2408,11 @@ gcm_v7m_small.aes_narrow.blocks.process_few: @ @gcm_v7m_small.aes_narrow.blocks.
 	str.w	r3, [r8, #24]
 	str.w	r1, [r8, #20]
 	str.w	r0, [r8, #16]
-.Lgcm_v7m_small_BB32_6:                               @ %"aes_narrow::blocks::put_few::<#ee324ebdabaa1892>.exit"
+.Lgcm_v7m_small_BB32_6:                               @ %"aes_narrow::blocks::put_first::<#ee324ebdabaa1892>.exit"
 	add	sp, #172
 	pop.w	{r4, r5, r6, r7, r8, r9, r10, r11, pc}
 .Lgcm_v7m_small_func_end32:
-	.size	gcm_v7m_small.aes_narrow.blocks.process_few, .Lgcm_v7m_small_func_end32-gcm_v7m_small.aes_narrow.blocks.process_few
+	.size	gcm_v7m_small.aes_narrow.blocks.process_filled_up, .Lgcm_v7m_small_func_end32-gcm_v7m_small.aes_narrow.blocks.process_filled_up
 	.cantunwind
 	.fnend
                                         @ -- End function
@@ -4507,7 +4507,7 @@ gcm_v7m_small.aes_ctr.add_in_batches.add_batch.1: @ @gcm_v7m_small.aes_ctr.add_i
 	movs	r1, #2
 	strd	r1, r9, [sp, #8]
 	str	r4, [sp]
-	bl	gcm_v7m_small.aes_narrow.blocks.process_few
+	bl	gcm_v7m_small.aes_narrow.blocks.process_filled_up
 	movs	r0, #32
 	strd	r0, r9, [sp, #8]
 	mov	r0, r4
@@ -4610,7 +4610,7 @@ gcm_v7m_small.aes_ctr.keystream.fill_by_backend.1: @ @gcm_v7m_small.aes_ctr.keys
 	strd	r7, r0, [sp, #8]
 	mov	r0, r1
 	str.w	r12, [sp]
-	bl	gcm_v7m_small.aes_narrow.blocks.process_few
+	bl	gcm_v7m_small.aes_narrow.blocks.process_filled_up
 	add	sp, #20
 	pop.w	{r4, r5, r6, r7, r8, r9, r10, r11, pc}
 .Lgcm_v7m_small_func_end54:
@@ -5831,7 +5831,7 @@ gcm_v7m_small.aes_ctr.add_in_batches.add_batch.2: @ @gcm_v7m_small.aes_ctr.add_i
 	movs	r1, #2
 	strd	r1, r9, [sp, #8]
 	str	r4, [sp]
-	bl	gcm_v7m_small.aes_narrow.blocks.process_few
+	bl	gcm_v7m_small.aes_narrow.blocks.process_filled_up
 	movs	r0, #32
 	strd	r0, r9, [sp, #8]
 	mov	r0, r4
@@ -5898,7 +5898,7 @@ gcm_v7m_small.aes_ctr.keystream.fill_by_backend.2: @ @gcm_v7m_small.aes_ctr.keys
 	strd	r6, r0, [sp, #8]
 	mov	r0, r1
 	str.w	r12, [sp]
-	bl	gcm_v7m_small.aes_narrow.blocks.process_few
+	bl	gcm_v7m_small.aes_narrow.blocks.process_filled_up
 	add	sp, #40
 	pop	{r4, r5, r6, pc}
 .Lgcm_v7m_small_func_end70:
@@ -8955,5 +8955,5 @@ gcm_v7m_small.fotsgure_gcm_siv_wipe:                  @ @gcm_v7m_small.fotsgure_
 	.long	9, 124, 1
 	.asciz	"Fotsgure"
 	.p2align	2, 0x0
-	.asciz	"fotsgure_gcm 0.4.0, thumb/gcm_v7m_small.s, sources SHA-256 c5580fd5c08fd1ce251de00bc68bbabc41e05f02470d0c531f44ab6d5c423d70"
+	.asciz	"fotsgure_gcm 0.4.0, thumb/gcm_v7m_small.s, sources SHA-256 7ffbfed4fdc57d310dc7b2575290ae8baa1c67d9e3c172c81948d4bb9f7ef94b"
 	.p2align	2, 0x0

@@ -10,7 +10,7 @@
 	.functype	aes_cipher__zeroize__stack__wipe_stack____768_ () -> ()
 	.functype	aes_ctr__add_in_batches__add_keystream____4f733d09d7f6c6b4_ (i32, i32, i64, i32, i64) -> ()
 	.functype	aes_narrow__blocks__process_in_batches____1a21aa7f601e7603_ (i32, i64, i32, i64) -> ()
-	.functype	aes_narrow__blocks__process_few____1a21aa7f601e7603_ (i32, i64, i32, i64) -> ()
+	.functype	aes_narrow__blocks__process_filled_up____1a21aa7f601e7603_ (i32, i64, i32, i64) -> ()
 	.functype	aes_narrow__blocks__process_state____1a21aa7f601e7603_ (i32, i64, i32) -> ()
 	.functype	aes_planes__soft__word__word32__U32Word__turn_planes (i32, i32, i32, i32) -> ()
 	.functype	aes_planes__soft__word__word32__U32Word__rotate_rows_and_columns (i32, i32, i32) -> (i32)
@@ -29,7 +29,7 @@
 	.functype	aes_cipher__zeroize__stack__wipe_stack____512_ () -> ()
 	.functype	key_wrap__padded__wrap_padded____4f733d09d7f6c6b4_ (i32, i32, i64, i32, i64) -> (i32)
 	.functype	aes_narrow__borrowed_words__call_to_decrypt____a8a74a144d92a363_ (i32, i64, i32) -> ()
-	.functype	aes_narrow__blocks__process_few____a3dcb71d05bd149b_ (i32, i64, i32, i64) -> ()
+	.functype	aes_narrow__blocks__process_filled_up____a3dcb71d05bd149b_ (i32, i64, i32, i64) -> ()
 	.functype	aes_narrow__blocks__process_state____a3dcb71d05bd149b_ (i32, i64, i32) -> ()
 	.functype	aes_c__blocks__fotsgure_aes_decrypt_blocks (i32, i32, i64) -> (i32)
 	.functype	aes_narrow__blocks__process_in_batches____a3dcb71d05bd149b_ (i32, i64, i32, i64) -> ()
@@ -5862,7 +5862,7 @@ aes_narrow__blocks__process_in_batches____1a21aa7f601e7603_: # @aes_narrow__bloc
 	i64.lt_u
 	i64.select
 	local.tee	5
-	call	aes_narrow__blocks__process_few____1a21aa7f601e7603_
+	call	aes_narrow__blocks__process_filled_up____1a21aa7f601e7603_
 	local.get	5
 	local.get	4
 	i64.add 
@@ -5876,10 +5876,10 @@ aes_narrow__blocks__process_in_batches____1a21aa7f601e7603_: # @aes_narrow__bloc
                                         # fallthrough-return
 	end_function
                                         # -- End function
-	.section	.text.aes_narrow__blocks__process_few____1a21aa7f601e7603_,"",@
-	.type	aes_narrow__blocks__process_few____1a21aa7f601e7603_,@function # -- Begin function aes_narrow__blocks__process_few____1a21aa7f601e7603_
-aes_narrow__blocks__process_few____1a21aa7f601e7603_: # @aes_narrow__blocks__process_few____1a21aa7f601e7603_
-	.functype	aes_narrow__blocks__process_few____1a21aa7f601e7603_ (i32, i64, i32, i64) -> ()
+	.section	.text.aes_narrow__blocks__process_filled_up____1a21aa7f601e7603_,"",@
+	.type	aes_narrow__blocks__process_filled_up____1a21aa7f601e7603_,@function # -- Begin function aes_narrow__blocks__process_filled_up____1a21aa7f601e7603_
+aes_narrow__blocks__process_filled_up____1a21aa7f601e7603_: # @aes_narrow__blocks__process_filled_up____1a21aa7f601e7603_
+	.functype	aes_narrow__blocks__process_filled_up____1a21aa7f601e7603_ (i32, i64, i32, i64) -> ()
 	.local  	i32, i32, i32, i32, i32, i32, i32, i32, i32, i32, i32, i32, i32, i32, i32, i32, i32, i32, i32, i32, i32, i32, i32, i32, i32, i32, i32, i32, i32, i32, i32, i32, i32, i32
 # %bb.0:                                # %start
 	global.get	__stack_pointer
@@ -6088,7 +6088,7 @@ aes_narrow__blocks__process_few____1a21aa7f601e7603_: # @aes_narrow__blocks__pro
 	local.get	2
 	i32.load8_u	16
 	local.set	20
-.LBB6_4:                                # %aes_narrow__blocks__batch_of_few____7d3b633001169d8c_.exit
+.LBB6_4:                                # %aes_narrow__blocks__filled_up____7d3b633001169d8c_.exit
 	end_block                               # label25:
 	local.get	4
 	local.get	7
@@ -6663,7 +6663,7 @@ aes_narrow__blocks__process_few____1a21aa7f601e7603_: # @aes_narrow__blocks__pro
 	local.get	6
 	i32.xor 
 	i32.store	16:p2align=0
-.LBB6_7:                                # %aes_narrow__blocks__put_few____7d3b633001169d8c_.exit
+.LBB6_7:                                # %aes_narrow__blocks__put_first____7d3b633001169d8c_.exit
 	end_block                               # label27:
 	local.get	4
 	i32.const	32
@@ -11861,7 +11861,7 @@ aes_narrow__borrowed_words__call_to_encrypt____b6a72634b88802f3_: # @aes_narrow_
 	i32.const	16
 	i32.add 
 	i64.const	2
-	call	aes_narrow__blocks__process_few____1a21aa7f601e7603_
+	call	aes_narrow__blocks__process_filled_up____1a21aa7f601e7603_
 	local.get	2
 	i32.load8_u	0
 	local.set	15
@@ -12628,7 +12628,7 @@ aes_ctr__add_in_batches__add_next____a8e061590e9ece31_: # @aes_ctr__add_in_batch
 	local.get	7
 	local.get	6
 	i64.const	1
-	call	aes_narrow__blocks__process_few____1a21aa7f601e7603_
+	call	aes_narrow__blocks__process_filled_up____1a21aa7f601e7603_
 	br      	1                               # 1: down to label40
 .LBB12_2:                               # %else.2.i.i.i
 	end_block                               # label41:
@@ -12636,7 +12636,7 @@ aes_ctr__add_in_batches__add_next____a8e061590e9ece31_: # @aes_ctr__add_in_batch
 	local.get	7
 	local.get	6
 	i64.const	2
-	call	aes_narrow__blocks__process_few____1a21aa7f601e7603_
+	call	aes_narrow__blocks__process_filled_up____1a21aa7f601e7603_
 .LBB12_3:                               # %aes_ctr__keystream__fill_by_backend____a8e061590e9ece31_.exit
 	end_block                               # label40:
 	local.get	4
@@ -15638,7 +15638,7 @@ aes_narrow__borrowed_words__call_to_decrypt____a8a74a144d92a363_: # @aes_narrow_
 	local.get	1
 	local.get	14
 	i64.const	2
-	call	aes_narrow__blocks__process_few____a3dcb71d05bd149b_
+	call	aes_narrow__blocks__process_filled_up____a3dcb71d05bd149b_
 	local.get	14
 	i32.const	32
 	i32.add 
@@ -15690,7 +15690,7 @@ aes_narrow__borrowed_words__call_to_decrypt____a8a74a144d92a363_: # @aes_narrow_
 	local.get	1
 	local.get	14
 	i64.const	1
-	call	aes_narrow__blocks__process_few____a3dcb71d05bd149b_
+	call	aes_narrow__blocks__process_filled_up____a3dcb71d05bd149b_
 	local.get	14
 	i32.const	16
 	i32.add 
@@ -16049,10 +16049,10 @@ aes_narrow__borrowed_words__call_to_decrypt____a8a74a144d92a363_: # @aes_narrow_
                                         # fallthrough-return
 	end_function
                                         # -- End function
-	.section	.text.aes_narrow__blocks__process_few____a3dcb71d05bd149b_,"",@
-	.type	aes_narrow__blocks__process_few____a3dcb71d05bd149b_,@function # -- Begin function aes_narrow__blocks__process_few____a3dcb71d05bd149b_
-aes_narrow__blocks__process_few____a3dcb71d05bd149b_: # @aes_narrow__blocks__process_few____a3dcb71d05bd149b_
-	.functype	aes_narrow__blocks__process_few____a3dcb71d05bd149b_ (i32, i64, i32, i64) -> ()
+	.section	.text.aes_narrow__blocks__process_filled_up____a3dcb71d05bd149b_,"",@
+	.type	aes_narrow__blocks__process_filled_up____a3dcb71d05bd149b_,@function # -- Begin function aes_narrow__blocks__process_filled_up____a3dcb71d05bd149b_
+aes_narrow__blocks__process_filled_up____a3dcb71d05bd149b_: # @aes_narrow__blocks__process_filled_up____a3dcb71d05bd149b_
+	.functype	aes_narrow__blocks__process_filled_up____a3dcb71d05bd149b_ (i32, i64, i32, i64) -> ()
 	.local  	i32, i32, i32, i32, i32, i32, i32, i32, i32, i32, i32, i32, i32, i32, i32, i32, i32, i32, i32, i32, i32, i32, i32, i32, i32, i32, i32, i32, i32, i32, i32, i32, i32, i32
 # %bb.0:                                # %start
 	global.get	__stack_pointer
@@ -16261,7 +16261,7 @@ aes_narrow__blocks__process_few____a3dcb71d05bd149b_: # @aes_narrow__blocks__pro
 	local.get	2
 	i32.load8_u	16
 	local.set	20
-.LBB25_4:                               # %aes_narrow__blocks__batch_of_few____7d3b633001169d8c_.exit
+.LBB25_4:                               # %aes_narrow__blocks__filled_up____7d3b633001169d8c_.exit
 	end_block                               # label88:
 	local.get	4
 	local.get	7
@@ -16836,7 +16836,7 @@ aes_narrow__blocks__process_few____a3dcb71d05bd149b_: # @aes_narrow__blocks__pro
 	local.get	6
 	i32.xor 
 	i32.store	16:p2align=0
-.LBB25_7:                               # %aes_narrow__blocks__put_few____7d3b633001169d8c_.exit
+.LBB25_7:                               # %aes_narrow__blocks__put_first____7d3b633001169d8c_.exit
 	end_block                               # label90:
 	local.get	4
 	i32.const	32
@@ -22210,7 +22210,7 @@ aes_narrow__blocks__process_in_batches____a3dcb71d05bd149b_: # @aes_narrow__bloc
 	i64.lt_u
 	i64.select
 	local.tee	5
-	call	aes_narrow__blocks__process_few____a3dcb71d05bd149b_
+	call	aes_narrow__blocks__process_filled_up____a3dcb71d05bd149b_
 	local.get	5
 	local.get	4
 	i64.add 

@@ -21,7 +21,7 @@
 	.functype	aes_cipher__zeroize__stack__wipe_stack____512_ () -> ()
 	.functype	gcm__mode__BorrowedGcm__put_tag_so_far____c01aad2b5fbc92b1_ (i32, i32, i32) -> ()
 	.functype	aes_narrow__blocks__process_in_batches____f6c900d3ac1e47b9_ (i32, i64, i32, i64) -> ()
-	.functype	aes_narrow__blocks__process_few____f6c900d3ac1e47b9_ (i32, i64, i32, i64) -> ()
+	.functype	aes_narrow__blocks__process_filled_up____f6c900d3ac1e47b9_ (i32, i64, i32, i64) -> ()
 	.functype	aes_narrow__blocks__process_state____f6c900d3ac1e47b9_ (i32, i64, i32) -> ()
 	.functype	aes_planes__soft__word__word32__U32Word__turn_planes (i32, i32, i32, i32) -> ()
 	.functype	aes_planes__soft__word__word32__U32Word__rotate_rows_and_columns (i32, i32, i32) -> (i32)
@@ -6636,7 +6636,7 @@ aes_narrow__blocks__process_in_batches____f6c900d3ac1e47b9_: # @aes_narrow__bloc
 	i64.lt_u
 	i64.select
 	local.tee	5
-	call	aes_narrow__blocks__process_few____f6c900d3ac1e47b9_
+	call	aes_narrow__blocks__process_filled_up____f6c900d3ac1e47b9_
 	local.get	5
 	local.get	4
 	i64.add 
@@ -6649,10 +6649,10 @@ aes_narrow__blocks__process_in_batches____f6c900d3ac1e47b9_: # @aes_narrow__bloc
                                         # fallthrough-return
 	end_function
                                         # -- End function
-	.section	.text.aes_narrow__blocks__process_few____f6c900d3ac1e47b9_,"",@
-	.type	aes_narrow__blocks__process_few____f6c900d3ac1e47b9_,@function # -- Begin function aes_narrow__blocks__process_few____f6c900d3ac1e47b9_
-aes_narrow__blocks__process_few____f6c900d3ac1e47b9_: # @aes_narrow__blocks__process_few____f6c900d3ac1e47b9_
-	.functype	aes_narrow__blocks__process_few____f6c900d3ac1e47b9_ (i32, i64, i32, i64) -> ()
+	.section	.text.aes_narrow__blocks__process_filled_up____f6c900d3ac1e47b9_,"",@
+	.type	aes_narrow__blocks__process_filled_up____f6c900d3ac1e47b9_,@function # -- Begin function aes_narrow__blocks__process_filled_up____f6c900d3ac1e47b9_
+aes_narrow__blocks__process_filled_up____f6c900d3ac1e47b9_: # @aes_narrow__blocks__process_filled_up____f6c900d3ac1e47b9_
+	.functype	aes_narrow__blocks__process_filled_up____f6c900d3ac1e47b9_ (i32, i64, i32, i64) -> ()
 	.local  	i32, i32, i32, i32, i32, i32, i32, i32, i32, i32, i32, i32, i32, i32, i32, i32, i32, i32, i32, i32, i32, i32, i32, i32, i32, i32, i32, i32, i32, i32, i32, i32, i32, i32
 # %bb.0:                                # %start
 	global.get	__stack_pointer
@@ -6861,7 +6861,7 @@ aes_narrow__blocks__process_few____f6c900d3ac1e47b9_: # @aes_narrow__blocks__pro
 	local.get	2
 	i32.load8_u	16
 	local.set	20
-.LBB17_4:                               # %aes_narrow__blocks__batch_of_few____ee324ebdabaa1892_.exit
+.LBB17_4:                               # %aes_narrow__blocks__filled_up____ee324ebdabaa1892_.exit
 	end_block                               # label29:
 	local.get	4
 	local.get	7
@@ -7436,7 +7436,7 @@ aes_narrow__blocks__process_few____f6c900d3ac1e47b9_: # @aes_narrow__blocks__pro
 	local.get	6
 	i32.xor 
 	i32.store	16:p2align=0
-.LBB17_7:                               # %aes_narrow__blocks__put_few____ee324ebdabaa1892_.exit
+.LBB17_7:                               # %aes_narrow__blocks__put_first____ee324ebdabaa1892_.exit
 	end_block                               # label31:
 	local.get	4
 	i32.const	32
@@ -14388,7 +14388,7 @@ aes_narrow__borrowed_words__call_to_encrypt____1305835a18aa05db_: # @aes_narrow_
 	i32.const	16
 	i32.add 
 	i64.const	2
-	call	aes_narrow__blocks__process_few____f6c900d3ac1e47b9_
+	call	aes_narrow__blocks__process_filled_up____f6c900d3ac1e47b9_
 	local.get	2
 	i32.load8_u	0
 	local.set	13
@@ -15672,7 +15672,7 @@ aes_narrow__borrowed_words__BorrowedWordsBlockCipherEncBackend__encrypt_first_bl
 	local.get	3
 	local.get	2
 	i64.const	1
-	call	aes_narrow__blocks__process_few____f6c900d3ac1e47b9_
+	call	aes_narrow__blocks__process_filled_up____f6c900d3ac1e47b9_
 	return
 .LBB31_2:                               # %else.2.i
 	end_block                               # label66:
@@ -15680,7 +15680,7 @@ aes_narrow__borrowed_words__BorrowedWordsBlockCipherEncBackend__encrypt_first_bl
 	local.get	3
 	local.get	2
 	i64.const	2
-	call	aes_narrow__blocks__process_few____f6c900d3ac1e47b9_
+	call	aes_narrow__blocks__process_filled_up____f6c900d3ac1e47b9_
                                         # fallthrough-return
 	end_function
                                         # -- End function
@@ -17657,7 +17657,7 @@ aes_narrow__borrowed_words__call_to_encrypt____d0e731d912aff965_: # @aes_narrow_
 	i32.const	16
 	i32.add 
 	i64.const	2
-	call	aes_narrow__blocks__process_few____f6c900d3ac1e47b9_
+	call	aes_narrow__blocks__process_filled_up____f6c900d3ac1e47b9_
 	local.get	2
 	i32.load8_u	0
 	local.set	15

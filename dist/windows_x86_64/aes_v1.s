@@ -2386,7 +2386,7 @@ aes_v1.aes_narrow.blocks.process_in_batches.1: # @aes_v1.aes_narrow.blocks.proce
 	addq	%r14, %rdx
 	movq	%r12, %rdi
 	movq	%r15, %rsi
-	callq	aes_v1.aes_narrow.blocks.process_few.1
+	callq	aes_v1.aes_narrow.blocks.process_filled_up.1
 	movq	%r13, %rdx
 	cmpq	%rbx, %r13
 	jb	.Laes_v1_BB4_2
@@ -2399,12 +2399,12 @@ aes_v1.aes_narrow.blocks.process_in_batches.1: # @aes_v1.aes_narrow.blocks.proce
 	retq
 	.seh_endproc
                                         # -- End function
-	.def	aes_v1.aes_narrow.blocks.process_few.1;
+	.def	aes_v1.aes_narrow.blocks.process_filled_up.1;
 	.scl	3;
 	.type	32;
 	.endef
 	.section	.rdata,"dr"
-	.p2align	4, 0x0                          # -- Begin function aes_narrow::blocks::process_few::<#1a21aa7f601e7603>
+	.p2align	4, 0x0                          # -- Begin function aes_narrow::blocks::process_filled_up::<#1a21aa7f601e7603>
 .Laes_v1_CPI5_0:
 	.long	252645135                       # 0xf0f0f0f
 	.long	252645135                       # 0xf0f0f0f
@@ -2412,8 +2412,8 @@ aes_v1.aes_narrow.blocks.process_in_batches.1: # @aes_v1.aes_narrow.blocks.proce
 	.zero	4
 	.text
 	.p2align	4
-aes_v1.aes_narrow.blocks.process_few.1: # @aes_v1.aes_narrow.blocks.process_few.1
-.seh_proc aes_v1.aes_narrow.blocks.process_few.1
+aes_v1.aes_narrow.blocks.process_filled_up.1: # @aes_v1.aes_narrow.blocks.process_filled_up.1
+.seh_proc aes_v1.aes_narrow.blocks.process_filled_up.1
 # %bb.0:                                # %start
 	pushq	%rbp
 	.seh_pushreg %rbp
@@ -2525,11 +2525,11 @@ aes_v1.aes_narrow.blocks.process_few.1: # @aes_v1.aes_narrow.blocks.process_few.
 	movzbl	29(%rbx), %ecx
 	movb	%cl, 11(%rsp)                   # 1-byte Spill
 	movzwl	30(%rbx), %edi
-.Laes_v1_BB5_5:                                # %"aes_narrow::blocks::batch_of_few::<#7d3b633001169d8c>.exit"
+.Laes_v1_BB5_5:                                # %"aes_narrow::blocks::filled_up::<#7d3b633001169d8c>.exit"
 	movzbl	14(%rsp), %edx                  # 1-byte Folded Reload
 	movzbl	13(%rsp), %ecx                  # 1-byte Folded Reload
 	movzbl	12(%rsp), %r9d                  # 1-byte Folded Reload
-.Laes_v1_BB5_6:                                # %"aes_narrow::blocks::batch_of_few::<#7d3b633001169d8c>.exit"
+.Laes_v1_BB5_6:                                # %"aes_narrow::blocks::filled_up::<#7d3b633001169d8c>.exit"
 	movzbl	%r9b, %ebp
 	shll	$8, %ebp
 	movzbl	%cl, %ecx
@@ -2793,7 +2793,7 @@ aes_v1.aes_narrow.blocks.process_few.1: # @aes_v1.aes_narrow.blocks.process_few.
 	punpcklqdq	%xmm4, %xmm2            # xmm2 = xmm2[0],xmm4[0]
 	pxor	%xmm0, %xmm2
 	movdqu	%xmm2, 16(%rbx)
-.Laes_v1_BB5_9:                                # %"aes_narrow::blocks::put_few::<#7d3b633001169d8c>.exit"
+.Laes_v1_BB5_9:                                # %"aes_narrow::blocks::put_first::<#7d3b633001169d8c>.exit"
 	addq	$88, %rsp
 	popq	%rbx
 	popq	%r12
@@ -5467,7 +5467,7 @@ aes_v1.aes_narrow.borrowed_words.call_to_encrypt: # @aes_v1.aes_narrow.borrowed_
 	movl	$2, %ecx
 	movq	16(%rsp), %rdi                  # 8-byte Reload
 	movq	24(%rsp), %rsi                  # 8-byte Reload
-	callq	aes_v1.aes_narrow.blocks.process_few.1
+	callq	aes_v1.aes_narrow.blocks.process_filled_up.1
 	movups	(%r12,%r13), %xmm0
 	xorps	48(%rsp), %xmm0
 	movups	16(%r12,%r13), %xmm1
@@ -5602,7 +5602,7 @@ aes_v1.aes_ctr.add_in_batches.add_next: # @aes_v1.aes_ctr.add_in_batches.add_nex
 	movl	$2, %ecx
 .Laes_v1_BB9_3:                                # %"aes_ctr::keystream::fill_by_backend::<#a8e061590e9ece31>.exit"
 	movq	%rax, %rdi
-	callq	aes_v1.aes_narrow.blocks.process_few.1
+	callq	aes_v1.aes_narrow.blocks.process_filled_up.1
 	leaq	(%r15,%rbx), %rax
 	testq	%r13, %r13
 	je	.Laes_v1_BB9_4
@@ -6809,7 +6809,7 @@ aes_v1.aes_narrow.borrowed_words.call_to_decrypt: # @aes_v1.aes_narrow.borrowed_
 	movq	%rbx, %rdi
 	movq	%r15, %rsi
 	movq	%rbp, %rdx
-	callq	aes_v1.aes_narrow.blocks.process_few.2
+	callq	aes_v1.aes_narrow.blocks.process_filled_up.2
 	addq	$32, %rbp
 	movq	80(%rsp), %rax                  # 8-byte Reload
 	addq	%r14, %rax
@@ -6840,7 +6840,7 @@ aes_v1.aes_narrow.borrowed_words.call_to_decrypt: # @aes_v1.aes_narrow.borrowed_
 	movq	72(%rsp), %rdi                  # 8-byte Reload
 	movq	64(%rsp), %rsi                  # 8-byte Reload
 	movq	%r13, %rdx
-	callq	aes_v1.aes_narrow.blocks.process_few.2
+	callq	aes_v1.aes_narrow.blocks.process_filled_up.2
 	addq	$16, %r13
 	decq	%rbp
 	jne	.Laes_v1_BB20_8
@@ -6891,12 +6891,12 @@ aes_v1.aes_narrow.borrowed_words.call_to_decrypt: # @aes_v1.aes_narrow.borrowed_
 	retq
 	.seh_endproc
                                         # -- End function
-	.def	aes_v1.aes_narrow.blocks.process_few.2;
+	.def	aes_v1.aes_narrow.blocks.process_filled_up.2;
 	.scl	3;
 	.type	32;
 	.endef
 	.section	.rdata,"dr"
-	.p2align	4, 0x0                          # -- Begin function aes_narrow::blocks::process_few::<#a3dcb71d05bd149b>
+	.p2align	4, 0x0                          # -- Begin function aes_narrow::blocks::process_filled_up::<#a3dcb71d05bd149b>
 .Laes_v1_CPI21_0:
 	.long	252645135                       # 0xf0f0f0f
 	.long	252645135                       # 0xf0f0f0f
@@ -6904,8 +6904,8 @@ aes_v1.aes_narrow.borrowed_words.call_to_decrypt: # @aes_v1.aes_narrow.borrowed_
 	.zero	4
 	.text
 	.p2align	4
-aes_v1.aes_narrow.blocks.process_few.2: # @aes_v1.aes_narrow.blocks.process_few.2
-.seh_proc aes_v1.aes_narrow.blocks.process_few.2
+aes_v1.aes_narrow.blocks.process_filled_up.2: # @aes_v1.aes_narrow.blocks.process_filled_up.2
+.seh_proc aes_v1.aes_narrow.blocks.process_filled_up.2
 # %bb.0:                                # %start
 	pushq	%rbp
 	.seh_pushreg %rbp
@@ -7017,11 +7017,11 @@ aes_v1.aes_narrow.blocks.process_few.2: # @aes_v1.aes_narrow.blocks.process_few.
 	movzbl	29(%rbx), %ecx
 	movb	%cl, 11(%rsp)                   # 1-byte Spill
 	movzwl	30(%rbx), %edi
-.Laes_v1_BB21_5:                               # %"aes_narrow::blocks::batch_of_few::<#7d3b633001169d8c>.exit"
+.Laes_v1_BB21_5:                               # %"aes_narrow::blocks::filled_up::<#7d3b633001169d8c>.exit"
 	movzbl	14(%rsp), %edx                  # 1-byte Folded Reload
 	movzbl	13(%rsp), %ecx                  # 1-byte Folded Reload
 	movzbl	12(%rsp), %r9d                  # 1-byte Folded Reload
-.Laes_v1_BB21_6:                               # %"aes_narrow::blocks::batch_of_few::<#7d3b633001169d8c>.exit"
+.Laes_v1_BB21_6:                               # %"aes_narrow::blocks::filled_up::<#7d3b633001169d8c>.exit"
 	movzbl	%r9b, %ebp
 	shll	$8, %ebp
 	movzbl	%cl, %ecx
@@ -7285,7 +7285,7 @@ aes_v1.aes_narrow.blocks.process_few.2: # @aes_v1.aes_narrow.blocks.process_few.
 	punpcklqdq	%xmm4, %xmm2            # xmm2 = xmm2[0],xmm4[0]
 	pxor	%xmm0, %xmm2
 	movdqu	%xmm2, 16(%rbx)
-.Laes_v1_BB21_9:                               # %"aes_narrow::blocks::put_few::<#7d3b633001169d8c>.exit"
+.Laes_v1_BB21_9:                               # %"aes_narrow::blocks::put_first::<#7d3b633001169d8c>.exit"
 	addq	$88, %rsp
 	popq	%rbx
 	popq	%r12
@@ -10449,7 +10449,7 @@ aes_v1.aes_narrow.blocks.process_in_batches.2: # @aes_v1.aes_narrow.blocks.proce
 	addq	%r14, %rdx
 	movq	%r12, %rdi
 	movq	%r15, %rsi
-	callq	aes_v1.aes_narrow.blocks.process_few.2
+	callq	aes_v1.aes_narrow.blocks.process_filled_up.2
 	movq	%r13, %rdx
 	cmpq	%rbx, %r13
 	jb	.Laes_v1_BB23_2
@@ -17305,4 +17305,4 @@ aes_v1.fotsgure_aes_ccm_seal:                  # @aes_v1.fotsgure_aes_ccm_seal
 
 
 	.section	.rdata,"dr"
-	.asciz	"fotsgure_aes 0.4.0, windows_x86_64/aes_v1.s, sources SHA-256 46921789358eaca23fa4ae4eea30ab0e26ba1bdf6ccb1d0247d98ca9f1c6b73d"
+	.asciz	"fotsgure_aes 0.4.0, windows_x86_64/aes_v1.s, sources SHA-256 568705d49fc313d51a3118f972883289c0abab049ad136132806690e516afe49"

@@ -1096,7 +1096,7 @@ gcm_v2.aes_permute.lane_keys.expand_lanes: # @gcm_v2.aes_permute.lane_keys.expan
 	.type	32;
 	.endef
 	.section	.rdata,"dr"
-	.p2align	4, 0x0                          # -- Begin function gcm::mode::BorrowedGcm::put_pre_counter::<#8bfc6ace315c867e>
+	.p2align	4, 0x0                          # -- Begin function gcm::mode::BorrowedGcm::put_pre_counter::<#e698720ccb2969c4>
 .Lgcm_v2_CPI5_0:
 	.byte	0                               # 0x0
 	.byte	0                               # 0x0
@@ -1258,7 +1258,7 @@ gcm_v2.gcm.mode.BorrowedGcm.put_pre_counter: # @gcm_v2.gcm.mode.BorrowedGcm.put_
 	xorl	%esi, %esi
 	xorl	%edx, %edx
 	movq	%r14, %r8
-	callq	gcm_v2.gcm.hash_room.RoomHashRoom.hash_on
+	callq	gcm_v2.gcm.hash_room.MultiplesRoomHashRoom.hash_on
 	movq	32(%r15), %rsi
 	movq	%r14, %xmm1
 	pshufd	$68, %xmm1, %xmm0               # xmm0 = xmm1[0,1,0,1]
@@ -1321,12 +1321,12 @@ gcm_v2.gcm.mode.BorrowedGcm.put_pre_counter: # @gcm_v2.gcm.mode.BorrowedGcm.put_
 	retq
 	.seh_endproc
                                         # -- End function
-	.def	gcm_v2.gcm.hash_room.RoomHashRoom.hash_on;
+	.def	gcm_v2.gcm.hash_room.MultiplesRoomHashRoom.hash_on;
 	.scl	3;
 	.type	32;
 	.endef
 	.section	.rdata,"dr"
-	.p2align	4, 0x0                          # -- Begin function gcm::hash_room::RoomHashRoom::hash_on
+	.p2align	4, 0x0                          # -- Begin function gcm::hash_room::MultiplesRoomHashRoom::hash_on
 .Lgcm_v2_CPI6_0:
 	.byte	15                              # 0xf
 	.byte	14                              # 0xe
@@ -1346,8 +1346,8 @@ gcm_v2.gcm.mode.BorrowedGcm.put_pre_counter: # @gcm_v2.gcm.mode.BorrowedGcm.put_
 	.byte	0                               # 0x0
 	.text
 	.p2align	4
-gcm_v2.gcm.hash_room.RoomHashRoom.hash_on: # @gcm_v2.gcm.hash_room.RoomHashRoom.hash_on
-.seh_proc gcm_v2.gcm.hash_room.RoomHashRoom.hash_on
+gcm_v2.gcm.hash_room.MultiplesRoomHashRoom.hash_on: # @gcm_v2.gcm.hash_room.MultiplesRoomHashRoom.hash_on
+.seh_proc gcm_v2.gcm.hash_room.MultiplesRoomHashRoom.hash_on
 # %bb.0:                                # %start
 	pushq	%rbp
 	.seh_pushreg %rbp
@@ -2143,7 +2143,7 @@ gcm_v2.aes_cipher.zeroize.stack.wipe_stack.512: # @gcm_v2.aes_cipher.zeroize.sta
 	.type	32;
 	.endef
 	.section	.rdata,"dr"
-	.p2align	4, 0x0                          # -- Begin function gcm::mode::BorrowedGcm::put_tag_so_far::<#8bfc6ace315c867e>
+	.p2align	4, 0x0                          # -- Begin function gcm::mode::BorrowedGcm::put_tag_so_far::<#e698720ccb2969c4>
 .Lgcm_v2_CPI11_0:
 	.byte	0                               # 0x0
 	.byte	0                               # 0x0
@@ -2632,7 +2632,7 @@ gcm_v2.gcm.tags.put_mask: # @gcm_v2.gcm.tags.put_mask
 	.scl	3;
 	.type	32;
 	.endef
-	.p2align	4                               # -- Begin function gcm::mode::BorrowedGcm::hash_what_came::<#8bfc6ace315c867e>
+	.p2align	4                               # -- Begin function gcm::mode::BorrowedGcm::hash_what_came::<#e698720ccb2969c4>
 gcm_v2.gcm.mode.BorrowedGcm.hash_what_came: # @gcm_v2.gcm.mode.BorrowedGcm.hash_what_came
 # %bb.0:                                # %start
 	movq	48(%rsi), %rdx
@@ -2646,14 +2646,14 @@ gcm_v2.gcm.mode.BorrowedGcm.hash_what_came: # @gcm_v2.gcm.mode.BorrowedGcm.hash_
 	bswapq	%rdx
 	leaq	64(%rsi), %rcx
 	movq	%rax, %rsi
-	jmp	gcm_v2.gcm.hash_room.RoomHashRoom.hash_on # TAILCALL
+	jmp	gcm_v2.gcm.hash_room.MultiplesRoomHashRoom.hash_on # TAILCALL
                                         # -- End function
 	.def	gcm_v2.gcm.mode.put_subkey;
 	.scl	3;
 	.type	32;
 	.endef
 	.section	.rdata,"dr"
-	.p2align	4, 0x0                          # -- Begin function gcm::mode::put_subkey::<#1ee4a1f63270783c>
+	.p2align	4, 0x0                          # -- Begin function gcm::mode::put_subkey::<#df66d58823e28773>
 .Lgcm_v2_CPI14_0:
 	.zero	16,15
 .Lgcm_v2_CPI14_1:
@@ -4721,7 +4721,7 @@ gcm_v2.gcm.multiples.put_table:            # @gcm_v2.gcm.multiples.put_table
 	.scl	3;
 	.type	32;
 	.endef
-	.p2align	4                               # -- Begin function gcm::mode::BorrowedGcm::compare::<#8bfc6ace315c867e>
+	.p2align	4                               # -- Begin function gcm::mode::BorrowedGcm::compare::<#e698720ccb2969c4>
 gcm_v2.gcm.mode.BorrowedGcm.compare: # @gcm_v2.gcm.mode.BorrowedGcm.compare
 .seh_proc gcm_v2.gcm.mode.BorrowedGcm.compare
 # %bb.0:                                # %start
@@ -4797,7 +4797,7 @@ gcm_v2.gcm.mode.BorrowedGcm.compare: # @gcm_v2.gcm.mode.BorrowedGcm.compare
 	.type	32;
 	.endef
 	.section	.rdata,"dr"
-	.p2align	4, 0x0                          # -- Begin function gcm::mode::BorrowedGcm::put_tag::<#8bfc6ace315c867e>
+	.p2align	4, 0x0                          # -- Begin function gcm::mode::BorrowedGcm::put_tag::<#e698720ccb2969c4>
 .Lgcm_v2_CPI18_0:
 	.byte	15                              # 0xf
 	.byte	14                              # 0xe
@@ -4848,7 +4848,7 @@ gcm_v2.gcm.mode.BorrowedGcm.put_tag: # @gcm_v2.gcm.mode.BorrowedGcm.put_tag
 	xorl	%edx, %edx
 	movq	%rbp, %rcx
 	movq	%r13, %r8
-	callq	gcm_v2.gcm.hash_room.RoomHashRoom.hash_on
+	callq	gcm_v2.gcm.hash_room.MultiplesRoomHashRoom.hash_on
 	movq	%rdx, %xmm1
 	movq	%r13, %rcx
 	shrq	$53, %rcx
@@ -4941,7 +4941,7 @@ gcm_v2.gcm.mode.BorrowedGcm.put_tag: # @gcm_v2.gcm.mode.BorrowedGcm.put_tag
 	jne	.Lgcm_v2_BB18_6
 # %bb.5:                                # %then.1.i.i.i
 	pxor	%xmm7, %xmm0
-.Lgcm_v2_BB18_17:                              # %"gcm::tags::hash::<#de867e0411c14352>.exit"
+.Lgcm_v2_BB18_17:                              # %"gcm::tags::hash::<#84904cd934dcda78>.exit"
 	leaq	64(%rsp), %rdi
 	movq	%r12, %rsi
 	callq	gcm_v2.gcm.multiples.Multiples.block_product
@@ -5001,7 +5001,7 @@ gcm_v2.gcm.mode.BorrowedGcm.put_tag: # @gcm_v2.gcm.mode.BorrowedGcm.put_tag
 	movdqa	%xmm6, %xmm0
 	movdqa	%xmm7, %xmm2
 	callq	gcm_v2.gcm.multiples.Multiples.three_products
-.Lgcm_v2_BB18_18:                              # %"gcm::tags::hash::<#de867e0411c14352>.exit"
+.Lgcm_v2_BB18_18:                              # %"gcm::tags::hash::<#84904cd934dcda78>.exit"
 	movq	72(%rsp), %rax
 	bswapq	%rax
 	movq	64(%rsp), %rcx
@@ -13374,7 +13374,7 @@ gcm_v2.aes_cipher.zeroize.stack.wipe_stack.2816: # @gcm_v2.aes_cipher.zeroize.st
 	.scl	3;
 	.type	32;
 	.endef
-	.p2align	4                               # -- Begin function gcm_c::siv::open_in::<#730c80b4023fbf8d>
+	.p2align	4                               # -- Begin function gcm_c::siv::open_in::<#6ee9233b1430bb0c>
 gcm_v2.gcm_c.siv.open_in.2: # @gcm_v2.gcm_c.siv.open_in.2
 .seh_proc gcm_v2.gcm_c.siv.open_in.2
 # %bb.0:                                # %start
@@ -13473,7 +13473,7 @@ gcm_v2.gcm_c.siv.open_in.2: # @gcm_v2.gcm_c.siv.open_in.2
 	.scl	3;
 	.type	32;
 	.endef
-	.p2align	4                               # -- Begin function gcm_c::siv::prepare::<#730c80b4023fbf8d>
+	.p2align	4                               # -- Begin function gcm_c::siv::prepare::<#6ee9233b1430bb0c>
 gcm_v2.gcm_c.siv.prepare.2: # @gcm_v2.gcm_c.siv.prepare.2
 .seh_proc gcm_v2.gcm_c.siv.prepare.2
 # %bb.0:                                # %start
@@ -13605,7 +13605,7 @@ gcm_v2.gcm_c.siv.prepare.2: # @gcm_v2.gcm_c.siv.prepare.2
 	.scl	3;
 	.type	32;
 	.endef
-	.p2align	4                               # -- Begin function gcm_siv::message::open::<#891d1eb781147f79>
+	.p2align	4                               # -- Begin function gcm_siv::message::open::<#7927255b4de34720>
 gcm_v2.gcm_siv.message.open.2: # @gcm_v2.gcm_siv.message.open.2
 .seh_proc gcm_v2.gcm_siv.message.open.2
 # %bb.0:                                # %start
@@ -13680,7 +13680,7 @@ gcm_v2.gcm_siv.message.open.2: # @gcm_v2.gcm_siv.message.open.2
 	.type	32;
 	.endef
 	.section	.rdata,"dr"
-	.p2align	4, 0x0                          # -- Begin function gcm_siv::message::put_tag::<#891d1eb781147f79>
+	.p2align	4, 0x0                          # -- Begin function gcm_siv::message::put_tag::<#7927255b4de34720>
 .Lgcm_v2_CPI51_0:
 	.byte	15                              # 0xf
 	.byte	14                              # 0xe
@@ -14127,7 +14127,7 @@ gcm_v2.gcm_siv.message.put_tag.2: # @gcm_v2.gcm_siv.message.put_tag.2
 	leaq	80(%rsp), %rdi
 	movq	%r15, %rsi
 	movdqa	%xmm6, %xmm0
-.Lgcm_v2_BB51_34:                              # %"gcm_siv::hash::RoomPolyvalRoom::hash.exit"
+.Lgcm_v2_BB51_34:                              # %"gcm_siv::hash::MultiplesRoomPolyvalRoom::hash.exit"
 	callq	gcm_v2.gcm.multiples.Multiples.block_product
 	jmp	.Lgcm_v2_BB51_35
 .Lgcm_v2_BB51_23:                              # %join.3.i59.i
@@ -14183,7 +14183,7 @@ gcm_v2.gcm_siv.message.put_tag.2: # @gcm_v2.gcm_siv.message.put_tag.2
 	movdqa	%xmm7, %xmm0
 	movdqa	%xmm8, %xmm2
 	callq	gcm_v2.gcm.multiples.Multiples.three_products
-.Lgcm_v2_BB51_35:                              # %"gcm_siv::hash::RoomPolyvalRoom::hash.exit"
+.Lgcm_v2_BB51_35:                              # %"gcm_siv::hash::MultiplesRoomPolyvalRoom::hash.exit"
 	movq	80(%rsp), %rax
 	movq	88(%rsp), %rcx
 	bswapq	%rcx
@@ -14554,7 +14554,7 @@ gcm_v2.gcm_siv.message.seal.1: # @gcm_v2.gcm_siv.message.seal.1
 	.scl	3;
 	.type	32;
 	.endef
-	.p2align	4                               # -- Begin function gcm_c::siv::seal_in::<#730c80b4023fbf8d>
+	.p2align	4                               # -- Begin function gcm_c::siv::seal_in::<#6ee9233b1430bb0c>
 gcm_v2.gcm_c.siv.seal_in.2: # @gcm_v2.gcm_c.siv.seal_in.2
 .seh_proc gcm_v2.gcm_c.siv.seal_in.2
 # %bb.0:                                # %start
@@ -14655,7 +14655,7 @@ gcm_v2.gcm_c.siv.seal_in.2: # @gcm_v2.gcm_c.siv.seal_in.2
 	.scl	3;
 	.type	32;
 	.endef
-	.p2align	4                               # -- Begin function gcm_siv::message::seal::<#891d1eb781147f79>
+	.p2align	4                               # -- Begin function gcm_siv::message::seal::<#7927255b4de34720>
 gcm_v2.gcm_siv.message.seal.2: # @gcm_v2.gcm_siv.message.seal.2
 .seh_proc gcm_v2.gcm_siv.message.seal.2
 # %bb.0:                                # %start
@@ -14709,7 +14709,7 @@ gcm_v2.gcm_siv.message.seal.2: # @gcm_v2.gcm_siv.message.seal.2
 	.type	32;
 	.endef
 	.section	.rdata,"dr"
-	.p2align	4, 0x0                          # -- Begin function gcm::hash_room::hash_piece::<#de867e0411c14352>
+	.p2align	4, 0x0                          # -- Begin function gcm::hash_room::hash_piece::<#84904cd934dcda78>
 .Lgcm_v2_CPI56_0:
 	.byte	15                              # 0xf
 	.byte	14                              # 0xe
@@ -14972,7 +14972,7 @@ gcm_v2.gcm.hash_room.hash_piece: # @gcm_v2.gcm.hash_room.hash_piece
 .Lgcm_v2_BB56_30:                              # %"core::slice::edits::slice+T::copy_from_slice::<i8,20'core::clone::U8Clone{}>.exit91"
 	movq	(%r9), %rdi
 	movq	%r13, %rdx
-	callq	gcm_v2.gcm.hash_room.RoomHashRoom.hash_on
+	callq	gcm_v2.gcm.hash_room.MultiplesRoomHashRoom.hash_on
 	movq	%rdx, %xmm0
 	movq	%rax, %xmm1
 	punpcklqdq	%xmm0, %xmm1            # xmm1 = xmm1[0],xmm0[0]
@@ -15037,7 +15037,7 @@ gcm_v2.gcm.hash_room.hash_piece: # @gcm_v2.gcm.hash_room.hash_piece
 	.type	32;
 	.endef
 	.section	.rdata,"dr"
-	.p2align	4, 0x0                          # -- Begin function gcm::mode::BorrowedGcm::turn_to::<#8bfc6ace315c867e>
+	.p2align	4, 0x0                          # -- Begin function gcm::mode::BorrowedGcm::turn_to::<#e698720ccb2969c4>
 .Lgcm_v2_CPI57_0:
 	.byte	15                              # 0xf
 	.byte	14                              # 0xe
@@ -15118,7 +15118,7 @@ gcm_v2.gcm.mode.BorrowedGcm.turn_to: # @gcm_v2.gcm.mode.BorrowedGcm.turn_to
 	.scl	3;
 	.type	32;
 	.endef
-	.p2align	4                               # -- Begin function gcm::mode::BorrowedGcm::is_tag_so_far::<#8bfc6ace315c867e>
+	.p2align	4                               # -- Begin function gcm::mode::BorrowedGcm::is_tag_so_far::<#e698720ccb2969c4>
 gcm_v2.gcm.mode.BorrowedGcm.is_tag_so_far: # @gcm_v2.gcm.mode.BorrowedGcm.is_tag_so_far
 .seh_proc gcm_v2.gcm.mode.BorrowedGcm.is_tag_so_far
 # %bb.0:                                # %start
@@ -15151,7 +15151,7 @@ gcm_v2.gcm.mode.BorrowedGcm.is_tag_so_far: # @gcm_v2.gcm.mode.BorrowedGcm.is_tag
 	.scl	3;
 	.type	32;
 	.endef
-	.p2align	4                               # -- Begin function gcm::mode::BorrowedGcm::is_short_tag_so_far::<#8bfc6ace315c867e>
+	.p2align	4                               # -- Begin function gcm::mode::BorrowedGcm::is_short_tag_so_far::<#e698720ccb2969c4>
 gcm_v2.gcm.mode.BorrowedGcm.is_short_tag_so_far: # @gcm_v2.gcm.mode.BorrowedGcm.is_short_tag_so_far
 .seh_proc gcm_v2.gcm.mode.BorrowedGcm.is_short_tag_so_far
 # %bb.0:                                # %start
@@ -15786,7 +15786,7 @@ gcm_v2.fotsgure_gcm_begin_next:                # @gcm_v2.fotsgure_gcm_begin_next
 	bswapl	%eax
 	movl	%eax, (%r8)
 	movq	%rcx, 4(%r8)
-.Lgcm_v2_BB67_8:                               # %"gcm::mode::BorrowedGcm::begin_next::<#8bfc6ace315c867e>.exit.i"
+.Lgcm_v2_BB67_8:                               # %"gcm::mode::BorrowedGcm::begin_next::<#e698720ccb2969c4>.exit.i"
 	movl	%r10d, 12(%rsp)
 	movq	%r9, 16(%rsp)
 	leaq	32(%rdx), %rcx
@@ -16576,7 +16576,7 @@ gcm_v2.fotsgure_gcm_open_to:                   # @gcm_v2.fotsgure_gcm_open_to
 	movq	%rbx, %r8
 	callq	gcm_v2.gcm.gctr.add_gctr
 	xorl	%ebp, %ebp
-.Lgcm_v2_BB72_33:                              # %"gcm::mode::BorrowedGcm::decrypt_to::<#8bfc6ace315c867e>.exit.i"
+.Lgcm_v2_BB72_33:                              # %"gcm::mode::BorrowedGcm::decrypt_to::<#e698720ccb2969c4>.exit.i"
 	leaq	48(%rsp), %rdi
 	callq	gcm_v2.aes_cipher.zeroize.elements.zeroize_elements.3
 	callq	gcm_v2.aes_cipher.zeroize.stack.wipe_stack.1536
@@ -18792,4 +18792,4 @@ gcm_v2.fotsgure_gcm_accept_short:              # @gcm_v2.fotsgure_gcm_accept_sho
 
 
 	.section	.rdata,"dr"
-	.asciz	"fotsgure_gcm 0.4.0, windows_x86_64/gcm.s, sources SHA-256 c5580fd5c08fd1ce251de00bc68bbabc41e05f02470d0c531f44ab6d5c423d70"
+	.asciz	"fotsgure_gcm 0.4.0, windows_x86_64/gcm.s, sources SHA-256 7ffbfed4fdc57d310dc7b2575290ae8baa1c67d9e3c172c81948d4bb9f7ef94b"

@@ -2748,7 +2748,7 @@ gcm_v1.aes_narrow.blocks.process_in_batches: # @gcm_v1.aes_narrow.blocks.process
 	addq	%r14, %rdx
 	movq	%r12, %rdi
 	movq	%r15, %rsi
-	callq	gcm_v1.aes_narrow.blocks.process_few
+	callq	gcm_v1.aes_narrow.blocks.process_filled_up
 	movq	%r13, %rdx
 	cmpq	%rbx, %r13
 	jb	.Lgcm_v1_BB11_1
@@ -2761,12 +2761,12 @@ gcm_v1.aes_narrow.blocks.process_in_batches: # @gcm_v1.aes_narrow.blocks.process
 	retq
 	.seh_endproc
                                         # -- End function
-	.def	gcm_v1.aes_narrow.blocks.process_few;
+	.def	gcm_v1.aes_narrow.blocks.process_filled_up;
 	.scl	3;
 	.type	32;
 	.endef
 	.section	.rdata,"dr"
-	.p2align	4, 0x0                          # -- Begin function aes_narrow::blocks::process_few::<#f6c900d3ac1e47b9>
+	.p2align	4, 0x0                          # -- Begin function aes_narrow::blocks::process_filled_up::<#f6c900d3ac1e47b9>
 .Lgcm_v1_CPI12_0:
 	.long	252645135                       # 0xf0f0f0f
 	.long	252645135                       # 0xf0f0f0f
@@ -2774,8 +2774,8 @@ gcm_v1.aes_narrow.blocks.process_in_batches: # @gcm_v1.aes_narrow.blocks.process
 	.zero	4
 	.text
 	.p2align	4
-gcm_v1.aes_narrow.blocks.process_few: # @gcm_v1.aes_narrow.blocks.process_few
-.seh_proc gcm_v1.aes_narrow.blocks.process_few
+gcm_v1.aes_narrow.blocks.process_filled_up: # @gcm_v1.aes_narrow.blocks.process_filled_up
+.seh_proc gcm_v1.aes_narrow.blocks.process_filled_up
 # %bb.0:                                # %start
 	pushq	%rbp
 	.seh_pushreg %rbp
@@ -2887,11 +2887,11 @@ gcm_v1.aes_narrow.blocks.process_few: # @gcm_v1.aes_narrow.blocks.process_few
 	movzbl	29(%rbx), %ecx
 	movb	%cl, 11(%rsp)                   # 1-byte Spill
 	movzwl	30(%rbx), %edi
-.Lgcm_v1_BB12_5:                               # %"aes_narrow::blocks::batch_of_few::<#ee324ebdabaa1892>.exit"
+.Lgcm_v1_BB12_5:                               # %"aes_narrow::blocks::filled_up::<#ee324ebdabaa1892>.exit"
 	movzbl	14(%rsp), %edx                  # 1-byte Folded Reload
 	movzbl	13(%rsp), %ecx                  # 1-byte Folded Reload
 	movzbl	12(%rsp), %r9d                  # 1-byte Folded Reload
-.Lgcm_v1_BB12_6:                               # %"aes_narrow::blocks::batch_of_few::<#ee324ebdabaa1892>.exit"
+.Lgcm_v1_BB12_6:                               # %"aes_narrow::blocks::filled_up::<#ee324ebdabaa1892>.exit"
 	movzbl	%r9b, %ebp
 	shll	$8, %ebp
 	movzbl	%cl, %ecx
@@ -3155,7 +3155,7 @@ gcm_v1.aes_narrow.blocks.process_few: # @gcm_v1.aes_narrow.blocks.process_few
 	punpcklqdq	%xmm4, %xmm2            # xmm2 = xmm2[0],xmm4[0]
 	pxor	%xmm0, %xmm2
 	movdqu	%xmm2, 16(%rbx)
-.Lgcm_v1_BB12_9:                               # %"aes_narrow::blocks::put_few::<#ee324ebdabaa1892>.exit"
+.Lgcm_v1_BB12_9:                               # %"aes_narrow::blocks::put_first::<#ee324ebdabaa1892>.exit"
 	addq	$88, %rsp
 	popq	%rbx
 	popq	%r12
@@ -6488,7 +6488,7 @@ gcm_v1.aes_narrow.borrowed_words.call_to_encrypt.1: # @gcm_v1.aes_narrow.borrowe
 	movl	$2, %ecx
 	movq	16(%rsp), %rdi                  # 8-byte Reload
 	movq	24(%rsp), %rsi                  # 8-byte Reload
-	callq	gcm_v1.aes_narrow.blocks.process_few
+	callq	gcm_v1.aes_narrow.blocks.process_filled_up
 	movups	(%r12,%r13), %xmm0
 	xorps	48(%rsp), %xmm0
 	movups	16(%r12,%r13), %xmm1
@@ -6622,7 +6622,7 @@ gcm_v1.aes_ctr.add_in_batches.add_next.1: # @gcm_v1.aes_ctr.add_in_batches.add_n
 	movl	$2, %ecx
 .Lgcm_v1_BB22_3:                               # %"aes_ctr::keystream::fill_by_backend::<#8f445e75de4b0592>.exit"
 	movq	%rax, %rdi
-	callq	gcm_v1.aes_narrow.blocks.process_few
+	callq	gcm_v1.aes_narrow.blocks.process_filled_up
 	leaq	(%r15,%rbx), %rax
 	testq	%r13, %r13
 	je	.Lgcm_v1_BB22_4
@@ -7908,7 +7908,7 @@ gcm_v1.aes_narrow.borrowed_words.call_to_encrypt.2: # @gcm_v1.aes_narrow.borrowe
 	movl	$2, %ecx
 	movq	16(%rsp), %rdi                  # 8-byte Reload
 	movq	24(%rsp), %rsi                  # 8-byte Reload
-	callq	gcm_v1.aes_narrow.blocks.process_few
+	callq	gcm_v1.aes_narrow.blocks.process_filled_up
 	movups	(%r12,%r13), %xmm0
 	xorps	48(%rsp), %xmm0
 	movups	16(%r12,%r13), %xmm1
@@ -8025,7 +8025,7 @@ gcm_v1.aes_ctr.add_in_batches.add_next.2: # @gcm_v1.aes_ctr.add_in_batches.add_n
 	movl	$2, %ecx
 .Lgcm_v1_BB35_3:                               # %"aes_ctr::keystream::fill_by_backend::<#9f5b6b63b811461e>.exit"
 	movq	%rax, %rdi
-	callq	gcm_v1.aes_narrow.blocks.process_few
+	callq	gcm_v1.aes_narrow.blocks.process_filled_up
 	leaq	(%r15,%rbx), %rax
 	testq	%r13, %r13
 	je	.Lgcm_v1_BB35_4
@@ -12211,4 +12211,4 @@ gcm_v1.fotsgure_gcm_accept_short:              # @gcm_v1.fotsgure_gcm_accept_sho
 
 
 	.section	.rdata,"dr"
-	.asciz	"fotsgure_gcm 0.4.0, windows_x86_64/gcm_v1.s, sources SHA-256 c5580fd5c08fd1ce251de00bc68bbabc41e05f02470d0c531f44ab6d5c423d70"
+	.asciz	"fotsgure_gcm 0.4.0, windows_x86_64/gcm_v1.s, sources SHA-256 7ffbfed4fdc57d310dc7b2575290ae8baa1c67d9e3c172c81948d4bb9f7ef94b"

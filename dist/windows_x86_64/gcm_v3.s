@@ -1009,7 +1009,7 @@ gcm_v3.aes_permute.lane_keys.expand_lanes: # @gcm_v3.aes_permute.lane_keys.expan
 	.type	32;
 	.endef
 	.section	.rdata,"dr"
-	.p2align	5, 0x0                          # -- Begin function gcm::mode::BorrowedGcm::put_pre_counter::<#265f21f9951183cc>
+	.p2align	5, 0x0                          # -- Begin function gcm::mode::BorrowedGcm::put_pre_counter::<#dd61a12db5c00f5a>
 .Lgcm_v3_CPI5_0:
 	.quad	43                              # 0x2b
 	.quad	27                              # 0x1b
@@ -1174,7 +1174,7 @@ gcm_v3.gcm.mode.BorrowedGcm.put_pre_counter: # @gcm_v3.gcm.mode.BorrowedGcm.put_
 	xorl	%esi, %esi
 	xorl	%edx, %edx
 	movq	%r14, %r8
-	callq	gcm_v3.gcm.hash_room.RoomHashRoom.hash_on
+	callq	gcm_v3.gcm.hash_room.MultiplesRoomHashRoom.hash_on
 	vmovq	%r14, %xmm0
 	shlq	$3, %r14
 	vpbroadcastq	%xmm0, %ymm0
@@ -1226,12 +1226,12 @@ gcm_v3.gcm.mode.BorrowedGcm.put_pre_counter: # @gcm_v3.gcm.mode.BorrowedGcm.put_
 	retq
 	.seh_endproc
                                         # -- End function
-	.def	gcm_v3.gcm.hash_room.RoomHashRoom.hash_on;
+	.def	gcm_v3.gcm.hash_room.MultiplesRoomHashRoom.hash_on;
 	.scl	3;
 	.type	32;
 	.endef
 	.section	.rdata,"dr"
-	.p2align	4, 0x0                          # -- Begin function gcm::hash_room::RoomHashRoom::hash_on
+	.p2align	4, 0x0                          # -- Begin function gcm::hash_room::MultiplesRoomHashRoom::hash_on
 .Lgcm_v3_CPI6_0:
 	.byte	15                              # 0xf
 	.byte	14                              # 0xe
@@ -1251,8 +1251,8 @@ gcm_v3.gcm.mode.BorrowedGcm.put_pre_counter: # @gcm_v3.gcm.mode.BorrowedGcm.put_
 	.byte	0                               # 0x0
 	.text
 	.p2align	4
-gcm_v3.gcm.hash_room.RoomHashRoom.hash_on: # @gcm_v3.gcm.hash_room.RoomHashRoom.hash_on
-.seh_proc gcm_v3.gcm.hash_room.RoomHashRoom.hash_on
+gcm_v3.gcm.hash_room.MultiplesRoomHashRoom.hash_on: # @gcm_v3.gcm.hash_room.MultiplesRoomHashRoom.hash_on
+.seh_proc gcm_v3.gcm.hash_room.MultiplesRoomHashRoom.hash_on
 # %bb.0:                                # %start
 	pushq	%rbp
 	.seh_pushreg %rbp
@@ -2011,7 +2011,7 @@ gcm_v3.aes_cipher.zeroize.stack.wipe_stack.512: # @gcm_v3.aes_cipher.zeroize.sta
 	.type	32;
 	.endef
 	.section	.rdata,"dr"
-	.p2align	5, 0x0                          # -- Begin function gcm::mode::BorrowedGcm::put_tag_so_far::<#265f21f9951183cc>
+	.p2align	5, 0x0                          # -- Begin function gcm::mode::BorrowedGcm::put_tag_so_far::<#dd61a12db5c00f5a>
 .Lgcm_v3_CPI11_0:
 	.quad	43                              # 0x2b
 	.quad	27                              # 0x1b
@@ -2474,7 +2474,7 @@ gcm_v3.gcm.tags.put_mask: # @gcm_v3.gcm.tags.put_mask
 	.scl	3;
 	.type	32;
 	.endef
-	.p2align	4                               # -- Begin function gcm::mode::BorrowedGcm::hash_what_came::<#265f21f9951183cc>
+	.p2align	4                               # -- Begin function gcm::mode::BorrowedGcm::hash_what_came::<#dd61a12db5c00f5a>
 gcm_v3.gcm.mode.BorrowedGcm.hash_what_came: # @gcm_v3.gcm.mode.BorrowedGcm.hash_what_came
 # %bb.0:                                # %start
 	xorl	%eax, %eax
@@ -2486,14 +2486,14 @@ gcm_v3.gcm.mode.BorrowedGcm.hash_what_came: # @gcm_v3.gcm.mode.BorrowedGcm.hash_
 	movbeq	48(%rsi), %rdx
 	leaq	64(%rsi), %rcx
 	movq	%rax, %rsi
-	jmp	gcm_v3.gcm.hash_room.RoomHashRoom.hash_on # TAILCALL
+	jmp	gcm_v3.gcm.hash_room.MultiplesRoomHashRoom.hash_on # TAILCALL
                                         # -- End function
 	.def	gcm_v3.gcm.mode.put_subkey;
 	.scl	3;
 	.type	32;
 	.endef
 	.section	.rdata,"dr"
-	.p2align	4, 0x0                          # -- Begin function gcm::mode::put_subkey::<#89719a5bfdff2a0e>
+	.p2align	4, 0x0                          # -- Begin function gcm::mode::put_subkey::<#3b20be08343c3969>
 .Lgcm_v3_CPI14_0:
 	.zero	16,15
 .Lgcm_v3_CPI14_1:
@@ -4270,7 +4270,7 @@ gcm_v3.gcm.multiples.put_table:            # @gcm_v3.gcm.multiples.put_table
 	.scl	3;
 	.type	32;
 	.endef
-	.p2align	4                               # -- Begin function gcm::mode::BorrowedGcm::compare::<#265f21f9951183cc>
+	.p2align	4                               # -- Begin function gcm::mode::BorrowedGcm::compare::<#dd61a12db5c00f5a>
 gcm_v3.gcm.mode.BorrowedGcm.compare: # @gcm_v3.gcm.mode.BorrowedGcm.compare
 .seh_proc gcm_v3.gcm.mode.BorrowedGcm.compare
 # %bb.0:                                # %start
@@ -4346,7 +4346,7 @@ gcm_v3.gcm.mode.BorrowedGcm.compare: # @gcm_v3.gcm.mode.BorrowedGcm.compare
 	.type	32;
 	.endef
 	.section	.rdata,"dr"
-	.p2align	4, 0x0                          # -- Begin function gcm::mode::BorrowedGcm::put_tag::<#265f21f9951183cc>
+	.p2align	4, 0x0                          # -- Begin function gcm::mode::BorrowedGcm::put_tag::<#dd61a12db5c00f5a>
 .Lgcm_v3_CPI18_0:
 	.byte	15                              # 0xf
 	.byte	14                              # 0xe
@@ -4397,7 +4397,7 @@ gcm_v3.gcm.mode.BorrowedGcm.put_tag: # @gcm_v3.gcm.mode.BorrowedGcm.put_tag
 	xorl	%edx, %edx
 	movq	%rbp, %rcx
 	movq	%r13, %r8
-	callq	gcm_v3.gcm.hash_room.RoomHashRoom.hash_on
+	callq	gcm_v3.gcm.hash_room.MultiplesRoomHashRoom.hash_on
 	vmovq	%rdx, %xmm0
 	movq	%r13, %rcx
 	shrq	$53, %rcx
@@ -4487,7 +4487,7 @@ gcm_v3.gcm.mode.BorrowedGcm.put_tag: # @gcm_v3.gcm.mode.BorrowedGcm.put_tag
 	jne	.Lgcm_v3_BB18_6
 # %bb.5:                                # %then.1.i.i.i
 	vpxor	%xmm7, %xmm6, %xmm0
-.Lgcm_v3_BB18_17:                              # %"gcm::tags::hash::<#de867e0411c14352>.exit"
+.Lgcm_v3_BB18_17:                              # %"gcm::tags::hash::<#84904cd934dcda78>.exit"
 	leaq	64(%rsp), %rdi
 	movq	%r12, %rsi
 	callq	gcm_v3.gcm.multiples.Multiples.block_product
@@ -4541,7 +4541,7 @@ gcm_v3.gcm.mode.BorrowedGcm.put_tag: # @gcm_v3.gcm.mode.BorrowedGcm.put_tag
 	vmovdqa	%xmm6, %xmm0
 	vmovdqa	%xmm7, %xmm2
 	callq	gcm_v3.gcm.multiples.Multiples.three_products
-.Lgcm_v3_BB18_18:                              # %"gcm::tags::hash::<#de867e0411c14352>.exit"
+.Lgcm_v3_BB18_18:                              # %"gcm::tags::hash::<#84904cd934dcda78>.exit"
 	movbeq	72(%rsp), %rax
 	movbeq	64(%rsp), %rcx
 	vmovq	%rcx, %xmm0
@@ -13527,7 +13527,7 @@ gcm_v3.aes_cipher.zeroize.stack.wipe_stack.2816: # @gcm_v3.aes_cipher.zeroize.st
 	.scl	3;
 	.type	32;
 	.endef
-	.p2align	4                               # -- Begin function gcm_c::siv::open_in::<#730c80b4023fbf8d>
+	.p2align	4                               # -- Begin function gcm_c::siv::open_in::<#6ee9233b1430bb0c>
 gcm_v3.gcm_c.siv.open_in.2: # @gcm_v3.gcm_c.siv.open_in.2
 .seh_proc gcm_v3.gcm_c.siv.open_in.2
 # %bb.0:                                # %start
@@ -13620,7 +13620,7 @@ gcm_v3.gcm_c.siv.open_in.2: # @gcm_v3.gcm_c.siv.open_in.2
 	.scl	3;
 	.type	32;
 	.endef
-	.p2align	4                               # -- Begin function gcm_c::siv::prepare::<#730c80b4023fbf8d>
+	.p2align	4                               # -- Begin function gcm_c::siv::prepare::<#6ee9233b1430bb0c>
 gcm_v3.gcm_c.siv.prepare.2: # @gcm_v3.gcm_c.siv.prepare.2
 .seh_proc gcm_v3.gcm_c.siv.prepare.2
 # %bb.0:                                # %start
@@ -13749,7 +13749,7 @@ gcm_v3.gcm_c.siv.prepare.2: # @gcm_v3.gcm_c.siv.prepare.2
 	.scl	3;
 	.type	32;
 	.endef
-	.p2align	4                               # -- Begin function gcm_siv::message::open::<#448f591e81c2a7bf>
+	.p2align	4                               # -- Begin function gcm_siv::message::open::<#2d1285385daa076a>
 gcm_v3.gcm_siv.message.open.2: # @gcm_v3.gcm_siv.message.open.2
 .seh_proc gcm_v3.gcm_siv.message.open.2
 # %bb.0:                                # %start
@@ -13824,7 +13824,7 @@ gcm_v3.gcm_siv.message.open.2: # @gcm_v3.gcm_siv.message.open.2
 	.type	32;
 	.endef
 	.section	.rdata,"dr"
-	.p2align	4, 0x0                          # -- Begin function gcm_siv::message::put_tag::<#448f591e81c2a7bf>
+	.p2align	4, 0x0                          # -- Begin function gcm_siv::message::put_tag::<#2d1285385daa076a>
 .Lgcm_v3_CPI51_0:
 	.byte	15                              # 0xf
 	.byte	14                              # 0xe
@@ -14340,7 +14340,7 @@ gcm_v3.gcm_siv.message.put_tag.2: # @gcm_v3.gcm_siv.message.put_tag.2
 	jne	.Lgcm_v3_BB51_23
 # %bb.22:                               # %then.1.i139.i
 	vpxor	%xmm7, %xmm6, %xmm0
-.Lgcm_v3_BB51_34:                              # %"gcm_siv::hash::RoomPolyvalRoom::hash.exit"
+.Lgcm_v3_BB51_34:                              # %"gcm_siv::hash::MultiplesRoomPolyvalRoom::hash.exit"
 	leaq	64(%rsp), %rdi
 	movq	%r15, %rsi
 	callq	gcm_v3.gcm.multiples.Multiples.block_product
@@ -14399,7 +14399,7 @@ gcm_v3.gcm_siv.message.put_tag.2: # @gcm_v3.gcm_siv.message.put_tag.2
 	vmovdqa	%xmm6, %xmm0
 	vmovdqa	%xmm7, %xmm2
 	callq	gcm_v3.gcm.multiples.Multiples.three_products
-.Lgcm_v3_BB51_35:                              # %"gcm_siv::hash::RoomPolyvalRoom::hash.exit"
+.Lgcm_v3_BB51_35:                              # %"gcm_siv::hash::MultiplesRoomPolyvalRoom::hash.exit"
 	movbeq	72(%rsp), %rcx
 	movbeq	64(%rsp), %rax
 	movq	%rax, %rdx
@@ -14761,7 +14761,7 @@ gcm_v3.gcm_siv.message.seal.1: # @gcm_v3.gcm_siv.message.seal.1
 	.scl	3;
 	.type	32;
 	.endef
-	.p2align	4                               # -- Begin function gcm_c::siv::seal_in::<#730c80b4023fbf8d>
+	.p2align	4                               # -- Begin function gcm_c::siv::seal_in::<#6ee9233b1430bb0c>
 gcm_v3.gcm_c.siv.seal_in.2: # @gcm_v3.gcm_c.siv.seal_in.2
 .seh_proc gcm_v3.gcm_c.siv.seal_in.2
 # %bb.0:                                # %start
@@ -14856,7 +14856,7 @@ gcm_v3.gcm_c.siv.seal_in.2: # @gcm_v3.gcm_c.siv.seal_in.2
 	.scl	3;
 	.type	32;
 	.endef
-	.p2align	4                               # -- Begin function gcm_siv::message::seal::<#448f591e81c2a7bf>
+	.p2align	4                               # -- Begin function gcm_siv::message::seal::<#2d1285385daa076a>
 gcm_v3.gcm_siv.message.seal.2: # @gcm_v3.gcm_siv.message.seal.2
 .seh_proc gcm_v3.gcm_siv.message.seal.2
 # %bb.0:                                # %start
@@ -14910,7 +14910,7 @@ gcm_v3.gcm_siv.message.seal.2: # @gcm_v3.gcm_siv.message.seal.2
 	.type	32;
 	.endef
 	.section	.rdata,"dr"
-	.p2align	4, 0x0                          # -- Begin function gcm::hash_room::hash_piece::<#de867e0411c14352>
+	.p2align	4, 0x0                          # -- Begin function gcm::hash_room::hash_piece::<#84904cd934dcda78>
 .Lgcm_v3_CPI56_0:
 	.byte	15                              # 0xf
 	.byte	14                              # 0xe
@@ -15187,7 +15187,7 @@ gcm_v3.gcm.hash_room.hash_piece: # @gcm_v3.gcm.hash_room.hash_piece
 .Lgcm_v3_BB56_30:                              # %"core::slice::edits::slice+T::copy_from_slice::<i8,20'core::clone::U8Clone{}>.exit91"
 	movq	(%r9), %rdi
 	movq	%r15, %rdx
-	callq	gcm_v3.gcm.hash_room.RoomHashRoom.hash_on
+	callq	gcm_v3.gcm.hash_room.MultiplesRoomHashRoom.hash_on
 	vmovq	%rdx, %xmm0
 	vmovq	%rax, %xmm1
 	vpunpcklqdq	%xmm0, %xmm1, %xmm0     # xmm0 = xmm1[0],xmm0[0]
@@ -15257,7 +15257,7 @@ gcm_v3.gcm.hash_room.hash_piece: # @gcm_v3.gcm.hash_room.hash_piece
 	.type	32;
 	.endef
 	.section	.rdata,"dr"
-	.p2align	4, 0x0                          # -- Begin function gcm::mode::BorrowedGcm::turn_to::<#265f21f9951183cc>
+	.p2align	4, 0x0                          # -- Begin function gcm::mode::BorrowedGcm::turn_to::<#dd61a12db5c00f5a>
 .Lgcm_v3_CPI57_0:
 	.byte	15                              # 0xf
 	.byte	14                              # 0xe
@@ -15338,7 +15338,7 @@ gcm_v3.gcm.mode.BorrowedGcm.turn_to: # @gcm_v3.gcm.mode.BorrowedGcm.turn_to
 	.scl	3;
 	.type	32;
 	.endef
-	.p2align	4                               # -- Begin function gcm::mode::BorrowedGcm::is_tag_so_far::<#265f21f9951183cc>
+	.p2align	4                               # -- Begin function gcm::mode::BorrowedGcm::is_tag_so_far::<#dd61a12db5c00f5a>
 gcm_v3.gcm.mode.BorrowedGcm.is_tag_so_far: # @gcm_v3.gcm.mode.BorrowedGcm.is_tag_so_far
 .seh_proc gcm_v3.gcm.mode.BorrowedGcm.is_tag_so_far
 # %bb.0:                                # %start
@@ -15371,7 +15371,7 @@ gcm_v3.gcm.mode.BorrowedGcm.is_tag_so_far: # @gcm_v3.gcm.mode.BorrowedGcm.is_tag
 	.scl	3;
 	.type	32;
 	.endef
-	.p2align	4                               # -- Begin function gcm::mode::BorrowedGcm::is_short_tag_so_far::<#265f21f9951183cc>
+	.p2align	4                               # -- Begin function gcm::mode::BorrowedGcm::is_short_tag_so_far::<#dd61a12db5c00f5a>
 gcm_v3.gcm.mode.BorrowedGcm.is_short_tag_so_far: # @gcm_v3.gcm.mode.BorrowedGcm.is_short_tag_so_far
 .seh_proc gcm_v3.gcm.mode.BorrowedGcm.is_short_tag_so_far
 # %bb.0:                                # %start
@@ -15986,7 +15986,7 @@ gcm_v3.fotsgure_gcm_begin_next:                # @gcm_v3.fotsgure_gcm_begin_next
 .Lgcm_v3_BB67_7:                               # %arm.1.i.i.i
 	movbel	%eax, (%r8)
 	movq	%rcx, 4(%r8)
-.Lgcm_v3_BB67_8:                               # %"gcm::mode::BorrowedGcm::begin_next::<#265f21f9951183cc>.exit.i"
+.Lgcm_v3_BB67_8:                               # %"gcm::mode::BorrowedGcm::begin_next::<#dd61a12db5c00f5a>.exit.i"
 	movl	%r10d, 12(%rsp)
 	movq	%r9, 16(%rsp)
 	leaq	32(%rdx), %rcx
@@ -16781,7 +16781,7 @@ gcm_v3.fotsgure_gcm_open_to:                   # @gcm_v3.fotsgure_gcm_open_to
 	vzeroupper
 	callq	gcm_v3.gcm.gctr.add_gctr
 	xorl	%ebp, %ebp
-.Lgcm_v3_BB72_33:                              # %"gcm::mode::BorrowedGcm::decrypt_to::<#265f21f9951183cc>.exit.i"
+.Lgcm_v3_BB72_33:                              # %"gcm::mode::BorrowedGcm::decrypt_to::<#dd61a12db5c00f5a>.exit.i"
 	leaq	48(%rsp), %rdi
 	callq	gcm_v3.aes_cipher.zeroize.elements.zeroize_elements.3
 	callq	gcm_v3.aes_cipher.zeroize.stack.wipe_stack.1536
@@ -19031,4 +19031,4 @@ gcm_v3.fotsgure_gcm_accept_short:              # @gcm_v3.fotsgure_gcm_accept_sho
 
 
 	.section	.rdata,"dr"
-	.asciz	"fotsgure_gcm 0.4.0, windows_x86_64/gcm_v3.s, sources SHA-256 c5580fd5c08fd1ce251de00bc68bbabc41e05f02470d0c531f44ab6d5c423d70"
+	.asciz	"fotsgure_gcm 0.4.0, windows_x86_64/gcm_v3.s, sources SHA-256 7ffbfed4fdc57d310dc7b2575290ae8baa1c67d9e3c172c81948d4bb9f7ef94b"

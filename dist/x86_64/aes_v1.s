@@ -2348,7 +2348,7 @@ aes_v1.aes_narrow.blocks.process_in_batches.1: # @aes_v1.aes_narrow.blocks.proce
 	addq	%r14, %rdx
 	movq	%r12, %rdi
 	movq	%r15, %rsi
-	callq	aes_v1.aes_narrow.blocks.process_few.1
+	callq	aes_v1.aes_narrow.blocks.process_filled_up.1
 	movq	%r13, %rdx
 	cmpq	%rbx, %r13
 	jb	.Laes_v1_BB4_2
@@ -2364,16 +2364,16 @@ aes_v1.aes_narrow.blocks.process_in_batches.1: # @aes_v1.aes_narrow.blocks.proce
 	.size	aes_v1.aes_narrow.blocks.process_in_batches.1, .Laes_v1_func_end4-aes_v1.aes_narrow.blocks.process_in_batches.1
                                         # -- End function
 	.section	.rodata.cst16,"aM",@progbits,16
-	.p2align	4, 0x0                          # -- Begin function aes_narrow::blocks::process_few::<#1a21aa7f601e7603>
+	.p2align	4, 0x0                          # -- Begin function aes_narrow::blocks::process_filled_up::<#1a21aa7f601e7603>
 .Laes_v1_CPI5_0:
 	.long	252645135                       # 0xf0f0f0f
 	.long	252645135                       # 0xf0f0f0f
 	.zero	4
 	.zero	4
-	.section	.text.aes_v1.aes_narrow.blocks.process_few.1,"ax",@progbits
+	.section	.text.aes_v1.aes_narrow.blocks.process_filled_up.1,"ax",@progbits
 	.p2align	4
-	.type	aes_v1.aes_narrow.blocks.process_few.1,@function
-aes_v1.aes_narrow.blocks.process_few.1: # @aes_v1.aes_narrow.blocks.process_few.1
+	.type	aes_v1.aes_narrow.blocks.process_filled_up.1,@function
+aes_v1.aes_narrow.blocks.process_filled_up.1: # @aes_v1.aes_narrow.blocks.process_filled_up.1
 # %bb.0:                                # %start
 	pushq	%rbp
 	pushq	%r15
@@ -2477,11 +2477,11 @@ aes_v1.aes_narrow.blocks.process_few.1: # @aes_v1.aes_narrow.blocks.process_few.
 	movzbl	29(%rbx), %ecx
 	movb	%cl, 11(%rsp)                   # 1-byte Spill
 	movzwl	30(%rbx), %edi
-.Laes_v1_BB5_5:                                # %"aes_narrow::blocks::batch_of_few::<#7d3b633001169d8c>.exit"
+.Laes_v1_BB5_5:                                # %"aes_narrow::blocks::filled_up::<#7d3b633001169d8c>.exit"
 	movzbl	14(%rsp), %edx                  # 1-byte Folded Reload
 	movzbl	13(%rsp), %ecx                  # 1-byte Folded Reload
 	movzbl	12(%rsp), %r9d                  # 1-byte Folded Reload
-.Laes_v1_BB5_6:                                # %"aes_narrow::blocks::batch_of_few::<#7d3b633001169d8c>.exit"
+.Laes_v1_BB5_6:                                # %"aes_narrow::blocks::filled_up::<#7d3b633001169d8c>.exit"
 	movzbl	%r9b, %ebp
 	shll	$8, %ebp
 	movzbl	%cl, %ecx
@@ -2745,7 +2745,7 @@ aes_v1.aes_narrow.blocks.process_few.1: # @aes_v1.aes_narrow.blocks.process_few.
 	punpcklqdq	%xmm4, %xmm2            # xmm2 = xmm2[0],xmm4[0]
 	pxor	%xmm0, %xmm2
 	movdqu	%xmm2, 16(%rbx)
-.Laes_v1_BB5_9:                                # %"aes_narrow::blocks::put_few::<#7d3b633001169d8c>.exit"
+.Laes_v1_BB5_9:                                # %"aes_narrow::blocks::put_first::<#7d3b633001169d8c>.exit"
 	addq	$88, %rsp
 	popq	%rbx
 	popq	%r12
@@ -2755,7 +2755,7 @@ aes_v1.aes_narrow.blocks.process_few.1: # @aes_v1.aes_narrow.blocks.process_few.
 	popq	%rbp
 	retq
 .Laes_v1_func_end5:
-	.size	aes_v1.aes_narrow.blocks.process_few.1, .Laes_v1_func_end5-aes_v1.aes_narrow.blocks.process_few.1
+	.size	aes_v1.aes_narrow.blocks.process_filled_up.1, .Laes_v1_func_end5-aes_v1.aes_narrow.blocks.process_filled_up.1
                                         # -- End function
 	.section	.text.aes_v1.aes_narrow.blocks.process_state.1,"ax",@progbits
 	.p2align	4                               # -- Begin function aes_narrow::blocks::process_state::<#1a21aa7f601e7603>
@@ -5389,7 +5389,7 @@ aes_v1.aes_narrow.borrowed_words.call_to_encrypt: # @aes_v1.aes_narrow.borrowed_
 	movl	$2, %ecx
 	movq	16(%rsp), %rdi                  # 8-byte Reload
 	movq	24(%rsp), %rsi                  # 8-byte Reload
-	callq	aes_v1.aes_narrow.blocks.process_few.1
+	callq	aes_v1.aes_narrow.blocks.process_filled_up.1
 	movups	(%r12,%r13), %xmm0
 	xorps	48(%rsp), %xmm0
 	movups	16(%r12,%r13), %xmm1
@@ -5515,7 +5515,7 @@ aes_v1.aes_ctr.add_in_batches.add_next: # @aes_v1.aes_ctr.add_in_batches.add_nex
 	movl	$2, %ecx
 .Laes_v1_BB9_3:                                # %"aes_ctr::keystream::fill_by_backend::<#a8e061590e9ece31>.exit"
 	movq	%rax, %rdi
-	callq	aes_v1.aes_narrow.blocks.process_few.1
+	callq	aes_v1.aes_narrow.blocks.process_filled_up.1
 	leaq	(%r15,%rbx), %rax
 	testq	%r13, %r13
 	je	.Laes_v1_BB9_4
@@ -6709,7 +6709,7 @@ aes_v1.aes_narrow.borrowed_words.call_to_decrypt: # @aes_v1.aes_narrow.borrowed_
 	movq	48(%rsp), %rdi                  # 8-byte Reload
 	movq	%r15, %rsi
 	movq	%rbp, %rdx
-	callq	aes_v1.aes_narrow.blocks.process_few.2
+	callq	aes_v1.aes_narrow.blocks.process_filled_up.2
 	addq	$32, %rbp
 	leaq	(%rbx,%r14), %rax
 	addq	$-2, %rax
@@ -6739,7 +6739,7 @@ aes_v1.aes_narrow.borrowed_words.call_to_decrypt: # @aes_v1.aes_narrow.borrowed_
 	movq	48(%rsp), %rdi                  # 8-byte Reload
 	movq	40(%rsp), %rsi                  # 8-byte Reload
 	movq	%r13, %rdx
-	callq	aes_v1.aes_narrow.blocks.process_few.2
+	callq	aes_v1.aes_narrow.blocks.process_filled_up.2
 	addq	$16, %r13
 	decq	%rbp
 	jne	.Laes_v1_BB20_8
@@ -6792,16 +6792,16 @@ aes_v1.aes_narrow.borrowed_words.call_to_decrypt: # @aes_v1.aes_narrow.borrowed_
 	.size	aes_v1.aes_narrow.borrowed_words.call_to_decrypt, .Laes_v1_func_end20-aes_v1.aes_narrow.borrowed_words.call_to_decrypt
                                         # -- End function
 	.section	.rodata.cst16,"aM",@progbits,16
-	.p2align	4, 0x0                          # -- Begin function aes_narrow::blocks::process_few::<#a3dcb71d05bd149b>
+	.p2align	4, 0x0                          # -- Begin function aes_narrow::blocks::process_filled_up::<#a3dcb71d05bd149b>
 .Laes_v1_CPI21_0:
 	.long	252645135                       # 0xf0f0f0f
 	.long	252645135                       # 0xf0f0f0f
 	.zero	4
 	.zero	4
-	.section	.text.aes_v1.aes_narrow.blocks.process_few.2,"ax",@progbits
+	.section	.text.aes_v1.aes_narrow.blocks.process_filled_up.2,"ax",@progbits
 	.p2align	4
-	.type	aes_v1.aes_narrow.blocks.process_few.2,@function
-aes_v1.aes_narrow.blocks.process_few.2: # @aes_v1.aes_narrow.blocks.process_few.2
+	.type	aes_v1.aes_narrow.blocks.process_filled_up.2,@function
+aes_v1.aes_narrow.blocks.process_filled_up.2: # @aes_v1.aes_narrow.blocks.process_filled_up.2
 # %bb.0:                                # %start
 	pushq	%rbp
 	pushq	%r15
@@ -6905,11 +6905,11 @@ aes_v1.aes_narrow.blocks.process_few.2: # @aes_v1.aes_narrow.blocks.process_few.
 	movzbl	29(%rbx), %ecx
 	movb	%cl, 11(%rsp)                   # 1-byte Spill
 	movzwl	30(%rbx), %edi
-.Laes_v1_BB21_5:                               # %"aes_narrow::blocks::batch_of_few::<#7d3b633001169d8c>.exit"
+.Laes_v1_BB21_5:                               # %"aes_narrow::blocks::filled_up::<#7d3b633001169d8c>.exit"
 	movzbl	14(%rsp), %edx                  # 1-byte Folded Reload
 	movzbl	13(%rsp), %ecx                  # 1-byte Folded Reload
 	movzbl	12(%rsp), %r9d                  # 1-byte Folded Reload
-.Laes_v1_BB21_6:                               # %"aes_narrow::blocks::batch_of_few::<#7d3b633001169d8c>.exit"
+.Laes_v1_BB21_6:                               # %"aes_narrow::blocks::filled_up::<#7d3b633001169d8c>.exit"
 	movzbl	%r9b, %ebp
 	shll	$8, %ebp
 	movzbl	%cl, %ecx
@@ -7173,7 +7173,7 @@ aes_v1.aes_narrow.blocks.process_few.2: # @aes_v1.aes_narrow.blocks.process_few.
 	punpcklqdq	%xmm4, %xmm2            # xmm2 = xmm2[0],xmm4[0]
 	pxor	%xmm0, %xmm2
 	movdqu	%xmm2, 16(%rbx)
-.Laes_v1_BB21_9:                               # %"aes_narrow::blocks::put_few::<#7d3b633001169d8c>.exit"
+.Laes_v1_BB21_9:                               # %"aes_narrow::blocks::put_first::<#7d3b633001169d8c>.exit"
 	addq	$88, %rsp
 	popq	%rbx
 	popq	%r12
@@ -7183,7 +7183,7 @@ aes_v1.aes_narrow.blocks.process_few.2: # @aes_v1.aes_narrow.blocks.process_few.
 	popq	%rbp
 	retq
 .Laes_v1_func_end21:
-	.size	aes_v1.aes_narrow.blocks.process_few.2, .Laes_v1_func_end21-aes_v1.aes_narrow.blocks.process_few.2
+	.size	aes_v1.aes_narrow.blocks.process_filled_up.2, .Laes_v1_func_end21-aes_v1.aes_narrow.blocks.process_filled_up.2
                                         # -- End function
 	.section	.text.aes_v1.aes_narrow.blocks.process_state.2,"ax",@progbits
 	.p2align	4                               # -- Begin function aes_narrow::blocks::process_state::<#a3dcb71d05bd149b>
@@ -10319,7 +10319,7 @@ aes_v1.aes_narrow.blocks.process_in_batches.2: # @aes_v1.aes_narrow.blocks.proce
 	addq	%r14, %rdx
 	movq	%r12, %rdi
 	movq	%r15, %rsi
-	callq	aes_v1.aes_narrow.blocks.process_few.2
+	callq	aes_v1.aes_narrow.blocks.process_filled_up.2
 	movq	%r13, %rdx
 	cmpq	%rbx, %r13
 	jb	.Laes_v1_BB23_2
@@ -16250,5 +16250,5 @@ aes_v1.fotsgure_aes_ccm_seal:                  # @aes_v1.fotsgure_aes_ccm_seal
 	.long	9, 118, 1
 	.asciz	"Fotsgure"
 	.p2align	2, 0x0
-	.asciz	"fotsgure_aes 0.4.0, x86_64/aes_v1.s, sources SHA-256 46921789358eaca23fa4ae4eea30ab0e26ba1bdf6ccb1d0247d98ca9f1c6b73d"
+	.asciz	"fotsgure_aes 0.4.0, x86_64/aes_v1.s, sources SHA-256 568705d49fc313d51a3118f972883289c0abab049ad136132806690e516afe49"
 	.p2align	2, 0x0

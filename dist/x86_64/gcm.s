@@ -1229,7 +1229,7 @@ gcm_v2.aes_permute.lane_keys.expand_lanes: # @gcm_v2.aes_permute.lane_keys.expan
 	.size	gcm_v2.aes_permute.lane_keys.expand_lanes, .Lgcm_v2_func_end4-gcm_v2.aes_permute.lane_keys.expand_lanes
                                         # -- End function
 	.section	.rodata.cst16,"aM",@progbits,16
-	.p2align	4, 0x0                          # -- Begin function gcm::mode::BorrowedGcm::put_pre_counter::<#8bfc6ace315c867e>
+	.p2align	4, 0x0                          # -- Begin function gcm::mode::BorrowedGcm::put_pre_counter::<#e698720ccb2969c4>
 .Lgcm_v2_CPI5_0:
 	.byte	0                               # 0x0
 	.byte	0                               # 0x0
@@ -1386,7 +1386,7 @@ gcm_v2.gcm.mode.BorrowedGcm.put_pre_counter: # @gcm_v2.gcm.mode.BorrowedGcm.put_
 	xorl	%esi, %esi
 	xorl	%edx, %edx
 	movq	%r14, %r8
-	callq	gcm_v2.gcm.hash_room.RoomHashRoom.hash_on
+	callq	gcm_v2.gcm.hash_room.MultiplesRoomHashRoom.hash_on
 	movq	32(%r15), %rsi
 	movq	%r14, %xmm1
 	pshufd	$68, %xmm1, %xmm0               # xmm0 = xmm1[0,1,0,1]
@@ -1451,7 +1451,7 @@ gcm_v2.gcm.mode.BorrowedGcm.put_pre_counter: # @gcm_v2.gcm.mode.BorrowedGcm.put_
 	.size	gcm_v2.gcm.mode.BorrowedGcm.put_pre_counter, .Lgcm_v2_func_end5-gcm_v2.gcm.mode.BorrowedGcm.put_pre_counter
                                         # -- End function
 	.section	.rodata.cst16,"aM",@progbits,16
-	.p2align	4, 0x0                          # -- Begin function gcm::hash_room::RoomHashRoom::hash_on
+	.p2align	4, 0x0                          # -- Begin function gcm::hash_room::MultiplesRoomHashRoom::hash_on
 .Lgcm_v2_CPI6_0:
 	.byte	15                              # 0xf
 	.byte	14                              # 0xe
@@ -1469,10 +1469,10 @@ gcm_v2.gcm.mode.BorrowedGcm.put_pre_counter: # @gcm_v2.gcm.mode.BorrowedGcm.put_
 	.byte	2                               # 0x2
 	.byte	1                               # 0x1
 	.byte	0                               # 0x0
-	.section	.text.gcm_v2.gcm.hash_room.RoomHashRoom.hash_on,"ax",@progbits
+	.section	.text.gcm_v2.gcm.hash_room.MultiplesRoomHashRoom.hash_on,"ax",@progbits
 	.p2align	4
-	.type	gcm_v2.gcm.hash_room.RoomHashRoom.hash_on,@function
-gcm_v2.gcm.hash_room.RoomHashRoom.hash_on: # @gcm_v2.gcm.hash_room.RoomHashRoom.hash_on
+	.type	gcm_v2.gcm.hash_room.MultiplesRoomHashRoom.hash_on,@function
+gcm_v2.gcm.hash_room.MultiplesRoomHashRoom.hash_on: # @gcm_v2.gcm.hash_room.MultiplesRoomHashRoom.hash_on
 # %bb.0:                                # %start
 	pushq	%rbp
 	pushq	%r15
@@ -1612,7 +1612,7 @@ gcm_v2.gcm.hash_room.RoomHashRoom.hash_on: # @gcm_v2.gcm.hash_room.RoomHashRoom.
 	popq	%rbp
 	retq
 .Lgcm_v2_func_end6:
-	.size	gcm_v2.gcm.hash_room.RoomHashRoom.hash_on, .Lgcm_v2_func_end6-gcm_v2.gcm.hash_room.RoomHashRoom.hash_on
+	.size	gcm_v2.gcm.hash_room.MultiplesRoomHashRoom.hash_on, .Lgcm_v2_func_end6-gcm_v2.gcm.hash_room.MultiplesRoomHashRoom.hash_on
                                         # -- End function
 	.section	.rodata.cst16,"aM",@progbits,16
 	.p2align	4, 0x0                          # -- Begin function gcm::multiples::Multiples::three_products
@@ -2252,7 +2252,7 @@ gcm_v2.aes_cipher.zeroize.stack.wipe_stack.512: # @gcm_v2.aes_cipher.zeroize.sta
 	.size	gcm_v2.aes_cipher.zeroize.stack.wipe_stack.512, .Lgcm_v2_func_end10-gcm_v2.aes_cipher.zeroize.stack.wipe_stack.512
                                         # -- End function
 	.section	.rodata.cst16,"aM",@progbits,16
-	.p2align	4, 0x0                          # -- Begin function gcm::mode::BorrowedGcm::put_tag_so_far::<#8bfc6ace315c867e>
+	.p2align	4, 0x0                          # -- Begin function gcm::mode::BorrowedGcm::put_tag_so_far::<#e698720ccb2969c4>
 .Lgcm_v2_CPI11_0:
 	.byte	0                               # 0x0
 	.byte	0                               # 0x0
@@ -2733,7 +2733,7 @@ gcm_v2.gcm.tags.put_mask: # @gcm_v2.gcm.tags.put_mask
 	.size	gcm_v2.gcm.tags.put_mask, .Lgcm_v2_func_end12-gcm_v2.gcm.tags.put_mask
                                         # -- End function
 	.section	.text.gcm_v2.gcm.mode.BorrowedGcm.hash_what_came,"ax",@progbits
-	.p2align	4                               # -- Begin function gcm::mode::BorrowedGcm::hash_what_came::<#8bfc6ace315c867e>
+	.p2align	4                               # -- Begin function gcm::mode::BorrowedGcm::hash_what_came::<#e698720ccb2969c4>
 	.type	gcm_v2.gcm.mode.BorrowedGcm.hash_what_came,@function
 gcm_v2.gcm.mode.BorrowedGcm.hash_what_came: # @gcm_v2.gcm.mode.BorrowedGcm.hash_what_came
 # %bb.0:                                # %start
@@ -2748,12 +2748,12 @@ gcm_v2.gcm.mode.BorrowedGcm.hash_what_came: # @gcm_v2.gcm.mode.BorrowedGcm.hash_
 	bswapq	%rdx
 	leaq	64(%rsi), %rcx
 	movq	%rax, %rsi
-	jmp	gcm_v2.gcm.hash_room.RoomHashRoom.hash_on # TAILCALL
+	jmp	gcm_v2.gcm.hash_room.MultiplesRoomHashRoom.hash_on # TAILCALL
 .Lgcm_v2_func_end13:
 	.size	gcm_v2.gcm.mode.BorrowedGcm.hash_what_came, .Lgcm_v2_func_end13-gcm_v2.gcm.mode.BorrowedGcm.hash_what_came
                                         # -- End function
 	.section	.rodata.cst16,"aM",@progbits,16
-	.p2align	4, 0x0                          # -- Begin function gcm::mode::put_subkey::<#1ee4a1f63270783c>
+	.p2align	4, 0x0                          # -- Begin function gcm::mode::put_subkey::<#df66d58823e28773>
 .Lgcm_v2_CPI14_0:
 	.zero	16,15
 .Lgcm_v2_CPI14_1:
@@ -4808,7 +4808,7 @@ gcm_v2.gcm.multiples.put_table:            # @gcm_v2.gcm.multiples.put_table
 	.size	gcm_v2.gcm.multiples.put_table, .Lgcm_v2_func_end16-gcm_v2.gcm.multiples.put_table
                                         # -- End function
 	.section	.text.gcm_v2.gcm.mode.BorrowedGcm.compare,"ax",@progbits
-	.p2align	4                               # -- Begin function gcm::mode::BorrowedGcm::compare::<#8bfc6ace315c867e>
+	.p2align	4                               # -- Begin function gcm::mode::BorrowedGcm::compare::<#e698720ccb2969c4>
 	.type	gcm_v2.gcm.mode.BorrowedGcm.compare,@function
 gcm_v2.gcm.mode.BorrowedGcm.compare: # @gcm_v2.gcm.mode.BorrowedGcm.compare
 # %bb.0:                                # %start
@@ -4874,7 +4874,7 @@ gcm_v2.gcm.mode.BorrowedGcm.compare: # @gcm_v2.gcm.mode.BorrowedGcm.compare
 	.size	gcm_v2.gcm.mode.BorrowedGcm.compare, .Lgcm_v2_func_end17-gcm_v2.gcm.mode.BorrowedGcm.compare
                                         # -- End function
 	.section	.rodata.cst16,"aM",@progbits,16
-	.p2align	4, 0x0                          # -- Begin function gcm::mode::BorrowedGcm::put_tag::<#8bfc6ace315c867e>
+	.p2align	4, 0x0                          # -- Begin function gcm::mode::BorrowedGcm::put_tag::<#e698720ccb2969c4>
 .Lgcm_v2_CPI18_0:
 	.byte	15                              # 0xf
 	.byte	14                              # 0xe
@@ -4917,7 +4917,7 @@ gcm_v2.gcm.mode.BorrowedGcm.put_tag: # @gcm_v2.gcm.mode.BorrowedGcm.put_tag
 	xorl	%edx, %edx
 	movq	%rbp, %rcx
 	movq	%r13, %r8
-	callq	gcm_v2.gcm.hash_room.RoomHashRoom.hash_on
+	callq	gcm_v2.gcm.hash_room.MultiplesRoomHashRoom.hash_on
 	movq	%rdx, %xmm0
 	movq	%r13, %rcx
 	shrq	$53, %rcx
@@ -5013,7 +5013,7 @@ gcm_v2.gcm.mode.BorrowedGcm.put_tag: # @gcm_v2.gcm.mode.BorrowedGcm.put_tag
 	leaq	48(%rsp), %rdi
 	movq	%r12, %rsi
 	movdqa	%xmm1, %xmm0
-.Lgcm_v2_BB18_17:                              # %"gcm::tags::hash::<#de867e0411c14352>.exit"
+.Lgcm_v2_BB18_17:                              # %"gcm::tags::hash::<#84904cd934dcda78>.exit"
 	callq	gcm_v2.gcm.multiples.Multiples.block_product
 	jmp	.Lgcm_v2_BB18_18
 .Lgcm_v2_BB18_6:                               # %join.3.i.i.i
@@ -5076,7 +5076,7 @@ gcm_v2.gcm.mode.BorrowedGcm.put_tag: # @gcm_v2.gcm.mode.BorrowedGcm.put_tag
 	leaq	48(%rsp), %rdi
 	movq	%r12, %rsi
 	callq	gcm_v2.gcm.multiples.Multiples.three_products
-.Lgcm_v2_BB18_18:                              # %"gcm::tags::hash::<#de867e0411c14352>.exit"
+.Lgcm_v2_BB18_18:                              # %"gcm::tags::hash::<#84904cd934dcda78>.exit"
 	movq	56(%rsp), %rax
 	bswapq	%rax
 	movq	48(%rsp), %rcx
@@ -13252,7 +13252,7 @@ gcm_v2.aes_cipher.zeroize.stack.wipe_stack.2816: # @gcm_v2.aes_cipher.zeroize.st
 	.size	gcm_v2.aes_cipher.zeroize.stack.wipe_stack.2816, .Lgcm_v2_func_end47-gcm_v2.aes_cipher.zeroize.stack.wipe_stack.2816
                                         # -- End function
 	.section	.text.gcm_v2.gcm_c.siv.open_in.2,"ax",@progbits
-	.p2align	4                               # -- Begin function gcm_c::siv::open_in::<#730c80b4023fbf8d>
+	.p2align	4                               # -- Begin function gcm_c::siv::open_in::<#6ee9233b1430bb0c>
 	.type	gcm_v2.gcm_c.siv.open_in.2,@function
 gcm_v2.gcm_c.siv.open_in.2: # @gcm_v2.gcm_c.siv.open_in.2
 # %bb.0:                                # %start
@@ -13344,7 +13344,7 @@ gcm_v2.gcm_c.siv.open_in.2: # @gcm_v2.gcm_c.siv.open_in.2
 	.size	gcm_v2.gcm_c.siv.open_in.2, .Lgcm_v2_func_end48-gcm_v2.gcm_c.siv.open_in.2
                                         # -- End function
 	.section	.text.gcm_v2.gcm_c.siv.prepare.2,"ax",@progbits
-	.p2align	4                               # -- Begin function gcm_c::siv::prepare::<#730c80b4023fbf8d>
+	.p2align	4                               # -- Begin function gcm_c::siv::prepare::<#6ee9233b1430bb0c>
 	.type	gcm_v2.gcm_c.siv.prepare.2,@function
 gcm_v2.gcm_c.siv.prepare.2: # @gcm_v2.gcm_c.siv.prepare.2
 # %bb.0:                                # %start
@@ -13465,7 +13465,7 @@ gcm_v2.gcm_c.siv.prepare.2: # @gcm_v2.gcm_c.siv.prepare.2
 	.size	gcm_v2.gcm_c.siv.prepare.2, .Lgcm_v2_func_end49-gcm_v2.gcm_c.siv.prepare.2
                                         # -- End function
 	.section	.text.gcm_v2.gcm_siv.message.open.2,"ax",@progbits
-	.p2align	4                               # -- Begin function gcm_siv::message::open::<#891d1eb781147f79>
+	.p2align	4                               # -- Begin function gcm_siv::message::open::<#7927255b4de34720>
 	.type	gcm_v2.gcm_siv.message.open.2,@function
 gcm_v2.gcm_siv.message.open.2: # @gcm_v2.gcm_siv.message.open.2
 # %bb.0:                                # %start
@@ -13529,7 +13529,7 @@ gcm_v2.gcm_siv.message.open.2: # @gcm_v2.gcm_siv.message.open.2
 	.size	gcm_v2.gcm_siv.message.open.2, .Lgcm_v2_func_end50-gcm_v2.gcm_siv.message.open.2
                                         # -- End function
 	.section	.rodata.cst16,"aM",@progbits,16
-	.p2align	4, 0x0                          # -- Begin function gcm_siv::message::put_tag::<#891d1eb781147f79>
+	.p2align	4, 0x0                          # -- Begin function gcm_siv::message::put_tag::<#7927255b4de34720>
 .Lgcm_v2_CPI51_0:
 	.byte	15                              # 0xf
 	.byte	14                              # 0xe
@@ -13969,7 +13969,7 @@ gcm_v2.gcm_siv.message.put_tag.2: # @gcm_v2.gcm_siv.message.put_tag.2
 	leaq	64(%rsp), %rdi
 	movq	%r15, %rsi
 	movdqa	%xmm1, %xmm0
-.Lgcm_v2_BB51_34:                              # %"gcm_siv::hash::RoomPolyvalRoom::hash.exit"
+.Lgcm_v2_BB51_34:                              # %"gcm_siv::hash::MultiplesRoomPolyvalRoom::hash.exit"
 	callq	gcm_v2.gcm.multiples.Multiples.block_product
 	jmp	.Lgcm_v2_BB51_35
 .Lgcm_v2_BB51_23:                              # %join.3.i59.i
@@ -14033,7 +14033,7 @@ gcm_v2.gcm_siv.message.put_tag.2: # @gcm_v2.gcm_siv.message.put_tag.2
 	leaq	64(%rsp), %rdi
 	movq	%r15, %rsi
 	callq	gcm_v2.gcm.multiples.Multiples.three_products
-.Lgcm_v2_BB51_35:                              # %"gcm_siv::hash::RoomPolyvalRoom::hash.exit"
+.Lgcm_v2_BB51_35:                              # %"gcm_siv::hash::MultiplesRoomPolyvalRoom::hash.exit"
 	movq	64(%rsp), %rax
 	movq	72(%rsp), %rcx
 	bswapq	%rcx
@@ -14389,7 +14389,7 @@ gcm_v2.gcm_siv.message.seal.1: # @gcm_v2.gcm_siv.message.seal.1
 	.size	gcm_v2.gcm_siv.message.seal.1, .Lgcm_v2_func_end53-gcm_v2.gcm_siv.message.seal.1
                                         # -- End function
 	.section	.text.gcm_v2.gcm_c.siv.seal_in.2,"ax",@progbits
-	.p2align	4                               # -- Begin function gcm_c::siv::seal_in::<#730c80b4023fbf8d>
+	.p2align	4                               # -- Begin function gcm_c::siv::seal_in::<#6ee9233b1430bb0c>
 	.type	gcm_v2.gcm_c.siv.seal_in.2,@function
 gcm_v2.gcm_c.siv.seal_in.2: # @gcm_v2.gcm_c.siv.seal_in.2
 # %bb.0:                                # %start
@@ -14482,7 +14482,7 @@ gcm_v2.gcm_c.siv.seal_in.2: # @gcm_v2.gcm_c.siv.seal_in.2
 	.size	gcm_v2.gcm_c.siv.seal_in.2, .Lgcm_v2_func_end54-gcm_v2.gcm_c.siv.seal_in.2
                                         # -- End function
 	.section	.text.gcm_v2.gcm_siv.message.seal.2,"ax",@progbits
-	.p2align	4                               # -- Begin function gcm_siv::message::seal::<#891d1eb781147f79>
+	.p2align	4                               # -- Begin function gcm_siv::message::seal::<#7927255b4de34720>
 	.type	gcm_v2.gcm_siv.message.seal.2,@function
 gcm_v2.gcm_siv.message.seal.2: # @gcm_v2.gcm_siv.message.seal.2
 # %bb.0:                                # %start
@@ -14526,7 +14526,7 @@ gcm_v2.gcm_siv.message.seal.2: # @gcm_v2.gcm_siv.message.seal.2
 	.size	gcm_v2.gcm_siv.message.seal.2, .Lgcm_v2_func_end55-gcm_v2.gcm_siv.message.seal.2
                                         # -- End function
 	.section	.rodata.cst16,"aM",@progbits,16
-	.p2align	4, 0x0                          # -- Begin function gcm::hash_room::hash_piece::<#de867e0411c14352>
+	.p2align	4, 0x0                          # -- Begin function gcm::hash_room::hash_piece::<#84904cd934dcda78>
 .Lgcm_v2_CPI56_0:
 	.byte	15                              # 0xf
 	.byte	14                              # 0xe
@@ -14788,7 +14788,7 @@ gcm_v2.gcm.hash_room.hash_piece: # @gcm_v2.gcm.hash_room.hash_piece
 	movq	%r12, %rsi
 	movq	%r13, %rdx
 	movq	24(%rsp), %rcx                  # 8-byte Reload
-	callq	gcm_v2.gcm.hash_room.RoomHashRoom.hash_on
+	callq	gcm_v2.gcm.hash_room.MultiplesRoomHashRoom.hash_on
 	movq	%rdx, %xmm0
 	movq	%rax, %xmm1
 	punpcklqdq	%xmm0, %xmm1            # xmm1 = xmm1[0],xmm0[0]
@@ -14850,7 +14850,7 @@ gcm_v2.gcm.hash_room.hash_piece: # @gcm_v2.gcm.hash_room.hash_piece
 	.size	gcm_v2.gcm.hash_room.hash_piece, .Lgcm_v2_func_end56-gcm_v2.gcm.hash_room.hash_piece
                                         # -- End function
 	.section	.rodata.cst16,"aM",@progbits,16
-	.p2align	4, 0x0                          # -- Begin function gcm::mode::BorrowedGcm::turn_to::<#8bfc6ace315c867e>
+	.p2align	4, 0x0                          # -- Begin function gcm::mode::BorrowedGcm::turn_to::<#e698720ccb2969c4>
 .Lgcm_v2_CPI57_0:
 	.byte	15                              # 0xf
 	.byte	14                              # 0xe
@@ -14927,7 +14927,7 @@ gcm_v2.gcm.mode.BorrowedGcm.turn_to: # @gcm_v2.gcm.mode.BorrowedGcm.turn_to
 	.size	gcm_v2.gcm.mode.BorrowedGcm.turn_to, .Lgcm_v2_func_end57-gcm_v2.gcm.mode.BorrowedGcm.turn_to
                                         # -- End function
 	.section	.text.gcm_v2.gcm.mode.BorrowedGcm.is_tag_so_far,"ax",@progbits
-	.p2align	4                               # -- Begin function gcm::mode::BorrowedGcm::is_tag_so_far::<#8bfc6ace315c867e>
+	.p2align	4                               # -- Begin function gcm::mode::BorrowedGcm::is_tag_so_far::<#e698720ccb2969c4>
 	.type	gcm_v2.gcm.mode.BorrowedGcm.is_tag_so_far,@function
 gcm_v2.gcm.mode.BorrowedGcm.is_tag_so_far: # @gcm_v2.gcm.mode.BorrowedGcm.is_tag_so_far
 # %bb.0:                                # %start
@@ -14954,7 +14954,7 @@ gcm_v2.gcm.mode.BorrowedGcm.is_tag_so_far: # @gcm_v2.gcm.mode.BorrowedGcm.is_tag
 	.size	gcm_v2.gcm.mode.BorrowedGcm.is_tag_so_far, .Lgcm_v2_func_end58-gcm_v2.gcm.mode.BorrowedGcm.is_tag_so_far
                                         # -- End function
 	.section	.text.gcm_v2.gcm.mode.BorrowedGcm.is_short_tag_so_far,"ax",@progbits
-	.p2align	4                               # -- Begin function gcm::mode::BorrowedGcm::is_short_tag_so_far::<#8bfc6ace315c867e>
+	.p2align	4                               # -- Begin function gcm::mode::BorrowedGcm::is_short_tag_so_far::<#e698720ccb2969c4>
 	.type	gcm_v2.gcm.mode.BorrowedGcm.is_short_tag_so_far,@function
 gcm_v2.gcm.mode.BorrowedGcm.is_short_tag_so_far: # @gcm_v2.gcm.mode.BorrowedGcm.is_short_tag_so_far
 # %bb.0:                                # %start
@@ -15422,7 +15422,7 @@ gcm_v2.fotsgure_gcm_begin_next:                # @gcm_v2.fotsgure_gcm_begin_next
 	bswapl	%eax
 	movl	%eax, (%rdx)
 	movq	%rdi, 4(%rdx)
-.Lgcm_v2_BB67_8:                               # %"gcm::mode::BorrowedGcm::begin_next::<#8bfc6ace315c867e>.exit.i"
+.Lgcm_v2_BB67_8:                               # %"gcm::mode::BorrowedGcm::begin_next::<#e698720ccb2969c4>.exit.i"
 	movl	%r8d, 4(%rsp)
 	movq	%rcx, 8(%rsp)
 	leaq	32(%rsi), %rcx
@@ -16191,7 +16191,7 @@ gcm_v2.fotsgure_gcm_open_to:                   # @gcm_v2.fotsgure_gcm_open_to
 	movq	%r14, %rcx
 	callq	gcm_v2.gcm.gctr.add_gctr
 	xorl	%ebx, %ebx
-.Lgcm_v2_BB72_33:                              # %"gcm::mode::BorrowedGcm::decrypt_to::<#8bfc6ace315c867e>.exit.i"
+.Lgcm_v2_BB72_33:                              # %"gcm::mode::BorrowedGcm::decrypt_to::<#e698720ccb2969c4>.exit.i"
 	leaq	64(%rsp), %rdi
 	callq	gcm_v2.aes_cipher.zeroize.elements.zeroize_elements.3
 	callq	gcm_v2.aes_cipher.zeroize.stack.wipe_stack.1536
@@ -18025,5 +18025,5 @@ gcm_v2.fotsgure_gcm_accept_short:              # @gcm_v2.fotsgure_gcm_accept_sho
 	.long	9, 115, 1
 	.asciz	"Fotsgure"
 	.p2align	2, 0x0
-	.asciz	"fotsgure_gcm 0.4.0, x86_64/gcm.s, sources SHA-256 c5580fd5c08fd1ce251de00bc68bbabc41e05f02470d0c531f44ab6d5c423d70"
+	.asciz	"fotsgure_gcm 0.4.0, x86_64/gcm.s, sources SHA-256 7ffbfed4fdc57d310dc7b2575290ae8baa1c67d9e3c172c81948d4bb9f7ef94b"
 	.p2align	2, 0x0

@@ -1141,7 +1141,7 @@ gcm_v3.aes_permute.lane_keys.expand_lanes: # @gcm_v3.aes_permute.lane_keys.expan
 	.size	gcm_v3.aes_permute.lane_keys.expand_lanes, .Lgcm_v3_func_end4-gcm_v3.aes_permute.lane_keys.expand_lanes
                                         # -- End function
 	.section	.rodata.cst32,"aM",@progbits,32
-	.p2align	5, 0x0                          # -- Begin function gcm::mode::BorrowedGcm::put_pre_counter::<#265f21f9951183cc>
+	.p2align	5, 0x0                          # -- Begin function gcm::mode::BorrowedGcm::put_pre_counter::<#dd61a12db5c00f5a>
 .Lgcm_v3_CPI5_0:
 	.quad	43                              # 0x2b
 	.quad	27                              # 0x1b
@@ -1303,7 +1303,7 @@ gcm_v3.gcm.mode.BorrowedGcm.put_pre_counter: # @gcm_v3.gcm.mode.BorrowedGcm.put_
 	xorl	%esi, %esi
 	xorl	%edx, %edx
 	movq	%r14, %r8
-	callq	gcm_v3.gcm.hash_room.RoomHashRoom.hash_on
+	callq	gcm_v3.gcm.hash_room.MultiplesRoomHashRoom.hash_on
 	vmovq	%r14, %xmm0
 	shlq	$3, %r14
 	vpbroadcastq	%xmm0, %ymm0
@@ -1357,7 +1357,7 @@ gcm_v3.gcm.mode.BorrowedGcm.put_pre_counter: # @gcm_v3.gcm.mode.BorrowedGcm.put_
 	.size	gcm_v3.gcm.mode.BorrowedGcm.put_pre_counter, .Lgcm_v3_func_end5-gcm_v3.gcm.mode.BorrowedGcm.put_pre_counter
                                         # -- End function
 	.section	.rodata.cst16,"aM",@progbits,16
-	.p2align	4, 0x0                          # -- Begin function gcm::hash_room::RoomHashRoom::hash_on
+	.p2align	4, 0x0                          # -- Begin function gcm::hash_room::MultiplesRoomHashRoom::hash_on
 .Lgcm_v3_CPI6_0:
 	.byte	15                              # 0xf
 	.byte	14                              # 0xe
@@ -1375,10 +1375,10 @@ gcm_v3.gcm.mode.BorrowedGcm.put_pre_counter: # @gcm_v3.gcm.mode.BorrowedGcm.put_
 	.byte	2                               # 0x2
 	.byte	1                               # 0x1
 	.byte	0                               # 0x0
-	.section	.text.gcm_v3.gcm.hash_room.RoomHashRoom.hash_on,"ax",@progbits
+	.section	.text.gcm_v3.gcm.hash_room.MultiplesRoomHashRoom.hash_on,"ax",@progbits
 	.p2align	4
-	.type	gcm_v3.gcm.hash_room.RoomHashRoom.hash_on,@function
-gcm_v3.gcm.hash_room.RoomHashRoom.hash_on: # @gcm_v3.gcm.hash_room.RoomHashRoom.hash_on
+	.type	gcm_v3.gcm.hash_room.MultiplesRoomHashRoom.hash_on,@function
+gcm_v3.gcm.hash_room.MultiplesRoomHashRoom.hash_on: # @gcm_v3.gcm.hash_room.MultiplesRoomHashRoom.hash_on
 # %bb.0:                                # %start
 	pushq	%rbp
 	pushq	%r15
@@ -1515,7 +1515,7 @@ gcm_v3.gcm.hash_room.RoomHashRoom.hash_on: # @gcm_v3.gcm.hash_room.RoomHashRoom.
 	popq	%rbp
 	retq
 .Lgcm_v3_func_end6:
-	.size	gcm_v3.gcm.hash_room.RoomHashRoom.hash_on, .Lgcm_v3_func_end6-gcm_v3.gcm.hash_room.RoomHashRoom.hash_on
+	.size	gcm_v3.gcm.hash_room.MultiplesRoomHashRoom.hash_on, .Lgcm_v3_func_end6-gcm_v3.gcm.hash_room.MultiplesRoomHashRoom.hash_on
                                         # -- End function
 	.section	.rodata.cst32,"aM",@progbits,32
 	.p2align	5, 0x0                          # -- Begin function gcm::multiples::Multiples::three_products
@@ -2133,7 +2133,7 @@ gcm_v3.aes_cipher.zeroize.stack.wipe_stack.512: # @gcm_v3.aes_cipher.zeroize.sta
 	.size	gcm_v3.aes_cipher.zeroize.stack.wipe_stack.512, .Lgcm_v3_func_end10-gcm_v3.aes_cipher.zeroize.stack.wipe_stack.512
                                         # -- End function
 	.section	.rodata.cst32,"aM",@progbits,32
-	.p2align	5, 0x0                          # -- Begin function gcm::mode::BorrowedGcm::put_tag_so_far::<#265f21f9951183cc>
+	.p2align	5, 0x0                          # -- Begin function gcm::mode::BorrowedGcm::put_tag_so_far::<#dd61a12db5c00f5a>
 .Lgcm_v3_CPI11_0:
 	.quad	43                              # 0x2b
 	.quad	27                              # 0x1b
@@ -2592,7 +2592,7 @@ gcm_v3.gcm.tags.put_mask: # @gcm_v3.gcm.tags.put_mask
 	.size	gcm_v3.gcm.tags.put_mask, .Lgcm_v3_func_end12-gcm_v3.gcm.tags.put_mask
                                         # -- End function
 	.section	.text.gcm_v3.gcm.mode.BorrowedGcm.hash_what_came,"ax",@progbits
-	.p2align	4                               # -- Begin function gcm::mode::BorrowedGcm::hash_what_came::<#265f21f9951183cc>
+	.p2align	4                               # -- Begin function gcm::mode::BorrowedGcm::hash_what_came::<#dd61a12db5c00f5a>
 	.type	gcm_v3.gcm.mode.BorrowedGcm.hash_what_came,@function
 gcm_v3.gcm.mode.BorrowedGcm.hash_what_came: # @gcm_v3.gcm.mode.BorrowedGcm.hash_what_came
 # %bb.0:                                # %start
@@ -2605,12 +2605,12 @@ gcm_v3.gcm.mode.BorrowedGcm.hash_what_came: # @gcm_v3.gcm.mode.BorrowedGcm.hash_
 	movbeq	48(%rsi), %rdx
 	leaq	64(%rsi), %rcx
 	movq	%rax, %rsi
-	jmp	gcm_v3.gcm.hash_room.RoomHashRoom.hash_on # TAILCALL
+	jmp	gcm_v3.gcm.hash_room.MultiplesRoomHashRoom.hash_on # TAILCALL
 .Lgcm_v3_func_end13:
 	.size	gcm_v3.gcm.mode.BorrowedGcm.hash_what_came, .Lgcm_v3_func_end13-gcm_v3.gcm.mode.BorrowedGcm.hash_what_came
                                         # -- End function
 	.section	.rodata.cst16,"aM",@progbits,16
-	.p2align	4, 0x0                          # -- Begin function gcm::mode::put_subkey::<#89719a5bfdff2a0e>
+	.p2align	4, 0x0                          # -- Begin function gcm::mode::put_subkey::<#3b20be08343c3969>
 .Lgcm_v3_CPI14_0:
 	.zero	16,15
 .Lgcm_v3_CPI14_1:
@@ -4383,7 +4383,7 @@ gcm_v3.gcm.multiples.put_table:            # @gcm_v3.gcm.multiples.put_table
 	.size	gcm_v3.gcm.multiples.put_table, .Lgcm_v3_func_end16-gcm_v3.gcm.multiples.put_table
                                         # -- End function
 	.section	.text.gcm_v3.gcm.mode.BorrowedGcm.compare,"ax",@progbits
-	.p2align	4                               # -- Begin function gcm::mode::BorrowedGcm::compare::<#265f21f9951183cc>
+	.p2align	4                               # -- Begin function gcm::mode::BorrowedGcm::compare::<#dd61a12db5c00f5a>
 	.type	gcm_v3.gcm.mode.BorrowedGcm.compare,@function
 gcm_v3.gcm.mode.BorrowedGcm.compare: # @gcm_v3.gcm.mode.BorrowedGcm.compare
 # %bb.0:                                # %start
@@ -4449,7 +4449,7 @@ gcm_v3.gcm.mode.BorrowedGcm.compare: # @gcm_v3.gcm.mode.BorrowedGcm.compare
 	.size	gcm_v3.gcm.mode.BorrowedGcm.compare, .Lgcm_v3_func_end17-gcm_v3.gcm.mode.BorrowedGcm.compare
                                         # -- End function
 	.section	.rodata.cst16,"aM",@progbits,16
-	.p2align	4, 0x0                          # -- Begin function gcm::mode::BorrowedGcm::put_tag::<#265f21f9951183cc>
+	.p2align	4, 0x0                          # -- Begin function gcm::mode::BorrowedGcm::put_tag::<#dd61a12db5c00f5a>
 .Lgcm_v3_CPI18_0:
 	.byte	15                              # 0xf
 	.byte	14                              # 0xe
@@ -4492,7 +4492,7 @@ gcm_v3.gcm.mode.BorrowedGcm.put_tag: # @gcm_v3.gcm.mode.BorrowedGcm.put_tag
 	xorl	%edx, %edx
 	movq	%rbp, %rcx
 	movq	%r13, %r8
-	callq	gcm_v3.gcm.hash_room.RoomHashRoom.hash_on
+	callq	gcm_v3.gcm.hash_room.MultiplesRoomHashRoom.hash_on
 	vmovq	%rdx, %xmm0
 	movq	%r13, %rcx
 	shrq	$53, %rcx
@@ -4582,7 +4582,7 @@ gcm_v3.gcm.mode.BorrowedGcm.put_tag: # @gcm_v3.gcm.mode.BorrowedGcm.put_tag
 	jne	.Lgcm_v3_BB18_6
 # %bb.5:                                # %then.1.i.i.i
 	vpxor	%xmm2, %xmm3, %xmm0
-.Lgcm_v3_BB18_17:                              # %"gcm::tags::hash::<#de867e0411c14352>.exit"
+.Lgcm_v3_BB18_17:                              # %"gcm::tags::hash::<#84904cd934dcda78>.exit"
 	leaq	48(%rsp), %rdi
 	movq	%r12, %rsi
 	callq	gcm_v3.gcm.multiples.Multiples.block_product
@@ -4645,7 +4645,7 @@ gcm_v3.gcm.mode.BorrowedGcm.put_tag: # @gcm_v3.gcm.mode.BorrowedGcm.put_tag
 	leaq	48(%rsp), %rdi
 	movq	%r12, %rsi
 	callq	gcm_v3.gcm.multiples.Multiples.three_products
-.Lgcm_v3_BB18_18:                              # %"gcm::tags::hash::<#de867e0411c14352>.exit"
+.Lgcm_v3_BB18_18:                              # %"gcm::tags::hash::<#84904cd934dcda78>.exit"
 	movbeq	56(%rsp), %rax
 	movbeq	48(%rsp), %rcx
 	vmovq	%rcx, %xmm0
@@ -13471,7 +13471,7 @@ gcm_v3.aes_cipher.zeroize.stack.wipe_stack.2816: # @gcm_v3.aes_cipher.zeroize.st
 	.size	gcm_v3.aes_cipher.zeroize.stack.wipe_stack.2816, .Lgcm_v3_func_end47-gcm_v3.aes_cipher.zeroize.stack.wipe_stack.2816
                                         # -- End function
 	.section	.text.gcm_v3.gcm_c.siv.open_in.2,"ax",@progbits
-	.p2align	4                               # -- Begin function gcm_c::siv::open_in::<#730c80b4023fbf8d>
+	.p2align	4                               # -- Begin function gcm_c::siv::open_in::<#6ee9233b1430bb0c>
 	.type	gcm_v3.gcm_c.siv.open_in.2,@function
 gcm_v3.gcm_c.siv.open_in.2: # @gcm_v3.gcm_c.siv.open_in.2
 # %bb.0:                                # %start
@@ -13556,7 +13556,7 @@ gcm_v3.gcm_c.siv.open_in.2: # @gcm_v3.gcm_c.siv.open_in.2
 	.size	gcm_v3.gcm_c.siv.open_in.2, .Lgcm_v3_func_end48-gcm_v3.gcm_c.siv.open_in.2
                                         # -- End function
 	.section	.text.gcm_v3.gcm_c.siv.prepare.2,"ax",@progbits
-	.p2align	4                               # -- Begin function gcm_c::siv::prepare::<#730c80b4023fbf8d>
+	.p2align	4                               # -- Begin function gcm_c::siv::prepare::<#6ee9233b1430bb0c>
 	.type	gcm_v3.gcm_c.siv.prepare.2,@function
 gcm_v3.gcm_c.siv.prepare.2: # @gcm_v3.gcm_c.siv.prepare.2
 # %bb.0:                                # %start
@@ -13674,7 +13674,7 @@ gcm_v3.gcm_c.siv.prepare.2: # @gcm_v3.gcm_c.siv.prepare.2
 	.size	gcm_v3.gcm_c.siv.prepare.2, .Lgcm_v3_func_end49-gcm_v3.gcm_c.siv.prepare.2
                                         # -- End function
 	.section	.text.gcm_v3.gcm_siv.message.open.2,"ax",@progbits
-	.p2align	4                               # -- Begin function gcm_siv::message::open::<#448f591e81c2a7bf>
+	.p2align	4                               # -- Begin function gcm_siv::message::open::<#2d1285385daa076a>
 	.type	gcm_v3.gcm_siv.message.open.2,@function
 gcm_v3.gcm_siv.message.open.2: # @gcm_v3.gcm_siv.message.open.2
 # %bb.0:                                # %start
@@ -13738,7 +13738,7 @@ gcm_v3.gcm_siv.message.open.2: # @gcm_v3.gcm_siv.message.open.2
 	.size	gcm_v3.gcm_siv.message.open.2, .Lgcm_v3_func_end50-gcm_v3.gcm_siv.message.open.2
                                         # -- End function
 	.section	.rodata.cst16,"aM",@progbits,16
-	.p2align	4, 0x0                          # -- Begin function gcm_siv::message::put_tag::<#448f591e81c2a7bf>
+	.p2align	4, 0x0                          # -- Begin function gcm_siv::message::put_tag::<#2d1285385daa076a>
 .Lgcm_v3_CPI51_0:
 	.byte	15                              # 0xf
 	.byte	14                              # 0xe
@@ -14250,7 +14250,7 @@ gcm_v3.gcm_siv.message.put_tag.2: # @gcm_v3.gcm_siv.message.put_tag.2
 	jne	.Lgcm_v3_BB51_23
 # %bb.22:                               # %then.1.i139.i
 	vpxor	%xmm3, %xmm2, %xmm0
-.Lgcm_v3_BB51_34:                              # %"gcm_siv::hash::RoomPolyvalRoom::hash.exit"
+.Lgcm_v3_BB51_34:                              # %"gcm_siv::hash::MultiplesRoomPolyvalRoom::hash.exit"
 	leaq	64(%rsp), %rdi
 	movq	%r15, %rsi
 	callq	gcm_v3.gcm.multiples.Multiples.block_product
@@ -14317,7 +14317,7 @@ gcm_v3.gcm_siv.message.put_tag.2: # @gcm_v3.gcm_siv.message.put_tag.2
 	movq	%r15, %rsi
 	vmovdqa	%xmm3, %xmm2
 	callq	gcm_v3.gcm.multiples.Multiples.three_products
-.Lgcm_v3_BB51_35:                              # %"gcm_siv::hash::RoomPolyvalRoom::hash.exit"
+.Lgcm_v3_BB51_35:                              # %"gcm_siv::hash::MultiplesRoomPolyvalRoom::hash.exit"
 	movbeq	72(%rsp), %rcx
 	movbeq	64(%rsp), %rax
 	movq	%rax, %rdx
@@ -14663,7 +14663,7 @@ gcm_v3.gcm_siv.message.seal.1: # @gcm_v3.gcm_siv.message.seal.1
 	.size	gcm_v3.gcm_siv.message.seal.1, .Lgcm_v3_func_end53-gcm_v3.gcm_siv.message.seal.1
                                         # -- End function
 	.section	.text.gcm_v3.gcm_c.siv.seal_in.2,"ax",@progbits
-	.p2align	4                               # -- Begin function gcm_c::siv::seal_in::<#730c80b4023fbf8d>
+	.p2align	4                               # -- Begin function gcm_c::siv::seal_in::<#6ee9233b1430bb0c>
 	.type	gcm_v3.gcm_c.siv.seal_in.2,@function
 gcm_v3.gcm_c.siv.seal_in.2: # @gcm_v3.gcm_c.siv.seal_in.2
 # %bb.0:                                # %start
@@ -14749,7 +14749,7 @@ gcm_v3.gcm_c.siv.seal_in.2: # @gcm_v3.gcm_c.siv.seal_in.2
 	.size	gcm_v3.gcm_c.siv.seal_in.2, .Lgcm_v3_func_end54-gcm_v3.gcm_c.siv.seal_in.2
                                         # -- End function
 	.section	.text.gcm_v3.gcm_siv.message.seal.2,"ax",@progbits
-	.p2align	4                               # -- Begin function gcm_siv::message::seal::<#448f591e81c2a7bf>
+	.p2align	4                               # -- Begin function gcm_siv::message::seal::<#2d1285385daa076a>
 	.type	gcm_v3.gcm_siv.message.seal.2,@function
 gcm_v3.gcm_siv.message.seal.2: # @gcm_v3.gcm_siv.message.seal.2
 # %bb.0:                                # %start
@@ -14793,7 +14793,7 @@ gcm_v3.gcm_siv.message.seal.2: # @gcm_v3.gcm_siv.message.seal.2
 	.size	gcm_v3.gcm_siv.message.seal.2, .Lgcm_v3_func_end55-gcm_v3.gcm_siv.message.seal.2
                                         # -- End function
 	.section	.rodata.cst16,"aM",@progbits,16
-	.p2align	4, 0x0                          # -- Begin function gcm::hash_room::hash_piece::<#de867e0411c14352>
+	.p2align	4, 0x0                          # -- Begin function gcm::hash_room::hash_piece::<#84904cd934dcda78>
 .Lgcm_v3_CPI56_0:
 	.byte	15                              # 0xf
 	.byte	14                              # 0xe
@@ -15069,7 +15069,7 @@ gcm_v3.gcm.hash_room.hash_piece: # @gcm_v3.gcm.hash_room.hash_piece
 	movq	%r13, %rsi
 	movq	%r15, %rdx
 	movq	24(%rsp), %rcx                  # 8-byte Reload
-	callq	gcm_v3.gcm.hash_room.RoomHashRoom.hash_on
+	callq	gcm_v3.gcm.hash_room.MultiplesRoomHashRoom.hash_on
 	vmovq	%rdx, %xmm0
 	vmovq	%rax, %xmm1
 	vpunpcklqdq	%xmm0, %xmm1, %xmm0     # xmm0 = xmm1[0],xmm0[0]
@@ -15136,7 +15136,7 @@ gcm_v3.gcm.hash_room.hash_piece: # @gcm_v3.gcm.hash_room.hash_piece
 	.size	gcm_v3.gcm.hash_room.hash_piece, .Lgcm_v3_func_end56-gcm_v3.gcm.hash_room.hash_piece
                                         # -- End function
 	.section	.rodata.cst16,"aM",@progbits,16
-	.p2align	4, 0x0                          # -- Begin function gcm::mode::BorrowedGcm::turn_to::<#265f21f9951183cc>
+	.p2align	4, 0x0                          # -- Begin function gcm::mode::BorrowedGcm::turn_to::<#dd61a12db5c00f5a>
 .Lgcm_v3_CPI57_0:
 	.byte	15                              # 0xf
 	.byte	14                              # 0xe
@@ -15213,7 +15213,7 @@ gcm_v3.gcm.mode.BorrowedGcm.turn_to: # @gcm_v3.gcm.mode.BorrowedGcm.turn_to
 	.size	gcm_v3.gcm.mode.BorrowedGcm.turn_to, .Lgcm_v3_func_end57-gcm_v3.gcm.mode.BorrowedGcm.turn_to
                                         # -- End function
 	.section	.text.gcm_v3.gcm.mode.BorrowedGcm.is_tag_so_far,"ax",@progbits
-	.p2align	4                               # -- Begin function gcm::mode::BorrowedGcm::is_tag_so_far::<#265f21f9951183cc>
+	.p2align	4                               # -- Begin function gcm::mode::BorrowedGcm::is_tag_so_far::<#dd61a12db5c00f5a>
 	.type	gcm_v3.gcm.mode.BorrowedGcm.is_tag_so_far,@function
 gcm_v3.gcm.mode.BorrowedGcm.is_tag_so_far: # @gcm_v3.gcm.mode.BorrowedGcm.is_tag_so_far
 # %bb.0:                                # %start
@@ -15240,7 +15240,7 @@ gcm_v3.gcm.mode.BorrowedGcm.is_tag_so_far: # @gcm_v3.gcm.mode.BorrowedGcm.is_tag
 	.size	gcm_v3.gcm.mode.BorrowedGcm.is_tag_so_far, .Lgcm_v3_func_end58-gcm_v3.gcm.mode.BorrowedGcm.is_tag_so_far
                                         # -- End function
 	.section	.text.gcm_v3.gcm.mode.BorrowedGcm.is_short_tag_so_far,"ax",@progbits
-	.p2align	4                               # -- Begin function gcm::mode::BorrowedGcm::is_short_tag_so_far::<#265f21f9951183cc>
+	.p2align	4                               # -- Begin function gcm::mode::BorrowedGcm::is_short_tag_so_far::<#dd61a12db5c00f5a>
 	.type	gcm_v3.gcm.mode.BorrowedGcm.is_short_tag_so_far,@function
 gcm_v3.gcm.mode.BorrowedGcm.is_short_tag_so_far: # @gcm_v3.gcm.mode.BorrowedGcm.is_short_tag_so_far
 # %bb.0:                                # %start
@@ -15688,7 +15688,7 @@ gcm_v3.fotsgure_gcm_begin_next:                # @gcm_v3.fotsgure_gcm_begin_next
 .Lgcm_v3_BB67_7:                               # %arm.1.i.i.i
 	movbel	%eax, (%rdx)
 	movq	%rdi, 4(%rdx)
-.Lgcm_v3_BB67_8:                               # %"gcm::mode::BorrowedGcm::begin_next::<#265f21f9951183cc>.exit.i"
+.Lgcm_v3_BB67_8:                               # %"gcm::mode::BorrowedGcm::begin_next::<#dd61a12db5c00f5a>.exit.i"
 	movl	%r8d, 4(%rsp)
 	movq	%rcx, 8(%rsp)
 	leaq	32(%rsi), %rcx
@@ -16465,7 +16465,7 @@ gcm_v3.fotsgure_gcm_open_to:                   # @gcm_v3.fotsgure_gcm_open_to
 	vzeroupper
 	callq	gcm_v3.gcm.gctr.add_gctr
 	xorl	%ebx, %ebx
-.Lgcm_v3_BB72_33:                              # %"gcm::mode::BorrowedGcm::decrypt_to::<#265f21f9951183cc>.exit.i"
+.Lgcm_v3_BB72_33:                              # %"gcm::mode::BorrowedGcm::decrypt_to::<#dd61a12db5c00f5a>.exit.i"
 	leaq	64(%rsp), %rdi
 	callq	gcm_v3.aes_cipher.zeroize.elements.zeroize_elements.3
 	callq	gcm_v3.aes_cipher.zeroize.stack.wipe_stack.1536
@@ -18329,5 +18329,5 @@ gcm_v3.fotsgure_gcm_accept_short:              # @gcm_v3.fotsgure_gcm_accept_sho
 	.long	9, 118, 1
 	.asciz	"Fotsgure"
 	.p2align	2, 0x0
-	.asciz	"fotsgure_gcm 0.4.0, x86_64/gcm_v3.s, sources SHA-256 c5580fd5c08fd1ce251de00bc68bbabc41e05f02470d0c531f44ab6d5c423d70"
+	.asciz	"fotsgure_gcm 0.4.0, x86_64/gcm_v3.s, sources SHA-256 7ffbfed4fdc57d310dc7b2575290ae8baa1c67d9e3c172c81948d4bb9f7ef94b"
 	.p2align	2, 0x0
