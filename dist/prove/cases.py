@@ -94,7 +94,7 @@ ENDS = range(1, 16)  # of a block: how many bytes a message has behind whole one
 WHOLE = "48 a + r bytes of additional data and 768 n + s of text for every a and n: r, s"
 NONCE = "; then the way, and r of a nonce of 48 k + r bytes for every k, in the place of one of 12 bytes"
 OTHER_NONCES = (0, 129, "", 33), (13, 33, "_to", 0)
-PIECE = "%d n + r bytes for every n after 16 k + s for every k, and any J_0: s, r"
+PIECE = "%d n + r bytes for every n after 16 k + s for every k%s, and any J_0: s, r"
 PHASES = {"encrypt": gcm.ENCRYPTING, "verify": gcm.VERIFYING, "decrypt_unverified": gcm.VERIFYING}
 STATE = "the phase, and how many bytes of additional data and of text came before"
 
@@ -107,8 +107,8 @@ GCM_ROWS = [
         more=[(0, 0), (47, 767), (13, 33, "", 8), *OTHER_NONCES]),
     Row("any_seal_next", WHOLE, first=[(13, 33)], more=[(0, 129)]),
     Row("any_begin", "a nonce of 48 k + r bytes for every k: r", full=[8], more=[0, 12, 33, 47]),
-    *(Row("any_" + call, PIECE % step, first=[(3, 46)], more=[(15, 48)]) for call, step in (
-        ("additional", 48), ("verify", 48), ("encrypt", 768), ("decrypt", 768), ("decrypt_unverified", 768))),
+    *(Row("any_" + call, PIECE % (step, ", and 7 of additional data" * (call != "additional")), first=[(3, 46)], more=[(15, 48)])
+      for call, step in (("additional", 48), ("verify", 48), ("encrypt", 768), ("decrypt", 768), ("decrypt_unverified", 768))),
     Row("seal", "the lengths of additional data and text, and a nonce of another length", few=[(13, 33), (13, 33, (), "_to")],
         full=[(0, 0), (0, 5), (1, 1), (13, 0), (16, 16), (20, 64), (32, 32), (49, 1), (0, 449, gcm.UNKNOWN), (0, 0, (), "_to"), *((5, 20, nonce) for nonce in NONCES)],
         more=[*((5, 40, nonce) for nonce in NONCES), *((5, n, (60,)) for n in (0, 129, 300))],
@@ -124,13 +124,17 @@ GCM_ROWS = [
     Row("additional", "how many bytes came before, and how many come", few=[(3, 13)],
         full=[(3, 5), (3, 100), (0, 0), (0, 5), (32, 48), (2 ** 32 - 3, 13), (MANY, 7)], other=[(3, 13)]),
     Row("piece", "the call; " + STATE + "; the number of bytes", few=[(call, gcm.ADDITIONAL, 5, 0, 3) for call in PHASES],
-        full=[*((call, phase, 5, *numbers) for call, phase in PHASES.items() for numbers in ((4, 3), (5, 4), (7, 9), (20, 50), (20, 300))),
-              *((call, gcm.ADDITIONAL, *numbers) for call in PHASES for numbers in ((0, 0, 16), (32, 0, 3)))],
+        full=[*((call, phase, 5, 20, 50) for call, phase in PHASES.items()), *((call, gcm.ADDITIONAL, 0, 0, 16) for call in PHASES),
+              *((call, phase, 5, 7, 9) for call, phase in PHASES.items())],
         other=[(call, gcm.ADDITIONAL, 5, 0, 3) for call in PHASES]),
+    Row("piece", "the same, within a block, over more than a batch, and after whole blocks of additional data",
+        full=[*((call, phase, 5, *numbers) for call, phase in PHASES.items() for numbers in ((4, 3), (20, 300))),
+              ("encrypt", gcm.ENCRYPTING, 5, 5, 4), *((call, gcm.ADDITIONAL, 32, 0, 3) for call in PHASES)]),
     Row("piece", "the same, of no bytes, and after many bytes", few=[("encrypt", gcm.ENCRYPTING, 5, MANY, n, (12,)) for n in (64, 500)],
         full=[*((call, phase, 0, 0, 0) for call, phase in PHASES.items()), *((call, gcm.ADDITIONAL, 5, 0, 0) for call in PHASES),
-              *((call, phase, 5, 2 ** 32 - 5, 20, (12,)) for call, phase in PHASES.items()), ("verify", gcm.VERIFYING, MANY, MANY, 9, (12,))]),
-    Row("piece", "the same, up to the longest text", full=[(call, phase, 5, gcm.MOST - 9, 9, (12,)) for call, phase in PHASES.items()]),
+              ("verify", gcm.VERIFYING, MANY, MANY, 9, (12,))]),
+    Row("piece", "the same, across 2^32 bytes, and up to the longest text", full=[
+        (call, phase, 5, *numbers, (12,)) for call, phase in PHASES.items() for numbers in ((2 ** 32 - 5, 20), (gcm.MOST - 9, 9))]),
     Row("decrypt", "the length of the text, how many bytes of it came before, and how many come", few=[(100, 7, 20)],
         full=[(100, 7, 0), (100, 5, 4), (100, 32, 68), (2 * MANY, MANY - 5, 20, (12,))], more=[(100, 0, 16)], other=[(100, 7, 20)]),
     *(Row(call, STATE + also, few=[(phase, 16, 7), *few], other=[(phase, 16, 7), *few],

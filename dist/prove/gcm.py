@@ -1,7 +1,7 @@
 """The statement for each call of fotsgure_gcm.h (SP 800-38D), beside the sentence of the header that it proves.
 
 H and its powers become arbitrary blocks when set_key has made them, and so does each value of GHASH when a call has made it. A call on a
-message that comes in pieces is proved from any state of the message: whatever value of GHASH and whatever part of a block came before."""
+message that comes in pieces is proved from any value of GHASH and any bytes of a block that came before, as many as the case says."""
 import functools
 import itertools
 from collections import namedtuple
