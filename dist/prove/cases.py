@@ -4,8 +4,8 @@ import itertools
 import re
 
 import aes
+import cmac_ccm as modes
 import gcm
-import modes
 import siv
 from headers import version
 from linking import takes_few

@@ -7,10 +7,10 @@ import itertools
 from collections import namedtuple
 from dataclasses import dataclass
 
-from aes import DONE, NEVER, PTRDIFF_MAX, STRUCT as AES_STRUCT, CounterWord, between, nothing, unequal, unread
 from bits import DATA, KEY, PUBLIC
 from calls import ANY, MAY_NOT_COME, Buffer, Call, Stream
 from hashing import Hashing, KeyedHash, threes
+from keyed import DONE, NEVER, PTRDIFF_MAX, STRUCT as AES_STRUCT, CounterWord, between, nothing, unequal, unread
 from linear import unknown
 from operands import Content, Number, Pointer
 from standards import ZEROS, number, padded, product

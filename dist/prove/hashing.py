@@ -1,8 +1,8 @@
 """GHASH (SP 800-38D, 6.4) in statements of GCM and of AES-GCM-SIV: each value of it becomes an arbitrary block when a call has made it."""
 import functools
 
-from aes import Keyed
 from bits import DATA, KEY, PUBLIC
+from keyed import Keyed
 from standards import ZEROS, padded, product
 
 

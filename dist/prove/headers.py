@@ -2,8 +2,8 @@
 import re
 import subprocess
 
-import aes
 import gcm
+import keyed
 import siv
 from calls import STACK
 from linking import BUILDS, library_of
@@ -12,7 +12,7 @@ from x86_64 import X86_64
 
 
 def header_cases(dist, machine=X86_64):
-    for statuses, structs, name in ((aes.STATUSES, aes.STRUCTS, "fotsgure_aes"), (gcm.STATUSES, gcm.STRUCTS | siv.STRUCTS, "fotsgure_gcm")):
+    for statuses, structs, name in ((keyed.STATUSES, keyed.STRUCTS, "fotsgure_aes"), (gcm.STATUSES, gcm.STRUCTS | siv.STRUCTS, "fotsgure_gcm")):
         lines = ["#include <stddef.h>", "#include <%s.h>" % name]
         lines.append("_Static_assert(%s_STACK == %d, \"\");" % (name.upper(), STACK))
         lines += ["_Static_assert(%s_%s == %d, \"\");" % (name.upper(), s, n) for n, s in enumerate(statuses)]
@@ -29,7 +29,7 @@ def riscv_header_cases(dist, builds):
     for build in (build for build in builds if issubclass(BUILDS[build], Riscv) and "siv" not in build):
         machine, word, library = BUILDS[build], BUILDS[build].word, library_of(build)
         size = {"aes": 121 * word, "gcm": 500 if word == 4 else 1784}[library]  # (of what is kept of the longer one 984 bytes are used)
-        structs = {"aes": {"fotsgure_aes_ctr": aes.STRUCTS["fotsgure_aes_ctr"]}, "gcm": {
+        structs = {"aes": {"fotsgure_aes_ctr": keyed.STRUCTS["fotsgure_aes_ctr"]}, "gcm": {
             "fotsgure_gcm_message": gcm.STRUCTS["fotsgure_gcm_message"], "fotsgure_gcm_siv": (121 * word, {"round_keys": word})}}
         structs = {"fotsgure_" + library: (size, {"key_length": 0, "round_keys": word}), **structs[library]}
         facts = ["sizeof(size_t) == %d" % word, *("sizeof(struct %s) == %d" % (struct, size) for struct, (size, _) in structs.items())]

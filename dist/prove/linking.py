@@ -57,7 +57,7 @@ def suffix_of(build):
 
 
 def narrow_word(build):
-    """How many bytes a word has in which a build keeps keys for processors that have no byte shuffle (aes.py), and then it has no tables
+    """How many bytes a word has in which a build keeps keys for processors that have no byte shuffle (keyed.py), and then it has no tables
     for GHASH. Else 0."""
     return BUILDS[build].word if issubclass(BUILDS[build], Riscv) else 4 if suffix_of(build) == "_v1" else 0
 

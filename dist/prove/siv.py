@@ -4,11 +4,11 @@ When a call has derived the keys of a message, they become arbitrary bytes, and 
 other, each value of POLYVAL, the block of which the tag is the cipher, and the tag."""
 import functools
 
-from aes import NEVER, CounterWord, between, nothing, unequal, unread
 from bits import DATA, KEY
 from calls import Buffer, Call, Stream, compare
 from gcm import DONE, NO_KEY, REFUSED, TOO_LONG, UNEQUAL_LENGTHS
 from hashing import Hashing, KeyedHash, threes
+from keyed import NEVER, CounterWord, between, nothing, unequal, unread
 from linear import unknown
 from operands import Number
 from standards import ZEROS, dot, mulx_ghash, padded, product
@@ -25,7 +25,7 @@ def little(n, size):
 
 
 class KeyedSiv(KeyedHash):
-    """wipe and what set_key refuses are stated in aes.py."""
+    """wipe and what set_key refuses are stated in keyed.py."""
     library, prefix, key_sizes = "siv", "gcm_siv", (16, 32)
 
     def size_of_struct(self):

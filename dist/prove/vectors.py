@@ -1,5 +1,5 @@
-"""The standards' vectors, at which each statement is evaluated without any machine: so the definitions that stand in aes.py, gcm.py and
-standards.py are those of the standards."""
+"""The standards' vectors, at which each statement is evaluated without any machine: so the definitions in the statements and
+in standards.py are those of the standards."""
 import random
 
 from bits import Unproved

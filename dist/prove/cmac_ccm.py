@@ -4,9 +4,11 @@ Both make a chain: each block is added to a value, and Cipher of the sum is the 
 arbitrary bytes, as in CBC encryption. Value k comes before block k, and a byte of block k is a byte of block k of the domain."""
 import itertools
 
-from aes import BATCH, DONE, NEVER, NO_KEY, NONCE_LENGTH, PTRDIFF_MAX, REFUSED, TAG_LENGTH, TOO_LONG, CounterWord, Keyed, between, nothing
+from aes import Blocks
 from bits import DATA, KEY, PUBLIC
 from calls import Buffer, Call, Stream
+from key_wrap import KeyWrap
+from keyed import BATCH, DONE, NEVER, NO_KEY, NONCE_LENGTH, PTRDIFF_MAX, REFUSED, TAG_LENGTH, TOO_LONG, CounterWord, between, nothing
 from linear import WORD, unknown
 from operands import Pointer
 from single_rounds import SingleRounds
@@ -15,7 +17,7 @@ from standards import ZEROS, doubled, number, padded
 NONCES, CCM_TAGS, CMAC_TAGS = range(7, 14), range(4, 17, 2), range(4, 17)  # lengths
 
 
-class KeyedAes(SingleRounds, Keyed):
+class KeyedAes(SingleRounds, KeyWrap, Blocks):
     """All calls of fotsgure_aes.h."""
 
     def __init__(self, program, key_size):

@@ -1,0 +1,214 @@
+"""The statements for key wrap of fotsgure_aes.h (SP 800-38F, 6.1 to 6.3), beside the sentence of the header that each proves."""
+from bits import DATA
+from calls import Buffer, Call, Stream
+from keyed import DONE, INVALID_COUNT, NO_KEY, REFUSED, between, nothing, unequal
+from linear import unknown
+from standards import ICV1, ICV2, ZEROS, number
+
+
+class KeyWrap:
+    """Those of KeyedAes on keys, without padding and with it."""
+
+    # In step t, the block A ^ [t] or A, with a semiblock R, is named as bytes of block t - 1.
+    def wrap_string(self, start, n, last):
+        """W (6.1, algorithm 1) on the semiblock `start` and n others, of which `last` is what the last has: its steps, the n, and what
+        becomes of all."""
+        a, r = self.block_bytes[:8], self.block_bytes[8:]
+        semiblocks = [x for i in range(n) for x in self.of(last if i == n - 1 else r, i)]
+
+        def steps():
+            for t in range(1, 6 * n + 1):
+                block = self.cipher_of((start if t == 1 else a) + (last if t == n else r))
+                yield self.found_in, self.of(block, t - 1), self.aes.xor(self.of(a, t), number(t, 8)) + self.of(r, t - 1 + n)
+        return steps, semiblocks, self.of(a, 6 * n) + [x for i in range(n) for x in self.of(r, 6 * n + i)]
+
+    def unwrap_string(self, n, start=None):
+        """The inverse of W (6.1, algorithm 2) on n + 1 semiblocks: its steps, the semiblocks, and what becomes of them. With `start` those
+        alone whose first semiblock becomes that."""
+        a, r = self.block_bytes[:8], self.block_bytes[8:]
+        wrapped = self.aes.xor(self.of(a, 0), number(6 * n, 8)) + [x for i in range(n) for x in self.of(r, n - 1 - i)]
+        start = start or self.of(a, 6 * n)
+
+        def steps():
+            for k in range(1, 6 * n + 1):  # t is 6n + 1 - k
+                done_a = start if k == 6 * n else self.aes.xor(self.of(a, k), number(6 * n - k, 8))
+                yield self.found_in, self.of(self.ciphers["decrypt"], k - 1), done_a + self.of(r, k - 1 + n)
+        key = [x for i in range(n) for x in self.of(r, 7 * n - 1 - i)]
+        return steps, wrapped, start, key
+
+    def wrap(self, count):
+        """Key wrap (KW, SP 800-38F, 6.2; RFC 3394) from one buffer to another .. Counts are in semiblocks of 8 bytes. A key has two or
+        more, and becomes one more. .. DONE"""
+        steps, key, wrapped = self.wrap_string(ICV1, count, self.block_bytes[8:])
+        output = Buffer("output", self.undefined(8 * count + 8), wrapped)
+        return Call("aes_wrap", [self.schedule(), Buffer("input", key), count, output, count + 1], DONE, steps=steps, plain=key)
+
+    def unwrap(self, count):
+        """.. fotsgure_aes_unwrap also REFUSED, and the output then is all zeros; else DONE. Whether the key is right is the only thing that
+        a branch tells."""
+        n = count - 1
+        steps, wrapped, start, key = self.unwrap_string(n)
+        return Call("aes_unwrap", [self.schedule(), Buffer("input", wrapped), count, Buffer("output", self.undefined(8 * n), key), n],
+                    DONE, steps=steps, reveals=self.aes.xor(start, ICV1), refused=REFUSED, refused_after={"output": [0] * 8 * n}, plain=key)
+
+    # The same of every number of semiblocks. In each turn of W, semiblock i, and A before it, are bytes of one block, with the number of that
+    # before (at_link); the first semiblock is number 0, or backwards the last one. What the semiblock becomes are others, of block i. After
+    # a turn A becomes arbitrary bytes once more.
+    def semiblocks(self):
+        """A and a semiblock before a step, the patterns of semiblocks before a turn and after it, and A after each turn."""
+        a, r, made = self.block_bytes[:8], self.block_bytes[8:], self.semiblock("semiblock", True)
+        return a, r, self.pattern(r, -1), self.pattern(made), [self.semiblock("turn %d" % k) for k in range(1, 7)]
+
+    def semiblock(self, name, *of_block):
+        return self.once(name, lambda: [self.domain.fresh("%s, byte %d" % (name, i), DATA, *of_block) for i in range(8)])
+
+    def any_turns(self, wraps, count, first, last, alone, start=0):
+        """The steps of W, or of its inverse, which begins with A ^ [6n], from phase `start` on; before that the semiblocks are put there.
+        `first` and `last` are A before and after all. Of one semiblock there is one step, without a number (6.3): from `alone`."""
+        a, r, before, after, turns = self.semiblocks()
+        way = "encrypt" if wraps else "decrypt"
+
+        def steps(m):
+            i, n, turn = m.done, m.known(count), m.phase - start
+            final = 0 if n == 1 else 5
+            number = lambda t: m.to_bytes(t if wraps else 6 * n - t, 8)[::-1]
+            if turn < 0:
+                return "whole", "output", (before, after)
+            if turn > final or not m.is_below(i, n + 2) or m.is_below(i, n) is None:
+                return "nothing", (), ()
+            if i == n + (n != 1):
+                return "whole", "output", (before, after) if turn < final else (after,) if wraps else (after, [0] * 8, True)
+            if i == n:
+                added = ZEROS[:8] if wraps else number(n * turn + n)
+                done_a = m.known_bytes(last) if turn == final else turns[turn]
+                return "kept", self.aes.xor(self.at_link(m, a, n), added), self.aes.xor(done_a, added)
+            given = alone if n == 1 else first if turn == 0 else turns[turn - 1]
+            block = self.cipher_of((a if i != 0 else m.known_bytes(given)) + r, way)
+            done_a = m.known_bytes(last) if n == 1 else self.aes.xor(self.at_link(m, a, i + 1), number(n * turn + i + 1))
+            return self.found_in, self.at_link(m, block, i), done_a + [self.domain.moved(b, i - m.first_block) for b in after]
+        return steps
+
+    def any_wrap(self):
+        n, (_, _, key, _, _) = unknown("n"), self.semiblocks()
+        return self.any_wrapping("aes_wrap", Stream("input", n * 8, key), n, n, ICV1, {n - 2, (1 << 54) - 1 - n})
+
+    def any_wrapping(self, name, key, given, count, first, facts, start=0, **more):
+        _, _, _, wrapped, turns = self.semiblocks()
+        output = Stream("output", count * 8, self.undefined(8), **{"after": wrapped, **more}, head=(self.undefined(8), turns[5]))
+        return Call(name, [self.schedule(), key, given, output, count + 1], DONE, facts=facts, plain=self.of_all(key.content),
+                    steps=self.any_turns(True, count, first, turns[5], first, start))
+
+    def any_unwrap(self):
+        n, last = unknown("n"), self.semiblocks()[4][5]
+        return self.any_unwrapping("aes_unwrap", last, self.aes.xor(last, ICV1), {n - 2, (1 << 54) - 1 - n})
+
+    def any_unwrapping(self, name, last, reveals, facts, *more, **refused):
+        n, (a, _, wrapped, key, _) = unknown("n"), self.semiblocks()
+        before = self.aes.xor(a, self.highest_first(n * 6, 8))
+        input_ = Stream("input", n * 8, wrapped, head=(self.pattern(before, -1), None), backwards=True)
+        output = Stream("output", n * 8, self.undefined(8), key, backwards=True)
+        return Call(name, [self.schedule(), input_, n + 1, output, n, *more], DONE, plain=self.of_all(key), facts=facts, reveals=reveals,
+                    steps=self.any_turns(False, n, a, last, before), refused=REFUSED, **refused)
+
+    def any_wrap_padded(self, rest):
+        """Of 16 k + `rest` bytes, as the code fills up two semiblocks at once; `rest` is from 1 to 16."""
+        k, (_, r, key, _, _) = unknown("k"), self.semiblocks()
+        length, n, last = k * 16 + rest, k * 2 + (rest + 7) // 8, self.pattern(r[:(rest - 1) % 8 + 1], -1) + ZEROS
+
+        def choose(m, number):
+            below = m.is_below(number, m.known(n - 1))
+            return [below if below is None else 1 - below] * 8
+        return self.any_wrapping("aes_wrap_padded", Stream("input", length, key), length, n, ICV2 + self.highest_first(length, 4),
+                                 {k, (1 << 32) - 1 - length}, 1, after=[key, last[:8]], choose=choose)
+
+    def any_unwrap_padded(self, rest):
+        """Of keys of 8 n - 8 + `rest` bytes, `rest` from 1 to 8."""
+        n, (_, _, _, key, turns) = unknown("n"), self.semiblocks()
+        length, none = n * 8 - 8 + rest, [0] * self.address
+        start = turns[5][:4] + self.highest_first(length, 4)
+        return self.any_unwrapping(
+            "aes_unwrap_padded", start, self.aes.xor(start[:4], ICV2) + key[rest:], {n - 1, (1 << 32) - 1 - length},
+            self.length_of_key(start[:3:-1] + [0] * 4), refused_after={"key_length": none})
+
+    def wrap_padded(self, length):
+        """Key wrap with padding (KWP, SP 800-38F, 6.3; RFC 5649) .. what is wrapped has one semiblock more than the key fills,
+        (input_length + 7) / 8 + 1. .. DONE"""
+        n, r = -(-length // 8), self.block_bytes[8:]
+        start, last = ICV2 + number(length, 4), r[:8 - 8 * n + length] + [0] * (8 * n - length)
+        if n == 1:
+            steps, key, wrapped = None, last, self.cipher_of(start + last)
+        else:
+            steps, key, wrapped = self.wrap_string(start, n, last)
+        output = Buffer("output", self.undefined(8 * n + 8), wrapped)
+        return Call("aes_wrap_padded", [self.schedule(), Buffer("input", key[:length]), length, output, n + 1], DONE,
+                    steps=steps, plain=key)
+
+    def unwrap_padded(self, length, said=None, paths=None, any_byte=None):
+        """And back: both counts are in semiblocks, and the output has one less. Afterwards *key_length is how many bytes the key has: the
+        first ones of the output, which zeros follow. .. REFUSED, and the output then is all zeros. .. In all cases but DONE *key_length
+        is 0. Whatever comes before the length, and after so many bytes, is judged by one branch. `said` is another length in its place,
+        with which everything is refused; or one byte of the length, `any_byte`, may have any value, and the same branch judges it."""
+        n, padding, r = -(-length // 8), -length % 8, self.block_bytes[8:]
+        start = self.of(self.block_bytes[:4], 6 * n) + number(length if said is None else said, 4)
+        reveals = self.aes.xor(start[:4], ICV2)
+        if any_byte is not None:
+            start[4 + any_byte], = self.of(self.block_bytes[4 + any_byte:5 + any_byte], 6 * n)
+            reveals += self.aes.xor(start[4:], number(length, 4))
+        if n == 1:
+            wrapped, key = self.block_bytes, self.of(r, 1)
+            steps = lambda: iter([("memory", self.ciphers["decrypt"], start + key)])
+        else:
+            steps, wrapped, _, key = self.unwrap_string(n, start)
+        right, none = Buffer("output", self.undefined(8 * n), key), [0] * 8 * n
+        nothing = {"output": none, "key_length": [0] * self.address}
+        key_length = self.length_of_key(start[:3:-1] + [0] * 4)
+        more = dict(status=DONE, reveals=reveals + key[8 * n - padding:], refused=REFUSED, refused_after=nothing)
+        if said is not None:
+            more = {"status": REFUSED}
+            right.after, key_length.after = none, [0] * self.address
+        return Call("aes_unwrap_padded", [self.schedule(), Buffer("input", wrapped), n + 1, right, n, key_length], steps=steps,
+                    plain=key, paths=paths, **more)
+
+    def length_of_key(self, after):
+        return Buffer("key_length", self.undefined(self.address), after[:self.address], align=self.address)
+
+    def unwrap_padded_refused(self, n, every):
+        """The same where the number in the place of the length isn't one of n semiblocks: each of its three higher bytes has any value; and
+        it is one more, one less, 2^k or 2^k - 1, for every so many k. Whether the length is wrong or the rest, the same instructions
+        run."""
+        paths, powers = {}, [1 << k for k in range(0, 33, every)]
+        yield self.unwrap_padded(8 * n - 3, paths=paths)
+        for any_byte in range(3):
+            yield self.unwrap_padded(8 * n - 3, paths=paths, any_byte=any_byte)
+        for said in {8 * n - 8, 8 * n + 1, *powers[:-1], *(power - 1 for power in powers)}.difference(range(8 * n - 7, 8 * n + 1)):
+            yield self.unwrap_padded(8 * n - 3, said, paths)
+
+    # Calls that are refused, for all their arguments.
+    def wrap_refused(self, key, none, sizes):
+        """A key has two semiblocks or more, and fewer than 2^54 (SP 800-38F, 5.3.1)."""
+        n, k = unknown("n"), unknown("k")
+        calls = lambda aes, n, k: (("aes_wrap", [aes, nothing("input", False), n, nothing("output"), k]),
+                                   ("aes_unwrap", [aes, nothing("input", False), k, nothing("output"), n]))
+        for name, arguments in calls(none, n, k):
+            yield Call(name, arguments, NO_KEY, facts=sizes)
+        counts = [(n, k, {n - k}), (n, k, {k - n - 2}), (0, 1, set()), (1, 2, set()), (n, n + 1, between(n, 1 << 54, self.most - 1))]
+        for n, k, facts in counts if self.most >> 54 else counts[:-1]:
+            for name, arguments in calls(key, n, k):
+                yield Call(name, arguments, INVALID_COUNT, facts=(sizes if facts else set()) | facts)
+
+    def wrap_padded_refused(self, key, none, sizes):
+        """A key has at least one byte and fewer than 2^32 (SP 800-38F, 5.3.1)."""
+        n, k = unknown("n"), unknown("k")
+        wrap = lambda aes, length: ("aes_wrap_padded", [aes, nothing("input", False), length, nothing("output"), k])
+        yield Call(*wrap(none, n), NO_KEY, facts=sizes)
+        yield Call(*wrap(key, 0), INVALID_COUNT, facts=sizes)
+        if self.most >> 32:
+            yield Call(*wrap(key, n), INVALID_COUNT, facts=sizes | between(n, 1 << 32, self.most))
+        for rest in range(1, 9):  # of a key of n + 1 semiblocks
+            for facts in unequal(k, n + 2):
+                yield Call(*wrap(key, n * 8 + rest), INVALID_COUNT, facts=sizes | between(n, 0, (1 << 29) - 1) | facts)
+        key_length = self.length_of_key([0] * 8)
+        unwrap = lambda aes, n, k: ("aes_unwrap_padded", [aes, nothing("input", False), n, nothing("output"), k, key_length])
+        yield Call(*unwrap(none, n, k), NO_KEY, facts=sizes)
+        for n, k, facts in ((n, k, {k - n}), (n, k, {n - k - 2}), (1, 0, set()), (k + 1, k, between(k, (1 << 29) + 1, self.most - 1))):
+            yield Call(*unwrap(key, n, k), INVALID_COUNT, facts=(sizes if facts else set()) | facts)

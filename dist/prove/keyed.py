@@ -1,0 +1,243 @@
+"""What the statements for all calls share: one build and one size of key, the struct that holds the key, and arguments.
+
+They are proved in two steps, as the calls share the struct. `set_key` is run on a key of symbolic bytes. Each bit that it stores turns out
+as a sum of bits of one byte of a round key, or of its InvMixColumns. The other calls then start from a struct of these sums over round keys
+that are arbitrary bytes. So they are proved for any round keys, and thus for those of any key."""
+from collections import namedtuple
+
+from bits import BLOCK, DATA, KEY, ONES, Unproved, linear_bits
+from calls import ANY, Buffer, Call, Stream, prove
+from domain import Domain
+from linear import WORD, unknown
+from operands import LAST, LEAD
+from standards import Aes, number
+
+# fotsgure_aes.h's enum, structs and sizes; prove.py has the compiler compare them.
+DONE, KEY_LENGTH, NO_KEY, UNEQUAL_COUNTS, KEYSTREAM_END, INVALID_COUNT, REFUSED, TAG_LENGTH, NONCE_LENGTH, TOO_LONG = range(10)
+STATUSES = "DONE KEY_LENGTH NO_KEY UNEQUAL_COUNTS KEYSTREAM_END INVALID_COUNT REFUSED TAG_LENGTH NONCE_LENGTH TOO_LONG".split()
+STRUCTS = {"fotsgure_aes": (484, {"key_length": 0, "round_keys": 4}), "fotsgure_aes_ctr": (24, {"iv": 0, "position": 16}),
+           "fotsgure_aes_cbc": (16, {"previous": 0})}
+STRUCT = 484
+# How builds keep round keys: bytes of a schedule's room, and of a word of the key in it. The narrow ones keep each bit twice in planes of
+# words of 4 bytes, for two blocks at once, or four times in those of 8, for four; these serve both directions.
+SCHEDULE = 240, 4
+
+# The low half of a counter, by its name: `word` and an offset i are that of block i. A call begins at block `first`. From block `wrap` on
+# it has wrapped around; later blocks than `last` don't occur.
+# `words` are those bytes of a whole counter that are words of unknown value.
+CounterWord = namedtuple("CounterWord", "word first wrap last words", defaults=[None])
+NEVER, BATCH = 1 << 64, 16  # a batch may have more blocks than the text
+PTRDIFF_MAX = (1 << 63) - 1
+
+
+class Keyed:
+    """One build and one key size. `domain` is that of arbitrary round keys, `key_domain` that of an arbitrary key."""
+    library, prefix, schedules, key_sizes = "aes", "aes", 2, (16, 24, 32)
+
+    def __init__(self, program, key_size):
+        self.program, self.key_size, self.most, self.address = program, key_size, program.machine.most, program.machine.word
+        narrow = program.narrow
+        self.room, self.word = (120 * narrow, 2 * narrow) if narrow else SCHEDULE
+        self.length_size = narrow or 4
+        self.found_in = "vector" if program.machine.vector_count else "block"  # what a step gives
+        self.kept_size = self.length_size + self.room  # the key's length, and the round keys for encryption
+        self.struct_size = self.size_of_struct()
+        self.key_domain, self.domain = Domain(), Domain()
+        self.key_aes, self.aes = Aes(self.key_domain), Aes(self.domain)
+        self.key = [self.key_domain.fresh("key[%d]" % i, KEY) for i in range(key_size)]
+        self.key_words = self.key_aes.key_expansion(self.key)
+        self.w = [[self.domain.fresh("w[%d][%d]" % (i, k), KEY) for k in range(4)] for i in range(len(self.key_words))]
+        self.name_round_keys()
+        self.block_bytes = [self.domain.fresh("byte %d" % i, DATA, True) for i in range(16)]
+        self.ciphers = {"encrypt": self.aes.cipher(self.block_bytes, self.w), "decrypt": self.aes.inv_cipher(self.block_bytes, self.w)}
+        self.kept, self.calls = {}, set()
+
+    def name_round_keys(self):
+        """Names for all bytes of round keys and of their InvMixColumns, with what they are for any round keys."""
+        self.meaning = {}
+        for r in range(len(self.w) // 4):
+            a, b = self.key_aes.round_key(self.key_words, r), self.aes.round_key(self.w, r)
+            mixed = zip(self.key_aes.inv_mix_columns(a), self.aes.inv_mix_columns(b))
+            for x, y in list(zip(a, b)) + list(mixed):
+                self.meaning[self.key_domain.name(x, "round key byte")] = self.domain.bits(y)
+
+    # From the bytes that a key expansion makes to the same for any round keys.
+    def bit_for_any(self, x):
+        if x < 2:
+            return x
+        ways = [] if x & BLOCK else [(c, t) for c, t in self.key_domain.single(x >> 9).items() if c in self.meaning]
+        if not ways:  # also of a sum of products, in the key's domain the only bit with such a mark
+            raise Unproved("a stored bit is not a sum of bits of one byte of a round key or of its InvMixColumns")
+        cell, table = ways[0]
+        out = (table ^ x) & 1
+        for j in linear_bits(table ^ ONES * (table & 1)):
+            out = self.domain.xor(out, self.meaning[cell][j])
+        return out
+
+    def byte_for_any(self, b):
+        return self.domain.pack([self.bit_for_any(x) for x in self.key_domain.bits(b)])
+
+    def proved(self, calls, seed=None):
+        """Proves a statement, which may be several calls; the machine after the last one."""
+        for call in [calls] if isinstance(calls, Call) else calls:
+            given_the_key = any(b.content is self.key for b in call.buffers)
+            m = prove(self.key_domain if given_the_key else self.domain, self.program, call, seed)
+            self.calls.add(call.name)
+        return m
+
+    def once(self, what, make):
+        """What several statements need, made when it is first asked for."""
+        if what not in self.kept:
+            self.kept[what] = make()
+        return self.kept[what]
+
+    def undefined(self, count):
+        return [self.domain.undefined] * count
+
+    def of(self, bytes_, block):
+        """The same functions of the bytes of this block, the first being 0."""
+        return [self.domain.byte_in_block(x, block + 1) for x in bytes_]
+
+    def many(self, bytes_, count, start=0):
+        """`count` bytes, in blocks from the place `start` on."""
+        return [self.domain.byte_in_block(bytes_[i % 16], i // 16 + 1) for i in range(start, start + count)]
+
+    # The struct.
+    def size_of_struct(self):
+        return self.length_size + (self.room if self.program.narrow else self.schedules * self.room)
+
+    def set_key(self, seed=None):
+        """Expands a key into *aes (KeyExpansion, FIPS 197, 5.2). *aes may be uninitialized: none of it is read. .. every byte that neither
+        a round key of the new key nor its length takes is 0. DONE if key_length is 16, 24 or 32"""
+        return self.stored_by(self.proved(self.expansion(ANY), seed))
+
+    def stored_by(self, m):
+        """Keeps what set_key has stored, as the same of any round keys: the key's length, and schedules of up to 60 words each."""
+        start, end = self.length_size, self.length_size + self.room * (1 if self.program.narrow else self.schedules)
+        self.struct = [self.byte_for_any(b) for b in m.regions[self.library].content[:end]]
+        if self.struct[:start] != number(self.key_size, start)[::-1]:
+            raise Unproved("the struct has another length")
+        for at in range(start, end, self.room):
+            if any(self.struct[at + self.word * len(self.w):at + self.room]):
+                raise Unproved("the struct holds more than round keys and zeros")
+        return m
+
+    def kept_key(self):
+        """Of each bit of the first bytes of the struct: of which bits of round keys it is the sum. So structs of two libraries compare."""
+        d = self.domain
+        return [(tuple(sorted(d.linear_part(x))) if x > 1 else (), x & 1) for b in self.struct[:self.kept_size] for x in d.bits(b)]
+
+    def expansion(self, after, **more):
+        struct = self.struct_of([self.key_domain.undefined] * self.struct_size, after)
+        return Call(self.prefix + "_set_key", [struct, Buffer("key", self.key), self.key_size], DONE, **more)
+
+    def set_key_refused(self):
+        """.. else KEY_LENGTH, and *aes then is all zeros and holds no key."""
+        struct = self.struct_of(self.undefined(self.struct_size), [0] * self.struct_size)
+        for length, facts in self.lengths_but(self.key_sizes, "length"):
+            yield Call(self.prefix + "_set_key", [struct, nothing("key", False), length], KEY_LENGTH, facts=facts)
+
+    def key_length(self):
+        """Returns how many bytes the key has: 16, 24 or 32"""
+        return Call(self.prefix + "_key_length", [self.schedule()], self.key_size, self.address)
+
+    def key_length_of_none(self):
+        """.. or 0 if *aes holds no key."""
+        return Call(self.prefix + "_key_length", [self.no_key()], 0, self.address)
+
+    def version(self, number):
+        """Returns the version of the library"""
+        return Call(self.prefix + "_version", [], number)
+
+    def wipe(self):
+        """Overwrites *aes with zeros: it then holds no key. It may be uninitialized"""
+        return Call(self.prefix + "_wipe", [self.struct_of(self.undefined(self.struct_size), [0] * self.struct_size)], None)
+
+    def schedule(self):
+        return self.struct_of(self.struct)
+
+    def no_key(self):
+        return self.struct_of([0] * self.struct_size)
+
+    def struct_of(self, content, after=None, **more):
+        return Buffer(self.library, content, after, align=self.length_size, **more)
+
+    # Calls of every length (lengths.py). A pattern has the bytes of the block with number LEAD, and perhaps of the one before it or behind
+    # it.
+    def pattern(self, bytes_, by=0):
+        """Functions of the bytes of block 1, as the same of another one."""
+        return [self.domain.moved(b, LEAD - 1 + by) for b in bytes_]
+
+    def at_block(self, m, bytes_, number):
+        """Functions of the bytes of block 1, as the same of a block with this number."""
+        return [self.domain.moved(b, number - m.first_block) for b in self.pattern(bytes_)]
+
+    def of_all(self, pattern):
+        """The same of all blocks that may occur."""
+        numbers = {n for b in pattern for n in self.domain.blocks(b)}
+        return [self.domain.moved(b, k) for b in pattern for k in range(1 - min(numbers), LAST - max(numbers))]
+
+    def streams_of(self, way, name, size, count, content, want, choose=None):
+        """The arguments that are data of a call, as those of `changed`."""
+        if way == "_to":
+            return [Stream("input", size, content), count, Stream("output", size, self.undefined(16), want, choose), count]
+        return [Stream(name, size, content, want, choose), count]
+
+    def changed(self, way, name, data, results, count):
+        """The arguments that are data and what a call makes of them: one buffer and its length; or two of each, with _to."""
+        if way == "_to":
+            return [Buffer("input", data), count, Buffer("output", self.undefined(len(data)), results), count]
+        return [Buffer(name, data, results), count]
+
+    def stays(self, name, content):
+        return Buffer(name, content, content)
+
+    def highest_first(self, number, size):
+        return self.named_bytes(number, size)[::-1]
+
+    def named_bytes(self, value, size):
+        """Bytes of a value, which are known again where code puts them together by shifts."""
+        bytes_ = [self.domain.opaque((value, k)) for k in range(size)]
+        self.domain.byte_ids.update((self.domain.bits(b), b) for b in bytes_ if self.program.machine.relaxed)
+        return bytes_
+
+    def number_of_words(self, name):
+        """A number of 64 bits, in as many words as it takes, and the facts of it."""
+        if self.most == WORD:
+            return unknown(name), between(unknown(name), 0, WORD)
+        low, high = unknown(name + ", low"), unknown(name + ", high")
+        return low + high * (self.most + 1), between(low, 0, self.most) | between(high, 0, self.most)
+
+    def unknown_number(self, number):
+        """The bytes of such a number."""
+        parts = [number] if self.most == WORD else [unknown(name) for name in sorted({name for name, _ in number.terms}, reverse=True)]
+        return [self.domain.opaque((part, k)) for part in parts for k in range(self.address)]
+
+    def lengths_but(self, right, name):
+        return lengths_but(right, name, self.most)
+
+
+def nothing(name, writable=True):
+    """A buffer of which no byte is read or written."""
+    return Buffer(name, [], [] if writable else None)
+
+
+def unread(way, n, k):
+    """The arguments of a call that are data, of which it reads and writes nothing: n bytes; with _to also k bytes of output."""
+    return [nothing("input", False), n, nothing("output"), k] if way == "_to" else [nothing("text"), n]
+
+
+def between(n, low, high):
+    """Facts of a number."""
+    return {n - low, high - n}
+
+
+def unequal(a, b):
+    """The ways in which two numbers differ."""
+    return {a - b - 1}, {b - a - 1}
+
+
+def lengths_but(right, name, most=WORD):
+    """All lengths but these, of which the last is the highest: (the length, facts)."""
+    length = unknown(name)
+    return [(n, set()) for n in range(right[-1]) if n not in right] + [(length, between(length, right[-1] + 1, most))]
