@@ -8,9 +8,10 @@ from collections import namedtuple
 from dataclasses import dataclass
 
 from bits import DATA, KEY, PUBLIC
-from calls import ANY, MAY_NOT_COME, Buffer, Call, Stream
+from calls import ANY, Buffer, Call, Stream
 from hashing import Hashing, KeyedHash, threes
 from keyed import DONE, NEVER, PTRDIFF_MAX, STRUCT as AES_STRUCT, CounterWord, between, nothing, unequal, unread
+from left import MAY_NOT_COME
 from linear import unknown
 from operands import Content, Number, Pointer
 from standards import ZEROS, number, padded, product
