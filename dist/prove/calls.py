@@ -172,13 +172,7 @@ def run(m, call, watches):
 
 def check(m, call):
     """Compares what the call returned and wrote with its statement."""
-    right = True
-    if call.reveals is not None:
-        asked = m.asked_of_secrets()  # (a branch on a nonce alone reveals nothing)
-        reveals = call.reveals(m) if callable(call.reveals) else call.reveals
-        if len(asked) != 1 or asked_of(m, asked[0]) != asked_of(m, m.zero_flag(reveals)):
-            raise Unproved("reveals something else than whether the key or the tag is right")
-        right = m.answers[asked[0]]
+    right = is_right(m, call)
     status = call.status if right else call.refused
     if status is not None and m.returned(call.size) != status:
         raise Unproved("returns %s and not %s" % (m.returned(call.size), status))
@@ -191,23 +185,44 @@ def check(m, call):
         want = buffer.after if right else call.refused_after.get(buffer.name, buffer.content)
         stays, want = want == buffer.content, want(m) if callable(want) else want
         if isinstance(buffer, Stream):
-            window = m.regions[buffer.name]
-            if want and right != window.undoes:
-                window.finish(m, buffer.name)
-            elif not window.is_untouched():
-                raise Unproved("%s isn't as it was" % buffer.name)
-            continue
-        if status and buffer.name in m.wrote and stays and not call.undone:
+            check_stream(m, buffer, want, right)
+        elif status and buffer.name in m.wrote and stays and not call.undone:
             raise Unproved("writes to %s, which is to stay as it is" % buffer.name)
-        if want is ANY and m.answers:  # set_key looks at the content that one machine has
-            raise Unproved("%s may have other bytes if buffers are otherwise apart" % buffer.name)
-        if buffer.after is not None and want is not ANY:
-            content, want = m.regions[buffer.name].content, m.known_bytes(want)
-            compare(m.domain, content, want, buffer.name)
-            m.unsaid += [x for x, y in zip(content, want) if y is None and x not in m.known_bytes(buffer.content)]
-            if not buffer.secret:
-                m.results += [b for b in want if b is not None]
+        else:
+            check_buffer(m, buffer, want)
     m.left = left(m, call)
+
+
+def is_right(m, call):
+    """Whether a wrapped key or a tag is right, if a call compares one: then it may ask nothing else of secrets."""
+    if call.reveals is None:
+        return True
+    asked = m.asked_of_secrets()  # (a branch on a nonce alone reveals nothing)
+    reveals = call.reveals(m) if callable(call.reveals) else call.reveals
+    if len(asked) != 1 or asked_of(m, asked[0]) != asked_of(m, m.zero_flag(reveals)):
+        raise Unproved("reveals something else than whether the key or the tag is right")
+    return m.answers[asked[0]]
+
+
+def check_stream(m, stream, want, right):
+    """Compares the last blocks of a Stream, or shows that it is as it was."""
+    window = m.regions[stream.name]
+    if want and right != window.undoes:
+        window.finish(m, stream.name)
+    elif not window.is_untouched():
+        raise Unproved("%s isn't as it was" % stream.name)
+
+
+def check_buffer(m, buffer, want):
+    """Compares a Buffer with what it has to hold, and notes what bytes the caller gets: those that are said, and those that may be anything."""
+    if want is ANY and m.answers:  # set_key looks at the content that one machine has
+        raise Unproved("%s may have other bytes if buffers are otherwise apart" % buffer.name)
+    if buffer.after is not None and want is not ANY:
+        content, want = m.regions[buffer.name].content, m.known_bytes(want)
+        compare(m.domain, content, want, buffer.name)
+        m.unsaid += [x for x, y in zip(content, want) if y is None and x not in m.known_bytes(buffer.content)]
+        if not buffer.secret:
+            m.results += [b for b in want if b is not None]
 
 
 def asked_of(m, question):
