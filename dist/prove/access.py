@@ -82,38 +82,45 @@ class Access:
         region = self.regions.get(address.base) if is_pointer(address) else None
         if region is None:
             raise Unproved("accesses memory at %s" % (address,))
-        base, offset = address
-        if isinstance(region, Window):
-            if region.waits:
-                raise Pause("accesses %s while the key is expanded" % base)
-            if not self.implied(offset) or not self.implied(region.whole - offset - size):
-                raise Unproved("%s %d bytes at %s of %s, which has %s" % (
-                    "writes" if write else "reads", size, offset, base, region.whole))
-            if is_int(offset) and offset < region.head:
-                region = self.regions[base + HEAD]
-            else:
-                offset = region.turned(offset - region.head, size)
-                if region.end != region.size and not self.implied(region.end - offset - size):
-                    raise Unproved("accesses %s where all is done" % base)
-                if not write and region.is_untouched():
-                    return region.initial_at(self, base, offset, size), 0
-                offset = region.reached(self, offset, size)
+        place = self.place_in_window if isinstance(region, Window) else self.place_in_region
+        return place(region, *address, size, write, align)
+
+    def place_in_window(self, window, base, offset, size, write, align):
+        """What `place` gives of a buffer of any length."""
+        if window.waits:
+            raise Pause("accesses %s while the key is expanded" % base)
+        if not self.implied(offset) or not self.implied(window.whole - offset - size):
+            raise Unproved("%s %d bytes at %s of %s, which has %s" % ("writes" if write else "reads", size, offset, base, window.whole))
+        if is_int(offset) and offset < window.head:
+            return self.place_in_region(self.regions[base + HEAD], base, offset, size, write, align)
+        offset = window.turned(offset - window.head, size)
+        if window.end != window.size and not self.implied(window.end - offset - size):
+            raise Unproved("accesses %s where all is done" % base)
+        if not write and window.is_untouched():
+            return window.initial_at(self, base, offset, size), 0
+        return self.place_in_region(window, base, window.reached(self, offset, size), size, write, align)
+
+    def place_in_region(self, region, base, offset, size, write, align):
+        """What `place` gives of a region whose bytes are all there."""
         if offset < 0 or offset + size > len(region.content):
-            raise Unproved("%s %d bytes at %d of %s, which has %d" % (
-                "writes" if write else "reads", size, offset, base, len(region.content)))
+            raise Unproved("%s %d bytes at %d of %s, which has %d" % ("writes" if write else "reads", size, offset, base, len(region.content)))
         if write and not region.writable:
             raise Unproved("writes to %s" % base)
         if base == "stack":
-            if write and offset + size > self.top:
-                raise Unproved("writes above its stack frame")
-            if offset < self.general[self.stack_pointer].offset - self.red_zone:
-                raise Unproved("accesses the stack below the red zone")
-            if offset < self.lowest - PAGE:  # where there may be no page yet, or that of something else
-                raise Unproved("accesses the stack %d bytes below all that was accessed" % (self.lowest - offset))
-            self.lowest = min(self.lowest, offset)
+            self.reach_in_stack(offset, size, write)
         if region.align % align or offset % align:
             raise Unproved("an aligned access of %s, of which the alignment isn't known" % base)
         return region.content, offset
+
+    def reach_in_stack(self, offset, size, write):
+        """Refuses an access of the stack outside of what a function may use of it, and notes how deep it is."""
+        if write and offset + size > self.top:
+            raise Unproved("writes above its stack frame")
+        if offset < self.general[self.stack_pointer].offset - self.red_zone:
+            raise Unproved("accesses the stack below the red zone")
+        if offset < self.lowest - PAGE:  # where there may be no page yet, or that of something else
+            raise Unproved("accesses the stack %d bytes below all that was accessed" % (self.lowest - offset))
+        self.lowest = min(self.lowest, offset)
 
     def in_head(self, address, size):
         """How many bytes of an access lie in the head of a buffer, if others lie behind it."""

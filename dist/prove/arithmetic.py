@@ -98,12 +98,20 @@ class Arithmetic:
         if isinstance(x, Negated) and is_pointer(y) and x.base == y.base and not carry and size == self.word:
             return self.offset(y.offset, x.offset), {}
         if (is_pointer(x) or is_pointer(y)) and size == self.word:
-            old, r = x if is_pointer(x) else y, self.offset(self.offset(x, carry), y)
-            counter = self.counter
-            by = (y if is_pointer(x) else x) + carry  # so many more, where neither has wrapped around
-            known = counter and r.base == counter.word and self.implied(old.offset) and old.offset + by == r.offset and (
-                self.fits(by) and self.implied(counter.last - r.offset))
-            return r, {"c": self.wraps(old.offset, r.offset)} if known else {}
+            return self.plus_pointer(x, y, carry)
+        return self.plus_bits(x, y, carry, size)
+
+    def plus_pointer(self, x, y, carry):
+        """The sum with a Pointer. Of a counter the flag c says whether it wraps around."""
+        old, r = x if is_pointer(x) else y, self.offset(self.offset(x, carry), y)
+        counter = self.counter
+        by = (y if is_pointer(x) else x) + carry  # so many more, where neither has wrapped around
+        known = counter and r.base == counter.word and self.implied(old.offset) and old.offset + by == r.offset and (
+            self.fits(by) and self.implied(counter.last - r.offset))
+        return r, {"c": self.wraps(old.offset, r.offset)} if known else {}
+
+    def plus_bits(self, x, y, carry, size):
+        """The sum bit by bit."""
         fixed, rest = (x, y) if is_int(x) else (y, x)
         try:
             bits, out = self.full_adder(self.bits(x, size), self.bits(y, size), carry)

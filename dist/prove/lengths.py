@@ -222,10 +222,7 @@ def general_state(known, key, visit, now, wrong=frozenset()):
                  for b in (range(block, 0, -blocks) if block and blocks else [block])}
     g.forget_differences()
     g.done = generally(first.done, second.done, passes, g.most)
-    for r, v in first.general.items():
-        general = None if r in wrong else generally(v, second.general[r], passes, g.most)
-        g.general[r] = tuple(g.any_byte() for _ in range(g.word)) if general is None else general
-    g.vectors = [general_bytes(g, v, w, passes) for v, w in zip(first.vectors, second.vectors)]
+    general_registers(g, first, second, passes, wrong)
     changed = [(v, w) for r, v in first.general.items() if is_number(v, w := second.general[r]) and is_int(w - v) and v != w]
     general_regions(g, first, second, passes, changed)
     g.stale, g.lowest = first.stale | second.stale, min(first.lowest, second.lowest)
@@ -242,6 +239,14 @@ def general_state(known, key, visit, now, wrong=frozenset()):
     known.add(key, general)
     g.loops[key] = Visit(0, general=general)
     return g
+
+
+def general_registers(g, first, second, passes, wrong):
+    """What the registers of a general state hold. Of those in `wrong` nothing is known."""
+    for r, v in first.general.items():
+        general = None if r in wrong else generally(v, second.general[r], passes, g.most)
+        g.general[r] = tuple(g.any_byte() for _ in range(g.word)) if general is None else general
+    g.vectors = [general_bytes(g, v, w, passes) for v, w in zip(first.vectors, second.vectors)]
 
 
 def general_regions(g, first, second, passes, changed):
