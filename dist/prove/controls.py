@@ -50,37 +50,48 @@ def refuse_unreached(build, program, function):
         raise Unproved("unreached: " + fault)
 
 
-def faults(options, build):
-    """Plants the faults of one text, and tries of each the case that has to refuse it, or that has to leave it uncovered."""
-    text, out = open(source(options.dist, build)).read(), "%s/controls_%s" % (options.out, build.replace("/", "_"))
-    keyed = LIBRARIES[build.split("/")[1][:3]][0](assembled(build, source(options.dist, build), out), 16)
-    keyed.set_key()
-    level = "all" if takes_few(build) else "builds"
-    cases = dict(statements(keyed, argparse.Namespace(dist=options.dist, level=level, only=""), 0, 1), set_key=None)
-    verdicts, unreached = [], UNREACHED.get(build, [])
+class Planted:
+    """The text of a build, in which faults are planted, and the cases that it takes."""
 
-    def prove(case):
-        keyed.program = assembled(build, out + ".s", out)
-        keyed.proved(cases[case]) if cases[case] else type(keyed)(keyed.program, 16).set_key()
-        refuse_lines(out + ".s", BUILDS[build])
+    def __init__(self, options, build):
+        self.build, self.out = build, "%s/controls_%s" % (options.out, build.replace("/", "_"))
+        self.text = open(source(options.dist, build)).read()
+        self.keyed = LIBRARIES[build.split("/")[1][:3]][0](assembled(build, source(options.dist, build), self.out), 16)
+        self.keyed.set_key()
+        level = "all" if takes_few(build) else "builds"
+        self.cases = dict(statements(self.keyed, argparse.Namespace(dist=options.dist, level=level, only=""), 0, 1), set_key=None)
 
-    def cover(case, function):
-        prove(case)
-        refuse_unreached(build, keyed.program, function)
-    for fault in FAULTS.get(build, []) + LONG_FAULTS.get(build, []) + unreached:
+    def prove(self, case):
+        keyed = self.keyed
+        keyed.program = assembled(self.build, self.out + ".s", self.out)
+        keyed.proved(self.cases[case]) if self.cases[case] else type(keyed)(keyed.program, 16).set_key()
+        refuse_lines(self.out + ".s", BUILDS[self.build])
+
+    def cover(self, case, function):
+        self.prove(case)
+        refuse_unreached(self.build, self.keyed.program, function)
+
+    def tried(self, fault, is_unreached):
+        """The verdict on a fault: the case that it names has to refuse it, or has to leave it uncovered."""
         what, *edit, case = fault
-        if case not in cases:
+        changed, line = edited(self.text, *edit)
+        if changed in (None, self.text):
+            return False, "MISSED: %s (%s): there is no such place, or nothing changes" % (what, self.build)
+        with open(self.out + ".s", "w") as file:
+            file.write(changed)
+        what = "%s (%s.s:%d, %s)" % (what, self.build, line, case)
+        return verdict(what, lambda: self.cover(case, edit[0]), "unreached") if is_unreached else verdict(what, lambda: self.prove(case))
+
+
+def faults(options, build):
+    """Tries the faults of one text."""
+    planted, unreached, verdicts = Planted(options, build), UNREACHED.get(build, []), []
+    for fault in FAULTS.get(build, []) + LONG_FAULTS.get(build, []) + unreached:
+        what, *_, case = fault
+        if case not in planted.cases:
             raise SystemExit("controls: %s: no such case: %s" % (what, case))
         if options.only in what:
-            changed, line = edited(text, *edit)
-            if changed in (None, text):
-                verdicts.append((False, "MISSED: %s (%s): there is no such place, or nothing changes" % (what, build)))
-                continue
-            with open(out + ".s", "w") as file:
-                file.write(changed)
-            what = "%s (%s.s:%d, %s)" % (what, build, line, case)
-            tried = (lambda: cover(case, edit[0]), "unreached") if fault in unreached else (lambda: prove(case),)
-            verdicts.append(verdict(what, *tried))
+            verdicts.append(planted.tried(fault, fault in unreached))
     return verdicts
 
 
