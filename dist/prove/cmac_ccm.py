@@ -3,6 +3,7 @@
 Both make a chain: each block is added to a value, and Cipher of the sum is the next value. When a value is what it should be, it becomes
 arbitrary bytes, as in CBC encryption. Value k comes before block k, and a byte of block k is a byte of block k of the domain."""
 import itertools
+from collections import namedtuple
 
 from aes import Blocks
 from bits import DATA, KEY, PUBLIC
@@ -15,6 +16,13 @@ from single_rounds import SingleRounds
 from standards import ZEROS, doubled, number, padded
 
 NONCES, CCM_TAGS, CMAC_TAGS = range(7, 14), range(4, 17, 2), range(4, 17)  # lengths
+
+# A message of CCM: the arguments before the text; the text as it is in the chain, and at which block of it that begins; the steps of the
+# chain; and the tag.
+CcmMessage = namedtuple("CcmMessage", "arguments text start steps tag")
+# One of any length: also the size of the text, the patterns of a text and of keystream, the steps of the chain in its phases, how many these
+# are, and what else a call needs.
+AnyCcmMessage = namedtuple("AnyCcmMessage", "arguments size text stream steps phases tag more")
 
 
 class KeyedAes(SingleRounds, KeyWrap, Blocks):
@@ -139,37 +147,37 @@ class KeyedAes(SingleRounds, KeyWrap, Blocks):
         return blocks + self.filled([], text_length), len(blocks)
 
     def ccm_message(self, nonce_length, additional_length, text_length, tag_length):
-        """The arguments before the text, the text as it is in the chain, where it begins, the steps of the chain, and the tag."""
         nonce = self.nonce[:nonce_length]
         blocks, start = self.formatted(nonce, additional_length, text_length, tag_length)
         additional, text = self.many(self.block_bytes, additional_length, 18), self.many(self.block_bytes, text_length, 16 * start)
         tag = self.aes.xor(self.value(len(blocks)), self.counter_stream(nonce, 0))[:tag_length]
         arguments = [self.schedule(), Buffer("nonce", nonce), nonce_length, Buffer("additional", additional), additional_length]
-        return arguments, text, start, lambda: self.chain_steps(blocks), tag
+        return CcmMessage(arguments, text, start, lambda: self.chain_steps(blocks), tag)
 
     def ccm_seal(self, nonce_length, additional_length, text_length, tag_length):
         """CCM (SP 800-38C, 6.1; RFC 3610): encrypts `text_length` bytes in place under a nonce .. and writes a tag .. DONE"""
-        arguments, text, _, steps, tag = self.ccm_message(nonce_length, additional_length, text_length, tag_length)
-        sealed, stream = self.ccm_crypted(self.nonce[:nonce_length], text)
-        return Call("aes_ccm_seal", [*arguments, Buffer("text", text, sealed), text_length,
-                                     Buffer("tag", self.undefined(tag_length), tag), tag_length], DONE,
-                    steps=steps, keystream=stream, plain=text)
+        message = self.ccm_message(nonce_length, additional_length, text_length, tag_length)
+        sealed, stream = self.ccm_crypted(self.nonce[:nonce_length], message.text)
+        return Call("aes_ccm_seal", [*message.arguments, Buffer("text", message.text, sealed), text_length,
+                                     Buffer("tag", self.undefined(tag_length), message.tag), tag_length], DONE,
+                    steps=message.steps, keystream=stream, plain=message.text)
 
     def ccm_open(self, nonce_length, additional_length, text_length, tag_length):
         """Decrypts `text_length` bytes in place if the tag is right (6.2). The tag can be compared only once the text is decrypted, so a
         text that is refused is encrypted again: it is, when the call returns, as it was. .. REFUSED; else DONE"""
-        arguments, text, start, chain, right = self.ccm_message(nonce_length, additional_length, text_length, tag_length)
-        nonce, tag, sealed = self.nonce[:nonce_length], self.tag[:tag_length], self.many(self.sealed, text_length, 16 * start)
+        message = self.ccm_message(nonce_length, additional_length, text_length, tag_length)
+        nonce, text, tag = self.nonce[:nonce_length], message.text, self.tag[:tag_length]
+        sealed = self.many(self.sealed, text_length, 16 * message.start)
         opened, stream = self.ccm_crypted(nonce, sealed)
 
         def steps():
             if text:
                 yield "text", opened, text
-            yield from chain()
+            yield from message.steps()
             if text:  # with the keystream once more it is what it was
                 yield "text", self.ccm_crypted(nonce, text)[0], sealed
-        return Call("aes_ccm_open", [*arguments, Buffer("text", sealed, text), text_length, Buffer("tag", tag), tag_length], DONE,
-                    steps=steps, reveals=self.aes.xor(tag, right), refused=REFUSED, keystream=stream, plain=text, undone=True)
+        return Call("aes_ccm_open", [*message.arguments, Buffer("text", sealed, text), text_length, Buffer("tag", tag), tag_length], DONE,
+                    steps=steps, reveals=self.aes.xor(tag, message.tag), refused=REFUSED, keystream=stream, plain=text, undone=True)
 
     # The same of texts of 256 n + `rest` bytes for every n: so each byte of the length is one of n, or known. The halves of a counter block
     # are words of unknown value.
@@ -202,9 +210,7 @@ class KeyedAes(SingleRounds, KeyWrap, Blocks):
         return self.once(name, lambda: [self.domain.fresh("%s, byte %d" % (name, i), KEY * (not of_block) | DATA, *of_block) for i in range(16)])
 
     def any_ccm(self, nonce_length, additional, rest, tag_length, encoded=2):
-        """What both calls have in common: the arguments before the text, its size, the patterns of a text and of keystream, the steps of the
-        chain in its phases, how many these are, the tag, and what else they need. There are no additional data, or 16 a + `additional`
-        bytes for every a, of which the length takes so many bytes (A.2.2)."""
+        """There are no additional data, or 16 a + `additional` bytes for every a, of which the length takes so many bytes (A.2.2)."""
         nonce, size, length = self.nonce[:nonce_length], unknown("n") * 256 + rest, unknown("a") * 16 + additional
         stream = self.pattern(self.once(("CCM counters", nonce_length), lambda: self.ccm_counters(nonce)))
         text, cells = self.pattern(self.block_bytes, -1), self.fresh_block("additional data", True)
@@ -223,29 +229,31 @@ class KeyedAes(SingleRounds, KeyWrap, Blocks):
             return self.any_string(m, k, m.known(size), self.block_bytes, middle if additional else first, last_value)
         data = Stream("additional", length, [self.pattern([cells[i % 16]], i // 16 - 1)[0] for i in range(encoded, encoded + 16)])
         arguments = [self.schedule(), Buffer("nonce", nonce), nonce_length, *([data, length] if additional else [nothing("additional", False), 0])]
-        return arguments, size, text, stream, chain, 1 + (additional > 0), tag, dict(
+        return AnyCcmMessage(arguments, size, text, stream, chain, 1 + (additional > 0), tag, dict(
             keystream=self.of_all(stream), counter=self.ccm_counter_word(nonce, size),
-            facts={unknown("n"), PTRDIFF_MAX - size, (1 << 8 * (15 - nonce_length)) - 1 - size, *(lengths[encoded] if additional else ())})
+            facts={unknown("n"), PTRDIFF_MAX - size, (1 << 8 * (15 - nonce_length)) - 1 - size, *(lengths[encoded] if additional else ())}))
 
     def any_ccm_seal(self, *lengths):
-        arguments, size, text, stream, chain, phases, tag, more = self.any_ccm(*lengths)
-        steps = lambda m: chain(m, m.phase) if m.phase < phases else ("nothing", (), ())
-        return Call("aes_ccm_seal", [*arguments, Stream("text", size, text, self.aes.xor(text, stream)), size,
-                                     Buffer("tag", self.undefined(len(tag)), tag), len(tag)], DONE, steps=steps, plain=self.of_all(text), **more)
+        message = self.any_ccm(*lengths)
+        text, tag = Stream("text", message.size, message.text, self.aes.xor(message.text, message.stream)), message.tag
+        return Call("aes_ccm_seal", [*message.arguments, text, message.size, Buffer("tag", self.undefined(len(tag)), tag), len(tag)], DONE,
+                    steps=lambda m: message.steps(m, m.phase) if m.phase < message.phases else ("nothing", (), ()),
+                    plain=self.of_all(message.text), **message.more)
 
     def any_ccm_open(self, *lengths):
         """When all of the text is decrypted, it becomes arbitrary bytes; with the keystream once more it is what it was."""
-        arguments, size, text, stream, chain, phases, right, more = self.any_ccm(*lengths)
-        tag, sealed = self.tag[:len(right)], self.pattern(self.sealed)
-        opened, undone = self.aes.xor(sealed, stream), self.aes.xor(text, stream)
+        message = self.any_ccm(*lengths)
+        tag, sealed = self.tag[:len(message.tag)], self.pattern(self.sealed)
+        opened, undone = (self.aes.xor(bytes_, message.stream) for bytes_ in (sealed, message.text))
 
         def steps(m):
             if m.phase == 0:
-                return "whole", "text", (text, undone, True)
-            return chain(m, m.phase - 1) if m.phase <= phases else ("nothing", (), ())
-        return Call("aes_ccm_open", [*arguments, Stream("text", size, sealed, opened), size, Buffer("tag", tag), len(tag)], DONE,
-                    steps=steps, reveals=self.aes.xor(tag, right), refused=REFUSED, plain=self.of_all(text + opened),
-                    between=self.of_all(undone), undone=True, **more)
+                return "whole", "text", (message.text, undone, True)
+            return message.steps(m, m.phase - 1) if m.phase <= message.phases else ("nothing", (), ())
+        text = Stream("text", message.size, sealed, opened)
+        return Call("aes_ccm_open", [*message.arguments, text, message.size, Buffer("tag", tag), len(tag)], DONE,
+                    steps=steps, reveals=self.aes.xor(tag, message.tag), refused=REFUSED, plain=self.of_all(message.text + opened),
+                    between=self.of_all(undone), undone=True, **message.more)
 
     # Calls that are refused, for all their arguments.
     def refused(self):
