@@ -118,7 +118,8 @@ def operand(text):
 
 
 def parse(text, with_target):
-    """A shift, or the byte that is taken, belongs to the operand before it, and a number after memory says how the base register is moved."""
+    """The operands in a line. A shift, or the byte that is taken, belongs to the operand before it, and a number after memory says how the
+    base register is moved."""
     tokens, out = TOKEN.findall(text), []
     target = [int(tokens.pop(), 16)] if with_target else []
     for one in map(operand, tokens):
@@ -315,7 +316,7 @@ def made(f):
 
 
 def of_bytes(f):
-    """The same where a lane is a byte: of others carries, or what is 0, would be those of larger numbers."""
+    """`made` for lanes of one byte. Others are refused: in them carries, or what is 0, would be those of larger numbers."""
     def run(m, name, to, *sources):
         if to.lane != 1:
             raise Unproved("instruction not covered: %s of larger lanes than bytes" % name)

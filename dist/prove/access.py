@@ -103,7 +103,8 @@ class Access:
     def place_in_region(self, region, base, offset, size, write, align):
         """What `place` gives of a region whose bytes are all there."""
         if offset < 0 or offset + size > len(region.content):
-            raise Unproved("%s %d bytes at %d of %s, which has %d" % ("writes" if write else "reads", size, offset, base, len(region.content)))
+            raise Unproved("%s %d bytes at %d of %s, which has %d" % (
+                "writes" if write else "reads", size, offset, base, len(region.content)))
         if write and not region.writable:
             raise Unproved("writes to %s" % base)
         if base == "stack":

@@ -1,5 +1,5 @@
-"""The statement for each call of fotsgure_aes.h, beside the sentence of the header that it proves (.. is where some of it is left out): here
-those on blocks, counter mode and CBC. What the others prove is in key_wrap.py, cmac_ccm.py and single_rounds.py."""
+"""The statements for blocks, counter mode and CBC of fotsgure_aes.h, beside the sentence of the header that each proves (.. is where some
+of it is left out). Those for its other calls are in key_wrap.py, cmac_ccm.py and single_rounds.py."""
 import itertools
 
 from bits import DATA, LOST, PUBLIC, Unproved
@@ -30,7 +30,7 @@ class Blocks(Keyed):
 
     # Calls of every length (lengths.py): step * n + `rest` blocks or bytes, for every n of which the buffer isn't larger than PTRDIFF_MAX.
     def of_last(self, pattern, count):
-        """The same of the last block."""
+        """The bytes of a pattern in the last block."""
         return lambda m: [self.domain.moved(b, m.known(count) - 1 - m.first_block) for b in pattern]
 
     def of_any_count(self, name, state, content, want, count, size, plain, way="", choose=None, facts=(), **more):
@@ -46,7 +46,7 @@ class Blocks(Keyed):
                                  content if direction == "encrypt" else want, way)
 
     def any_low_keystream(self, skip, rest, way=""):
-        """The same where the low half doesn't carry: there are far fewer ways through the code."""
+        """Counter mode of every length where the low half doesn't carry, which has far fewer ways through the code."""
         return self.any_keystream(skip, rest, way, NEVER)
 
     def any_keystream(self, skip, rest, way="", wrap=unknown("wrap"), step=128):
@@ -102,7 +102,7 @@ class Blocks(Keyed):
         return Call(name + way, arguments, DONE, **more)
 
     # A call that expands a key begins in the key's domain. When it first computes with what isn't in it, what was made of the key becomes
-    # the same of any round keys.
+    # what it is for any round keys.
     def not_yet(self, name, count):
         return [self.key_domain.opaque((name, k)) for k in range(count)]
 
@@ -153,7 +153,7 @@ class Blocks(Keyed):
     def higher_words(self, full=0):
         """The names of the words above those that are full, the highest first."""
         places = range(0, 16 - self.address * (full + 2), self.address)
-        return ["counter from byte %d" % at + ", %d full" % full * bool(full) for at in places] + ["counter high" + ", %d full" % full * bool(full)]
+        return [name + ", %d full" % full * bool(full) for name in (*("counter from byte %d" % at for at in places), "counter high")]
 
     def counter_words(self, domain, first, full=0):
         """The bytes of an `iv` of unknown value, highest first, and the name of its lowest word."""

@@ -92,7 +92,8 @@ class Arithmetic:
             return self.offset(self.offset(x, carry), y), {}
         part, other = (self.low_part(v, size) for v in (x, y))
         if isinstance(part, Linear) and is_number(other) and size < self.word:
-            return tuple(self.any_byte() for _ in range(size)), {"c": (mask, part + (other & mask if is_int(other) else other) + carry, "below")}
+            full = part + (other & mask if is_int(other) else other) + carry
+            return tuple(self.any_byte() for _ in range(size)), {"c": (mask, full, "below")}
         if isinstance(x, (Distance, Negated)) and is_int(y):
             return x._replace(offset=x.offset + y), {}
         if isinstance(x, Negated) and is_pointer(y) and x.base == y.base and not carry and size == self.word:
@@ -128,11 +129,11 @@ class Arithmetic:
         return words.get(tuple(map(self.domain.plain, v)), v) if words else v
 
     def only_zero(self, differences):
-        """A value of which only is known whether it is 0."""
+        """A value of which nothing is known but whether it is 0: it is if these bytes are."""
         return self.verdict(0, differences, len(differences))
 
     def whole_number(self, v, size):
-        """The number that is in the lower bytes of a word and has no more."""
+        """The number that a word holds in as few bytes as it takes, with zeros above them; else the value itself."""
         name = self.domain.opaque_of.get(v[0]) if type(v) is tuple and size == self.word else None
         return name[0] if isinstance(name, tuple) and isinstance(name[0], Linear) and list(v) == self.fewest_bytes(name[0], size) else v
 
@@ -143,7 +144,7 @@ class Arithmetic:
         return whole if isinstance(whole, Linear) and v == tuple(self.to_bytes(whole, self.word)[:size]) else None
 
     def low_part(self, v, size):
-        """The number that is in these bytes of one that has no more, or of one that is so much larger."""
+        """The number that the lowest bytes of another one make, if that has 0 or 1 above them; else the value itself."""
         whole, most = self.whole(v, size), (1 << 8 * size) - 1
         if whole is None:
             return v

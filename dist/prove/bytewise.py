@@ -68,7 +68,7 @@ class Bytewise:
             return self.some_of(x, y)
 
     def logic(self, name, x, y, size):
-        """The same of values."""
+        """What `bytewise` does, of two values."""
         if type(x) is type(y) is tuple and x != y:
             return self.from_bytes(self.bytewise(name, x[:size], y[:size]))
         if is_int(x, y):

@@ -25,7 +25,8 @@ class Buffer:
     head, patterns = None, ()  # (of a Stream)
 
     def __init__(self, name, content, after=None, secret=(), align=1):
-        """`secret`: which of left.MAY_NOT_COME may come there, as what it holds is as secret as the key. `align`: of the struct that it is."""
+        """`secret`: which of left.MAY_NOT_COME may come there, as what it holds is as secret as the key. `align`: of the struct that it
+        is."""
         self.name, self.content, self.after, self.secret, self.align = name, content, after, secret, align
 
     def region(self, machine):
@@ -33,10 +34,10 @@ class Buffer:
 
 
 class Stream(Buffer):
-    """A buffer of any length. `size` is its length, a number that isn't known. `content` and `after` are patterns: what the block with number
-    LEAD is, and what it has to be after the call. With `choose`, `after` is a list of patterns, and choose(machine, number) says for each byte
-    of the block with that number which of them it has, or None if that isn't known. `head` has the content and the `after` of bytes in front of
-    the blocks. `backwards`: the last block counts as the first one (regions.Window)."""
+    """A buffer of any length. `size` is its length, a number that isn't known. `content` and `after` are patterns: what the block with
+    number LEAD is, and what it has to be after the call. With `choose`, `after` is a list of patterns, and choose(machine, number) says for
+    each byte of the block with that number which of them it has, or None if that isn't known. `head` has the content and the `after` of
+    bytes in front of the blocks. `backwards`: the last block counts as the first one (regions.Window)."""
 
     def __init__(self, name, size, content, after=None, choose=None, head=None, backwards=False):
         super().__init__(name, content, after)
@@ -214,7 +215,8 @@ def check_stream(m, stream, want, right):
 
 
 def check_buffer(m, buffer, want):
-    """Compares a Buffer with what it has to hold, and notes what bytes the caller gets: those that are said, and those that may be anything."""
+    """Compares a Buffer with what it has to hold. Notes the bytes that the caller gets: those that are said, and others, which may be
+    anything."""
     if want is ANY and m.answers:  # set_key looks at the content that one machine has
         raise Unproved("%s may have other bytes if buffers are otherwise apart" % buffer.name)
     if buffer.after is not None and want is not ANY:
@@ -226,7 +228,8 @@ def check_buffer(m, buffer, want):
 
 
 def asked_of(m, question):
-    """Of what bytes it is asked whether all are zero; of all those that depend on one and the same byte alone, for which of its values."""
+    """What a question asks: {a byte: None}, of bytes that are to be zero; of those that depend on one cell alone {that cell: for which of
+    its values some of them isn't zero}."""
     d, out = m.domain, {}
     for b in question[1:]:
         cells = {place for x in d.bits(b) for place in cells_of_bit(m, x)} if d.symbolic(b) else ()
@@ -240,6 +243,7 @@ def asked_of(m, question):
 
 
 def compare(domain, have, want, what):
+    """Refuses bytes that aren't what they have to be. Where that is None, they may be anything."""
     if len(have) != len(want):
         raise Unproved("%s has %d bytes and not %d" % (what, len(have), len(want)))
     for i, (x, y) in enumerate(zip(have, want)):

@@ -20,8 +20,8 @@ NONCES, CCM_TAGS, CMAC_TAGS = range(7, 14), range(4, 17, 2), range(4, 17)  # len
 # A message of CCM: the arguments before the text; the text as it is in the chain, and at which block of it that begins; the steps of the
 # chain; and the tag.
 CcmMessage = namedtuple("CcmMessage", "arguments text start steps tag")
-# One of any length: also the size of the text, the patterns of a text and of keystream, the steps of the chain in its phases, how many these
-# are, and what else a call needs.
+# One of any length: also the size of the text, the patterns of a text and of keystream, the steps of the chain in its phases, how many
+# these are, and what else a call needs.
 AnyCcmMessage = namedtuple("AnyCcmMessage", "arguments size text stream steps phases tag more")
 
 
@@ -36,7 +36,7 @@ class KeyedAes(SingleRounds, KeyWrap, Blocks):
 
     # Chains.
     def filled(self, begin, count):
-        """The blocks of a string that begins so and goes on with so many bytes, each as it would be in block 0."""
+        """The blocks of a string of `begin` and so many bytes more, each as it would be in block 0."""
         return padded(begin + (self.block_bytes * (count // 16 + 2))[len(begin):len(begin) + count])
 
     def next_value(self, block, k):
@@ -81,7 +81,7 @@ class KeyedAes(SingleRounds, KeyWrap, Blocks):
         return Call("aes_cmac_verify", [self.schedule(), Buffer("message", message), length, Buffer("tag", tag), tag_length], DONE,
                     steps=steps, reveals=self.aes.xor(tag, right), refused=REFUSED, plain=message)
 
-    # The same of 16 n + `rest` bytes for every n, where the last block has from 1 to 16 bytes.
+    # CMAC of 16 n + `rest` bytes for every n, where the last block has from 1 to 16 bytes.
     def any_link(self, m, k, first, block=None, after=None):
         """The step from block k to the next one: before block 0 there is `first`. The last block and what comes after it may be others."""
         block = block or self.block_bytes
@@ -114,7 +114,8 @@ class KeyedAes(SingleRounds, KeyWrap, Blocks):
             count = m.known(blocks)
             return self.at_link(m, chained, count) if apart and count != 0 else alone
         size, message = blocks * 16 + rest, self.pattern(self.block_bytes, -1)
-        return [Stream("message", size, message), size], dict(steps=steps, plain=self.of_all(message), facts={blocks, PTRDIFF_MAX - size}), tag
+        more = dict(steps=steps, plain=self.of_all(message), facts={blocks, PTRDIFF_MAX - size})
+        return [Stream("message", size, message), size], more, tag
 
     def any_cmac(self, rest):
         message, more, tag = self.any_tagged(rest)
@@ -179,8 +180,8 @@ class KeyedAes(SingleRounds, KeyWrap, Blocks):
         return Call("aes_ccm_open", [*message.arguments, Buffer("text", sealed, text), text_length, Buffer("tag", tag), tag_length], DONE,
                     steps=steps, reveals=self.aes.xor(tag, message.tag), refused=REFUSED, keystream=stream, plain=text, undone=True)
 
-    # The same of texts of 256 n + `rest` bytes for every n: so each byte of the length is one of n, or known. The halves of a counter block
-    # are words of unknown value.
+    # CCM of texts of 256 n + `rest` bytes for every n: so each byte of the length is one of n, or known. The halves of a counter block are
+    # words of unknown value.
     def ccm_counters(self, nonce):
         """Cipher of the counter block of any block of text. (A text has fewer blocks than bytes, so the number never fills its bytes.)"""
         d, size = self.domain, 15 - len(nonce)
@@ -195,7 +196,8 @@ class KeyedAes(SingleRounds, KeyWrap, Blocks):
         return CounterWord("CCM low, %d" % of, 1, NEVER, size.divided(16)[0] + 2 + BATCH, words)
 
     def any_string(self, m, k, size, cells, first, last_value, begin=()):
-        """The step at block k of a string of this size, which may begin with other bytes than those cells. Before it is the value `first`."""
+        """The step at block k of a string of this size, which may begin with other bytes than those cells. Before the string is the value
+        `first`, and behind it `last_value`."""
         whole, rest = divmod(size, 16) if isinstance(size, int) else size.divided(16)
         block = [*begin, *cells[len(begin):]] if isinstance(k, int) and k == 0 else cells
         if m.is_below(k, whole):
@@ -207,10 +209,11 @@ class KeyedAes(SingleRounds, KeyWrap, Blocks):
         return "again" if k == whole + 1 else "nothing", (), ()
 
     def fresh_block(self, name, *of_block):
-        return self.once(name, lambda: [self.domain.fresh("%s, byte %d" % (name, i), KEY * (not of_block) | DATA, *of_block) for i in range(16)])
+        depends = KEY * (not of_block) | DATA
+        return self.once(name, lambda: [self.domain.fresh("%s, byte %d" % (name, i), depends, *of_block) for i in range(16)])
 
     def any_ccm(self, nonce_length, additional, rest, tag_length, encoded=2):
-        """There are no additional data, or 16 a + `additional` bytes for every a, of which the length takes so many bytes (A.2.2)."""
+        """There are no additional data, or 16 a + `additional` bytes for every a, whose length takes `encoded` bytes (A.2.2)."""
         nonce, size, length = self.nonce[:nonce_length], unknown("n") * 256 + rest, unknown("a") * 16 + additional
         stream = self.pattern(self.once(("CCM counters", nonce_length), lambda: self.ccm_counters(nonce)))
         text, cells = self.pattern(self.block_bytes, -1), self.fresh_block("additional data", True)
@@ -228,7 +231,8 @@ class KeyedAes(SingleRounds, KeyWrap, Blocks):
                 return self.any_string(m, k, m.known(length) + encoded, cells, first, middle, m.known_bytes(begin))
             return self.any_string(m, k, m.known(size), self.block_bytes, middle if additional else first, last_value)
         data = Stream("additional", length, [self.pattern([cells[i % 16]], i // 16 - 1)[0] for i in range(encoded, encoded + 16)])
-        arguments = [self.schedule(), Buffer("nonce", nonce), nonce_length, *([data, length] if additional else [nothing("additional", False), 0])]
+        data = [data, length] if additional else [nothing("additional", False), 0]
+        arguments = [self.schedule(), Buffer("nonce", nonce), nonce_length, *data]
         return AnyCcmMessage(arguments, size, text, stream, chain, 1 + (additional > 0), tag, dict(
             keystream=self.of_all(stream), counter=self.ccm_counter_word(nonce, size),
             facts={unknown("n"), PTRDIFF_MAX - size, (1 << 8 * (15 - nonce_length)) - 1 - size, *(lengths[encoded] if additional else ())}))
@@ -277,12 +281,14 @@ class KeyedAes(SingleRounds, KeyWrap, Blocks):
         sizes = {f for x in (n, a, t, k) for f in between(x, 0, self.most)}
         right = sizes | between(k, 0, len(CCM_TAGS) - 1), CCM_TAGS[0] + 2 * k  # every tag's length
         wrong = self.lengths_but(CCM_TAGS, "length")
-        if self.program.machine.relaxed:  # RISC-V's code adds a tag's lowest bit to a comparison: of a number that isn't known this says nothing
+        if self.program.machine.relaxed:
+            # RISC-V's code adds a tag's lowest bit to a comparison: of a number that isn't known this says nothing.
             others = 17, 18, 2 ** 8 + 8, 2 ** 16 + 8, 2 ** 31 + 8, 2 ** 32 + 8, self.most - 7
             right, wrong = (sizes, CCM_TAGS[-1]), [*wrong[:-1], *((length, set()) for length in others if length <= self.most)]
         refusals = [(self.no_key(), n, k, NO_KEY, sizes)]
         refusals += [(self.schedule(), n, length, TAG_LENGTH, sizes | facts) for length, facts in wrong]
-        refusals += [(self.schedule(), length, right[1], NONCE_LENGTH, right[0] | facts) for length, facts in self.lengths_but(NONCES, "length")]
+        refusals += [(self.schedule(), length, right[1], NONCE_LENGTH, right[0] | facts)
+                     for length, facts in self.lengths_but(NONCES, "length")]
         refusals += [(self.schedule(), length, right[1], TOO_LONG, right[0] | between(t, 1 << 8 * (15 - length), self.most))
                      for length in NONCES[1:] if self.most >> 8 * (15 - length)]
         for (aes, nonce, tag, status, facts), call in itertools.product(refusals, ("seal", "open")):

@@ -1,9 +1,9 @@
 """The controls of the proof: faults that are planted in the assembly (faults.py), code that no case reaches, and wrong meanings of
 instructions. Each has to be refused. Run it as `make prove-controls` in dist.
 
-A fault is refused if the case that it names, one of those of PROVE=builds or, for Windows, `_v1` and RISC-V, of PROVE=all, is not proved any
-more. One for which a text has no place counts as missed. Whatever else goes wrong ends the controls: gcc, ld, a case that isn't there, or a
-planted instruction that isn't covered, unless that is the fault."""
+A fault is refused if the case that it names is not proved any more. That is a case of PROVE=builds or, for Windows, `_v1` and RISC-V, of
+PROVE=all. A fault for which a text has no place counts as missed. Whatever else goes wrong ends the controls: gcc, ld, a case that isn't
+there, or a planted instruction that isn't covered, unless that is the fault."""
 import argparse
 import re
 import sys

@@ -12,7 +12,8 @@ from x86_64 import X86_64
 
 
 def header_cases(dist, machine=X86_64):
-    for statuses, structs, name in ((keyed.STATUSES, keyed.STRUCTS, "fotsgure_aes"), (gcm.STATUSES, gcm.STRUCTS | siv.STRUCTS, "fotsgure_gcm")):
+    for statuses, structs, name in ((keyed.STATUSES, keyed.STRUCTS, "fotsgure_aes"),
+                                    (gcm.STATUSES, gcm.STRUCTS | siv.STRUCTS, "fotsgure_gcm")):
         lines = ["#include <stddef.h>", "#include <%s.h>" % name]
         lines.append("_Static_assert(%s_STACK == %d, \"\");" % (name.upper(), STACK))
         lines += ["_Static_assert(%s_%s == %d, \"\");" % (name.upper(), s, n) for n, s in enumerate(statuses)]
@@ -25,7 +26,7 @@ def header_cases(dist, machine=X86_64):
 
 
 def riscv_header_cases(dist, builds):
-    """The same of the libraries for RISC-V."""
+    """What the headers say of sizes and places for RISC-V."""
     for build in (build for build in builds if issubclass(BUILDS[build], Riscv) and "siv" not in build):
         machine, word, library = BUILDS[build], BUILDS[build].word, library_of(build)
         size = {"aes": 121 * word, "gcm": 500 if word == 4 else 1784}[library]  # (of what is kept of the longer one 984 bytes are used)

@@ -7,7 +7,7 @@ from standards import ICV1, ICV2, ZEROS, number
 
 
 class KeyWrap:
-    """Those of KeyedAes on keys, without padding and with it."""
+    """Calls of fotsgure_aes.h that wrap keys, without padding and with it."""
 
     # In step t, the block A ^ [t] or A, with a semiblock R, is named as bytes of block t - 1.
     def wrap_string(self, start, n, last):
@@ -51,9 +51,9 @@ class KeyWrap:
         return Call("aes_unwrap", [self.schedule(), Buffer("input", wrapped), count, Buffer("output", self.undefined(8 * n), key), n],
                     DONE, steps=steps, reveals=self.aes.xor(start, ICV1), refused=REFUSED, refused_after={"output": [0] * 8 * n}, plain=key)
 
-    # The same of every number of semiblocks. In each turn of W, semiblock i, and A before it, are bytes of one block, with the number of that
-    # before (at_link); the first semiblock is number 0, or backwards the last one. What the semiblock becomes are others, of block i. After
-    # a turn A becomes arbitrary bytes once more.
+    # Key wrap of every number of semiblocks. In each turn of W, semiblock i, and A before it, are bytes of one block, with the number of
+    # that before (at_link); the first semiblock is number 0, or backwards the last one. What the semiblock becomes are others, of block i.
+    # After a turn A becomes arbitrary bytes once more.
     def semiblocks(self):
         """A and a semiblock before a step, the patterns of semiblocks before a turn and after it, and A after each turn."""
         a, r, made = self.block_bytes[:8], self.block_bytes[8:], self.semiblock("semiblock", True)
@@ -173,9 +173,9 @@ class KeyWrap:
         return Buffer("key_length", self.undefined(self.address), after[:self.address], align=self.address)
 
     def unwrap_padded_refused(self, n, every):
-        """The same where the number in the place of the length isn't one of n semiblocks: each of its three higher bytes has any value; and
-        it is one more, one less, 2^k or 2^k - 1, for every so many k. Whether the length is wrong or the rest, the same instructions
-        run."""
+        """A padded key whose length is wrong, as the number in its place isn't one of n semiblocks: each of its three higher bytes has any
+        value; and it is one more, one less, 2^k or 2^k - 1, for every so many k. Whether the length is wrong or the rest, the same
+        instructions run."""
         paths, powers = {}, [1 << k for k in range(0, 33, every)]
         yield self.unwrap_padded(8 * n - 3, paths=paths)
         for any_byte in range(3):

@@ -53,7 +53,7 @@ class Keyed:
         self.kept, self.calls = {}, set()
 
     def name_round_keys(self):
-        """Names for all bytes of round keys and of their InvMixColumns, with what they are for any round keys."""
+        """Names all bytes of round keys and of their InvMixColumns in the key's domain, and keeps what each is for any round keys."""
         self.meaning = {}
         for r in range(len(self.w) // 4):
             a, b = self.key_aes.round_key(self.key_words, r), self.aes.round_key(self.w, r)
@@ -61,8 +61,9 @@ class Keyed:
             for x, y in list(zip(a, b)) + list(mixed):
                 self.meaning[self.key_domain.name(x, "round key byte")] = self.domain.bits(y)
 
-    # From the bytes that a key expansion makes to the same for any round keys.
     def bit_for_any(self, x):
+        """A bit that a key expansion stores, as what it is for any round keys: a sum of bits of one byte of a round key or of its
+        InvMixColumns."""
         if x < 2:
             return x
         ways = [] if x & BLOCK else [(c, t) for c, t in self.key_domain.single(x >> 9).items() if c in self.meaning]
@@ -78,7 +79,7 @@ class Keyed:
         return self.domain.pack([self.bit_for_any(x) for x in self.key_domain.bits(b)])
 
     def proved(self, calls, seed=None):
-        """Proves a statement, which may be several calls; the machine after the last one."""
+        """Proves a statement, which may be several calls. Gives the machine after the last one."""
         for call in [calls] if isinstance(calls, Call) else calls:
             given_the_key = any(b.content is self.key for b in call.buffers)
             m = prove(self.key_domain if given_the_key else self.domain, self.program, call, seed)
@@ -95,7 +96,7 @@ class Keyed:
         return [self.domain.undefined] * count
 
     def of(self, bytes_, block):
-        """The same functions of the bytes of this block, the first being 0."""
+        """Functions of block 0's bytes, as functions of this block's bytes."""
         return [self.domain.byte_in_block(x, block + 1) for x in bytes_]
 
     def many(self, bytes_, count, start=0):
@@ -112,7 +113,7 @@ class Keyed:
         return self.stored_by(self.proved(self.expansion(ANY), seed))
 
     def stored_by(self, m):
-        """Keeps what set_key has stored, as the same of any round keys: the key's length, and schedules of up to 60 words each."""
+        """Keeps what set_key has stored, as what it is for any round keys: the key's length, and schedules of up to 60 words each."""
         start, end = self.length_size, self.length_size + self.room * (1 if self.program.narrow else self.schedules)
         self.struct = [self.byte_for_any(b) for b in m.regions[self.library].content[:end]]
         if self.struct[:start] != number(self.key_size, start)[::-1]:
@@ -123,11 +124,12 @@ class Keyed:
         return m
 
     def kept_key(self):
-        """Of each bit of the first bytes of the struct: of which bits of round keys it is the sum. So structs of two libraries compare."""
+        """What a struct keeps of a key: of each bit, of which bits of round keys it is the sum. So structs of two libraries compare."""
         d = self.domain
         return [(tuple(sorted(d.linear_part(x))) if x > 1 else (), x & 1) for b in self.struct[:self.kept_size] for x in d.bits(b)]
 
     def expansion(self, after, **more):
+        """A call of set_key, with what the struct has to be after it."""
         struct = self.struct_of([self.key_domain.undefined] * self.struct_size, after)
         return Call(self.prefix + "_set_key", [struct, Buffer("key", self.key), self.key_size], DONE, **more)
 
@@ -165,20 +167,20 @@ class Keyed:
     # Calls of every length (lengths.py). A pattern has the bytes of the block with number LEAD, and perhaps of the one before it or behind
     # it.
     def pattern(self, bytes_, by=0):
-        """Functions of the bytes of block 1, as the same of another one."""
+        """Functions of the bytes of block 1, as those of the block with number LEAD, or of one so much behind it."""
         return [self.domain.moved(b, LEAD - 1 + by) for b in bytes_]
 
     def at_block(self, m, bytes_, number):
-        """Functions of the bytes of block 1, as the same of a block with this number."""
+        """Functions of the bytes of block 1, as those of a block with this number."""
         return [self.domain.moved(b, number - m.first_block) for b in self.pattern(bytes_)]
 
     def of_all(self, pattern):
-        """The same of all blocks that may occur."""
+        """The bytes of a pattern in all blocks that may occur."""
         numbers = {n for b in pattern for n in self.domain.blocks(b)}
         return [self.domain.moved(b, k) for b in pattern for k in range(1 - min(numbers), LAST - max(numbers))]
 
     def streams_of(self, way, name, size, count, content, want, choose=None):
-        """The arguments that are data of a call, as those of `changed`."""
+        """The arguments that are data of a call of every length, as `changed` has those of other calls."""
         if way == "_to":
             return [Stream("input", size, content), count, Stream("output", size, self.undefined(16), want, choose), count]
         return [Stream(name, size, content, want, choose), count]
@@ -209,7 +211,7 @@ class Keyed:
         return low + high * (self.most + 1), between(low, 0, self.most) | between(high, 0, self.most)
 
     def unknown_number(self, number):
-        """The bytes of such a number."""
+        """The bytes of a number of 64 bits that isn't known."""
         parts = [number] if self.most == WORD else [unknown(name) for name in sorted({name for name, _ in number.terms}, reverse=True)]
         return [self.domain.opaque((part, k)) for part in parts for k in range(self.address)]
 
@@ -228,16 +230,16 @@ def unread(way, n, k):
 
 
 def between(n, low, high):
-    """Facts of a number."""
+    """The facts that say that a number is from `low` to `high`."""
     return {n - low, high - n}
 
 
 def unequal(a, b):
-    """The ways in which two numbers differ."""
+    """The two ways in which numbers differ, as facts."""
     return {a - b - 1}, {b - a - 1}
 
 
 def lengths_but(right, name, most=WORD):
-    """All lengths but these, of which the last is the highest: (the length, facts)."""
+    """All lengths but the right ones, of which the last is the highest: (a length, the facts of it)."""
     length = unknown(name)
     return [(n, set()) for n in range(right[-1]) if n not in right] + [(length, between(length, right[-1] + 1, most))]

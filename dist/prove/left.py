@@ -8,7 +8,8 @@ IN_BUFFERS, MAY_NOT_COME = "the caller's buffers, perhaps for a while", ("key", 
 
 
 def nothing_secret(m, call):
-    """Nothing may be left in registers except the status, and nothing in flags."""
+    """Refuses secrets that may not be left: in flags and registers any but what the status tells, elsewhere those that the call doesn't
+    allow."""
     flags = [name for name, flag in m.flags.items() if m.is_secret(flag)]
     if flags:
         raise Unproved("leaves flags that depend on the key or on data: " + ", ".join(flags))
@@ -20,8 +21,8 @@ def nothing_secret(m, call):
 
 
 def no_secret_in_buffers(m, call):
-    """The same of what was written to buffers by a run that doesn't go on: it came to a state of which this isn't a part. What a buffer has
-    at the end may be in it before."""
+    """Refuses a secret in what a run wrote to buffers that came to a known state and doesn't go on: this isn't a part of that state. What a
+    buffer has at the end may be in it before."""
     known, plain = named(m, call)
     ends = [b for a in call.buffers if not a.secret and isinstance(a.after, list) for b in a.after if isinstance(b, int)]
     known = {**known, "result": known["result"] | bits_of(m, ends)}
@@ -47,7 +48,7 @@ def cells_of_bit(m, x):
 
 
 def depends_bit(m, x, origins=True):
-    """The same of a bit; or, without `origins`, what its own cells are."""
+    """What a bit depends on, as `depends`; or, without `origins`, what its own cells are."""
     out = 0
     for place in cells_of_bit(m, x):
         out |= m.origins[place] if origins and place in m.origins else m.domain.depends[place[0]]
@@ -55,9 +56,9 @@ def depends_bit(m, x, origins=True):
 
 
 def tells(m, byte, known, plain, reveals=()):
-    """What a byte that is left tells: of the "key" alone, "inner" values of the key and others, from which the key may be computed, all bytes
-    of the "difference" of a tag from the right one, in one byte by `or`, "plain" text and what is computed of it without the key, a block
-    that the cipher gave in the midst of a mode ("step"), the "keystream", the call's "result", or of other "data" alone."""
+    """What a byte that is left tells: of the "key" alone, "inner" values of the key and others, from which the key may be computed, all
+    bytes of the "difference" of a tag from the right one, in one byte by `or`, "plain" text and what is computed of it without the key, a
+    block that the cipher gave in the midst of a mode ("step"), the "keystream", the call's "result", or of other "data" alone."""
     if byte in m.lost:
         name = m.domain.opaque_of.get(byte, [0])[0]
         if isinstance(name, Verdict) and name.wrong is not None and m.zero_flag(name.differences) in m.answers:

@@ -42,7 +42,7 @@ class Known:
         self.follows(general, general.state.generals[:-1])
 
     def follows(self, general, names):
-        """What is proved of these general states needs what is proved of another one."""
+        """Notes that what is proved of these general states needs what is proved of another one."""
         for name in names:
             self.after.setdefault(name, set()).add(general.name)
 
@@ -71,7 +71,8 @@ class Known:
         return False
 
     def forget(self, general):
-        """A guess of it was wrong: the machines that were left out for its sake, or for that of a state that came of it."""
+        """Forgets a general state of which a guess was wrong, and all that came of it. Gives the machines that were left out for the sake
+        of these."""
         wrong = lambda other: general.name in other.state.generals
         back = [m for other, m in self.left_out if wrong(other) and general.name not in m.generals]
         self.left_out = [(other, m) for other, m in self.left_out if not wrong(other) and general.name not in m.generals]
@@ -80,7 +81,7 @@ class Known:
 
 
 def renumbered(m, general, passes):
-    """The same machine, with the numbers of blocks that a general state has after so many passes."""
+    """A machine whose blocks are counted as in a general state after so many passes."""
     by = replaced(general.state.first_block, general.name, passes) - m.first_block
     if not is_int(by):
         raise Unproved("blocks whose numbers aren't known")
@@ -112,6 +113,7 @@ def watch(known, m):
 
 
 def arrive(known, m, back):
+    """What happens at the head of a loop. `back`: whether a jump backwards led there."""
     key = m.next_address, m.general[m.stack_pointer].offset
     visit = m.loops.get(key)
     if key in known.at and not (back and visit and visit.general):
@@ -131,7 +133,7 @@ def arrive(known, m, back):
 
 
 def moved_on(m, blocks):
-    """The same machine, where other blocks have the first numbers."""
+    """A machine whose first block is so many blocks later."""
     m, d = m.copied(), m.domain
 
     def moved(b):
@@ -152,7 +154,8 @@ def in_a_pass(first, second):
     places = [(v.offset, second.general[r].offset, first.regions[v.base].unit) for r, v in first.general.items()
               if is_pointer(v, second.general[r]) and v.base == second.general[r].base and isinstance(first.regions.get(v.base), Window)]
     for some in ends, places:
-        steps = [by // unit for by, unit in ((wrapped(b - a, first.most), unit) for a, b, unit in some) if is_int(by) and by > 0 and by % unit == 0]
+        moved = [(wrapped(b - a, first.most), unit) for a, b, unit in some]
+        steps = [by // unit for by, unit in moved if is_int(by) and by > 0 and by % unit == 0]
         if steps:
             return max(steps)
     by = second.done - first.done
@@ -174,8 +177,8 @@ def generally(a, b, passes, most):
 
 
 def general_bytes(m, a, b, passes, numbers=()):
-    """The same of bytes, in words. `numbers` are those of registers after both passes. (In a word that isn't alike bytes may be alike by
-    chance: what is of blocks, or of numbers that aren't known.)"""
+    """Bytes of a general state, word by word. `numbers` are those of registers after both passes. (In a word that isn't alike bytes may be
+    alike by chance: what is of blocks, or of numbers that aren't known.)"""
     d, out = m.domain, []
     for x, y in zip(lanes(a, m.word), lanes(b, m.word)):
         v = None
@@ -189,7 +192,7 @@ def general_bytes(m, a, b, passes, numbers=()):
 
 
 def with_number(m, x, y, passes, numbers):
-    """The same of a word to which a number was added bit by bit, its highest byte first."""
+    """A word of a general state to which a number was added bit by bit, its highest byte first; None if it is no such word."""
     added = lambda word, number: m.bytewise("xor", word, m.to_bytes(number, m.word)[::-1])
     for a, b in numbers if all(map(m.domain.symbolic, x + y)) else ():
         rest = added(x, a)
@@ -199,8 +202,8 @@ def with_number(m, x, y, passes, numbers):
 
 
 def guessed(facts, later, wrong):
-    """What was decided in each of two passes, the last first: a number and by how much it moves. If that was a wrong guess, the number is one
-    pass behind."""
+    """What was decided in each of two passes, the last first: a number and by how much it moves. If that was a wrong guess, the number is
+    one pass behind."""
     for a, b in zip(reversed(facts), reversed(later)):
         starts = [start for start in (a, a - (b - a)) if start not in wrong]
         if is_int(b - a) and b != a and starts and WRAPPED not in terms(a):

@@ -70,7 +70,7 @@ def unknown(name):
 
 
 def wrapped(x, most=WORD):
-    """The same number for a machine, of which `most` is the highest word: only so many bits count. Constants are as near to 0 as they can
+    """A number as a machine has it, of which `most` is the highest word: only so many bits count. Constants are as near to 0 as they can
     be."""
     half = most + 1 >> 1
     near = lambda k: (k + half & most) - half
@@ -86,7 +86,7 @@ def terms(x):
 
 
 def step_of(x):
-    """The highest power of two by which the number is known except for multiples of it."""
+    """The highest power of two that divides all coefficients: but for multiples of it the number is known."""
     power = math.gcd(*(c for _, c in x.terms))
     return power & -power
 
@@ -103,7 +103,7 @@ def replaced(x, name, by):
 
 
 def tightened(x):
-    """For integers, x >= 0 and this number >= 0 say the same."""
+    """A number that is 0 or more for the same integers as x, with the least coefficients."""
     if not isinstance(x, Linear):
         return x
     k = math.gcd(*(c for _, c in x.terms))

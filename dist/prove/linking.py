@@ -67,7 +67,8 @@ def is_windows(build):
 
 
 def takes_few(build, level="all"):
-    """Whether it is proved at fewer lengths than others (cases.py): its text is compiled from what these are; or, without PROVE, is `_v3`."""
+    """Whether a build is proved at fewer lengths than others (cases.py): its text is compiled from what these are; or, without PROVE, it is
+    `_v3`."""
     return suffix_of(build) == "_v1" or is_windows(build) or issubclass(BUILDS[build], Riscv) or not level and suffix_of(build) == "_v3"
 
 
@@ -186,7 +187,7 @@ def program_of(build, path, out):
 
 
 def assembled(build, text, out):
-    """The same of a text, assembled in each way of the Makefile: the names are to differ, and nothing else."""
+    """A text, assembled in each way of the Makefile, and linked by itself: the names are to differ, and nothing else."""
     machine, suffix = BUILDS[build], suffix_of(build)
     run(*machine.compiler, *["-Wa,-defsym,chosen=1"] * bool(suffix), "-c", text, "-o", out + ".o")
     if is_windows(build):
@@ -227,7 +228,8 @@ WINDOWS_LAYOUT = """SECTIONS {
 
 
 def link_for_windows(out, machine, objects):
-    """Objects at such addresses by Windows' linker, and the same as an ELF file. (The function that touches the stack does nothing here.)"""
+    """Objects at addresses of more than 32 bits by Windows' linker, turned into an ELF file. (The function that touches the stack does
+    nothing here.)"""
     with open(out + ".ld", "w") as file:
         file.write(WINDOWS_LAYOUT)
     run(*machine.linker, "-e", "start", "--image-base", "0x123456700000", "--defsym", "___chkstk_ms=start", "-T", out + ".ld",
@@ -236,8 +238,8 @@ def link_for_windows(out, machine, objects):
 
 
 def refuse_names_of_windows(path, suffix):
-    """The same of an object for Windows: of what `nm` says of its symbols, T is a function of ours, U one of others, and small letters are
-    names that no other file sees."""
+    """What refuse_names refuses, of an object for Windows. Of what `nm` says of its symbols, T is a function of ours, U one of others, and
+    small letters are names that no other file sees."""
     symbols = re.findall(r"(?m)^[0-9a-f ]{16} (\w) (\S+)$", run(Windows.tools + "nm", path))
     ours = lambda name: name.startswith("fotsgure_") and name.endswith(suffix)
     known = {*LIBC, *Windows.also_called}
@@ -273,7 +275,8 @@ def refuse_sections(path, in_rust=False):
 
 
 def refuse_plain(path, member, suffix):
-    """The same, and other names, of an object of the same text as a member of a static library, in which names have no suffix."""
+    """An object of the same text as a member of a static library, in which names have no suffix: refuses sections, names, and other
+    exports than the member's."""
     refuse_sections(path)
     refuse_names(path, "")
     if sorted(Elf(path).exports) != sorted(exports_of(member, suffix)):

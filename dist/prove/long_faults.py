@@ -36,18 +36,19 @@ FEWER_ZEROS = MEMSET, r"\tcmpq\t$1048576, %rdx\n\tjbe\t77f\n\tmovl\t$1048576, %e
 WRAP_TURNS, UNWRAP_TURNS = (function("key_wrap::steps::%swrap_in_place" % un) for un in ("", "un"))
 NUMBER = r"\tmovq\t%r\w+, %rax\n(?=\tbswapq\t%rax\n)"
 TURN = r"(\taddq\t\$8, %(?P<at>r\w+)\n\tdecq\t%(?P<left>r\w+)\n)\tjne\t(?P<loop>\S+)\n"
-WRAP, WRAP_PADDED, UNWRAP_PADDED = (function("key_wrap::" + name) for name in ("wrapping::wrap", "padded::wrap_padded", "padded::unwrap_padded"))
+WRAP, WRAP_PADDED, UNWRAP_PADDED = (function("key_wrap::" + name) for name in (
+    "wrapping::wrap", "padded::wrap_padded", "padded::unwrap_padded"))
 CCM_TAG, IN_TWO = function("ccm::message::put_tag"), r"cmpq\t\$65279, "
 ON_PLANES, MEMMOVE = call("aes_hybrid::batches::process_on_planes"), r"(\tcallq\t\*memmove.*\n)"
 
 
 def after(number, what):
-    """The same and `what`, if so many blocks are done."""
+    """What was matched, and behind it `what`, which runs if so many blocks are done."""
     return r"\1\tcmpq\t$%d, %%\g<done>\n\tjb\t77f\n\t%s\n77:\n" % (number, what)
 
 
 def before(number, what):
-    """The same before the same."""
+    """What was matched, and before it `what`, which runs if so many blocks are done."""
     return r"\tcmpq\t$%d, %%\g<done>\n\tjb\t77f\n\t%s\n77:\n\1" % (number, what)
 
 
@@ -163,8 +164,10 @@ LONG_FAULTS = {
         ("a count of 32 bits that wraps around", IN_BATCHES, r"add\tx(\d+), x\1, #8\n", r"add\tw\1, w\1, #8\n", CASE),
         ("a batch left out at 2^20 blocks", IN_BATCHES, r"(\tadd\t(x\d+), \2, #8\n)(?=[\s\S]*?\tadd\t(x\d+), \3, #128\n)",
          r"\1\tcmp\t\2, #256, lsl #12\n\tb.ne\t77f\n\tadd\t\2, \2, #8\n\tadd\t\3, \3, #128\n77:\n", CASE),
-        ("a step's number of 32 bits in key wrap", WRAP_TURNS, r"\trev\tx9, x(\d+)\n", r"\tmov\tw9, w\1\n\trev\tx9, x9\n", "any_wrap_padded 3"),
-        ("the length of 65,279 bytes of additional data in six", CCM_TAG, r"cmp\tx(\d+), #254\n", r"cmp\tx\1, #253\n", "any_ccm_open 12 15 33 8"),
+        ("a step's number of 32 bits in key wrap", WRAP_TURNS, r"\trev\tx9, x(\d+)\n", r"\tmov\tw9, w\1\n\trev\tx9, x9\n",
+         "any_wrap_padded 3"),
+        ("the length of 65,279 bytes of additional data in six", CCM_TAG, r"cmp\tx(\d+), #254\n", r"cmp\tx\1, #253\n",
+         "any_ccm_open 12 15 33 8"),
     ],
     "x86_64/gcm": [
         ("bits 32 to 39 of a text's length left out of the tag", PUT_TAG, r"shrq\t\$29, %(r\w+)\n",

@@ -167,8 +167,8 @@ class Emulator(Beside):
             self.tell("P%x=%s" % (self.first_vector + n, b.hex()))
 
     def step(self, name, address, called):
-        """The same. A stop would take away the exclusive access that `ldaxr` has got, so the instructions up to `stlxr` are one step.
-        False if nothing was done."""
+        """One instruction, or libc's function up to this address. A stop would take away the exclusive access that `ldaxr` has got, so the
+        instructions up to `stlxr` are one step. False if nothing was done."""
         if called or name == "stlxr":
             self.tell("Z0,%x,4" % address)
             self.tell("c", "T05")

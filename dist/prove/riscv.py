@@ -78,8 +78,8 @@ class Riscv(Machine):
         return self.compared(v, 0, self.word).get("z")
 
     def is_equal(self, x, y):
-        """A flag. Whether a word of a counter is a number is asked; but the lowest one is 0 in block `wrap` alone, and the one above it isn't
-        after it has become one more."""
+        """A flag: whether two words are equal. Whether a word of a counter is a number is asked; but the lowest one is 0 in block `wrap`
+        alone, and the one above it isn't after it has become one more."""
         x, y = (y, x) if is_int(x) else (x, y)
         if self.is_counter(x) and is_int(y):
             if y == 0 and (x.base == self.counter.word or x.offset):
@@ -113,7 +113,7 @@ class Riscv(Machine):
         return self.from_bytes(self.to_bytes(v, 4))
 
     def borrow(self, x, y):
-        """The same as a bit."""
+        """A bit: whether x is less than y, as numbers without a sign."""
         return self.full_adder(self.bits(x, self.word), [bit ^ 1 for bit in self.bits(y, self.word)], 1)[1] ^ 1
 
     def has_wrapped(self, x, y):

@@ -5,7 +5,7 @@ from calls import Buffer, Call
 
 
 class SingleRounds:
-    """Those of Keyed that need no key."""
+    """Calls of fotsgure_aes.h that need no key."""
 
     def a_round(self, direction, way=""):
         """A round of Cipher in place: SubBytes, ShiftRows, MixColumns, AddRoundKey (FIPS 197, 5.1). A round of EqInvCipher in place:

@@ -81,7 +81,8 @@ class KeyedSiv(KeyedHash):
         yield "memory", self.stored(self.expanded), self.stored(self.message_w)
 
     def polyval(self, additional, text):
-        """Of additional data and a text, each filled up with zeros, and of their lengths in bits (4)."""
+        """Whether there are few bytes, and POLYVAL of additional data and a text, each filled up with zeros, and of their lengths in bits
+        (4)."""
         few, hashing = len(additional) + len(text) <= FEW, Hashing(self, ZEROS)
         lengths = (little(8 * len(additional), 8) + little(8 * len(text), 8))[::-1]
         first, second = ([b[::-1] for b in padded(s)] for s in (additional, text))
@@ -89,8 +90,8 @@ class KeyedSiv(KeyedHash):
         return few, hashing.take(groups)
 
     def tagged(self, value):
-        """Of what block the tag is Cipher: of this sum and the nonce, with the highest bit 0. That block as arbitrary bytes, and Cipher of
-        these."""
+        """The block of which the tag is Cipher: the sum of this value and the nonce, with the highest bit 0. That block as arbitrary bytes,
+        and Cipher of these."""
         block = self.aes.xor(value[::-1], self.nonce + [0] * 4)
         block[15] = self.domain.and_byte(block[15], 127)
         any_ = [b if b < 256 else t for b, t in zip(block, self.tag_input)]
@@ -149,7 +150,8 @@ class KeyedSiv(KeyedHash):
         return Call("gcm_siv_open" + way, arguments, DONE, steps=steps, reveals=reveals, refused=REFUSED,
                     refused_after={"output": [0] * text_length}, plain=text, undone=True)
 
-    # Texts of every length (lengths.py). The tag begins with a number of unknown value, to which the number of a block is added modulo 2^32.
+    # Texts of every length (lengths.py). The tag begins with a number of unknown value, to which the number of a block is added modulo
+    # 2^32.
     def any_own_tag(self):
         d, name = self.domain, COUNTER.word
         d.placed[name] = lambda number, k: d.bits(d.byte_in_block(self.counter[k], number))
@@ -197,7 +199,8 @@ class KeyedSiv(KeyedHash):
                 return self.any_hash(m, m.phase - 1, sizes)
             phase = [*self.derivation(self.at_once(m, sizes) == 1), *first] if m.phase == 0 else last(m) if m.phase == 3 else []
             return phase[m.done] if m.done < len(phase) else ("nothing", (), ())
-        arguments = [self.schedule(), Buffer("nonce", self.nonce), Stream("additional", sizes[0], self.pattern(self.additional_bytes)), sizes[0],
+        additional = Stream("additional", sizes[0], self.pattern(self.additional_bytes))
+        arguments = [self.schedule(), Buffer("nonce", self.nonce), additional, sizes[0],
                      *self.streams_of(way, "text", sizes[1], sizes[1], content, want), tag]
         return Call("gcm_siv_" + name + way, arguments, DONE, steps=steps, counter=COUNTER, plain=self.of_all(plain),
                     facts={unknown("a"), unknown("n"), *(MOST - size for size in sizes)}, **more)

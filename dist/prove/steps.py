@@ -72,6 +72,7 @@ def replace_result(m, where, want, new):
 
 
 def found(m, where, want):
+    """Whether a result is where it is looked for."""
     if where in m.regions:
         content = m.regions[where].content
         return content[-1] == want[-1] and content == want
@@ -86,7 +87,7 @@ def found(m, where, want):
 
 
 def holds(content, want):
-    """Whether bytes are somewhere, one behind the other."""
+    """Whether bytes come in a list, one behind the other."""
     at = -1
     for _ in range(content.count(want[0])):
         at = content.index(want[0], at + 1)
@@ -96,7 +97,7 @@ def holds(content, want):
 
 
 def was_written(m, want, same=int.__eq__):
-    """Where this is in memory, where something was written; or None."""
+    """Where bytes are in memory, if something was written there last: (a region's bytes, the place in them). Else None."""
     (content, at), m.written = m.written, ((), 0)  # looked at once
     return next(((content, k) for k in range(max(0, at - len(want)), min(at + 16, len(content) - len(want) + 1))
                  if same(content[k], want[0]) and all(map(same, content[k:], want))), None)

@@ -1,14 +1,16 @@
 """Numbers that aren't known (linear.py), in a machine: what is known of them are facts, numbers that are 0 or more."""
 from bits import LOST, Unproved
 from linear import Linear, implied, refuted, replaced, step_of, terms, tightened, unknown
-from operands import Content, Distance, Negated, Number, Placed, Pointer, Question, Scaled, Shifted, Verdict, constant, is_int, is_pointer, joined, lanes
+from operands import (Content, Distance, Negated, Number, Placed, Pointer, Question, Scaled, Shifted, Verdict, constant, is_int, is_pointer,
+                      joined, lanes)
 from regions import Window
 
 WRAPPED = "wrapped"  # an unknown: the block from which on the counter has wrapped around, if that is in what is done
 
 
 def replacing(convert, stay, *lists):
-    """What puts other bytes in the place of those of one of these lists; None if that changes nothing. `stay`: some that stay as they are."""
+    """A function that puts other bytes in the place of those of one of these lists; None if that changes nothing. `stay`: some that stay as
+    they are."""
     other = {x: y for x in set().union(*lists) - stay if x > 255 and (y := convert(x)) != x}
     return other and (lambda b: b if other.keys().isdisjoint(b) else list(map(other.get, b, b)))
 
@@ -100,7 +102,7 @@ class Unknowns:
         return below
 
     def is_below(self, x, y):
-        """The same, or None if it doesn't follow."""
+        """1 if x is below y, 0 if it isn't, None if neither follows."""
         return 1 if self.implied(y - x - 1) else 0 if self.implied(x - y) else None
 
     def assume(self, fact):
@@ -155,7 +157,7 @@ class Unknowns:
         return x
 
     def known_bytes(self, bytes_):
-        """The same of bytes of such numbers."""
+        """Bytes of numbers of the statement, as they are known here."""
         return [b if b is None else self.renumbered(b, self.known) for b in bytes_] if self.replaced else bytes_
 
     def settle(self):

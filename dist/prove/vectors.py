@@ -132,7 +132,8 @@ def mode_vectors(k):
 def round_vectors(k):
     for way, count in ("", 1), ("_par", 8):
         for name, (block, round_key, after) in ROUNDS.items():
-            yield k.a_round(name, way), A_KEYS[k.key_size], {"blocks": block * count, "round keys": round_key * count}, {"blocks": after * count}
+            given = {"blocks": block * count, "round keys": round_key * count}
+            yield k.a_round(name, way), A_KEYS[k.key_size], given, {"blocks": after * count}
     yield k.columns("mix_columns"), A_KEYS[k.key_size], {"blocks": COLUMNS}, {"blocks": MIXED}
     yield k.columns("inv_mix_columns"), A_KEYS[k.key_size], {"blocks": MIXED}, {"blocks": COLUMNS}
 
