@@ -630,7 +630,12 @@ class Keyed:
     def unknown_number(self, number):
         """The bytes of such a number."""
         parts = [number] if self.most == WORD else [unknown(name) for name in sorted({name for name, _ in number.terms}, reverse=True)]
-        return [self.domain.opaque((part, k)) for part in parts for k in range(self.address)]
+        return self.words(parts)
+
+    def words(self, numbers):
+        """The bytes of numbers that have a word each."""
+        return [b for n in numbers for b in (number(n, self.address)[::-1] if isinstance(n, int) else [
+            self.domain.opaque((n, k)) for k in range(self.address)])]
 
     def keystream_refused(self, key, none, sizes):
         n, k, (position, any_) = unknown("n"), unknown("k"), self.number_of_words("position")

@@ -69,18 +69,20 @@ class Call:
         plain                   what is secret of the data and of the results
         may_stay                how many bytes of a kind may be left besides
         paths                   calls that share it run the same instructions whenever they return the same
-        facts                   what is known of the unknown arguments: numbers that are 0 or more (linear.py)"""
+        facts                   what is known of the unknown arguments: numbers that are 0 or more (linear.py)
+        any_length              whether `steps` is a function of the machine, as with Streams; then it asks only what branches ask"""
 
     def __init__(self, name, arguments, status, size=4, steps=None, reveals=None, refused=None, refused_after=None, assumes=None,
                  later=None, counter=None, keystream=(), plain=(), may_stay=None, paths=None, facts=(),
-                 undone=False, between=()):
+                 undone=False, between=(), any_length=False):
         self.name, self.arguments, self.status, self.size, self.steps = name, arguments, status, size, steps
         self.reveals, self.refused, self.refused_after = reveals, refused, refused_after or {}
         self.assumes, self.later, self.counter = assumes, later, counter
         self.keystream, self.plain, self.may_stay, self.paths = keystream, plain, may_stay or {}, paths
         self.facts, self.undone, self.between, self.named = frozenset(facts), undone, between, {}
         self.buffers = [b for a in arguments if isinstance(a, Buffer) for b in (a, a.head) if b]
-        self.any_length = any(isinstance(b, Stream) for b in self.buffers)
+        self.streams = [b for b in self.buffers if isinstance(b, Stream)]
+        self.any_length = any_length or bool(self.streams)
 
 
 def prove(domain, program, call, seed=None):
@@ -116,7 +118,7 @@ def before(domain, program, call):
     m.counter, m.facts, m.any_length = call.counter, call.facts, call.any_length
     for window in (r for r in regions.values() if isinstance(r, Window)):
         window.waits = call.later is not None
-    streams = [b for b in call.buffers if isinstance(b, Stream)] if call.later is None else []  # (else their bytes are of another domain)
+    streams = call.streams if call.later is None else []  # (else their bytes are of another domain)
     cells = [c for b in streams for c in {c for x in b.content for c in domain.cells(x)}]
     if len(cells) > len({*cells}):
         raise Unproved("is about two buffers of the same bytes")
@@ -433,9 +435,9 @@ def named(m, call):
 
 
 def in_buffers(m, call):
-    """What was written to buffers, also if it was written over since, with the Buffer. In a call of any length a byte that differs from pass
-    to pass counts as part of the key, so what came to structs isn't looked at there."""
-    return [(a, b) for a in call.buffers if a.after is not ANY and not (a.secret and call.any_length) for b in m.wrote.get(a.name, ())]
+    """What was written to buffers, also if it was written over since, with the Buffer. In a loop of any length a byte that differs from
+    pass to pass counts as part of the key, so what came to structs isn't looked at there."""
+    return [(a, b) for a in call.buffers if a.after is not ANY and not (a.secret and call.streams) for b in m.wrote.get(a.name, ())]
 
 
 def left(m, call):

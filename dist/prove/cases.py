@@ -137,13 +137,13 @@ GCM_ROWS = [
         (call, phase, 5, *numbers, (12,)) for call, phase in PHASES.items() for numbers in ((2 ** 32 - 5, 20), (gcm.MOST - 9, 9))]),
     Row("decrypt", "the length of the text, how many bytes of it came before, and how many come", few=[(100, 7, 20)],
         full=[(100, 7, 0), (100, 5, 4), (100, 32, 68), (2 * MANY, MANY - 5, 20, (12,))], more=[(100, 0, 16)], other=[(100, 7, 20)]),
-    *(Row(call, STATE + also, few=[(phase, 16, 7), *few], other=[(phase, 16, 7), *few],
-          first=[(gcm.ADDITIONAL, n, 0) if call == "finish" else (phase, 5, n) for n in ENDS],
-          full=[*((gcm.ADDITIONAL, n, 0) for n in (0, 5, 16)), (phase, 5, 0), (phase, 5, 16), (phase, MANY + 16, MANY + 7), *full])
+    *(Row("any_" + call, "after 16 k + s bytes of additional data and 16 m + t of text for every k and m, any J_0: the phase, s, t" + also,
+          few=[(phase, 0, 7), *few], full=[*((gcm.ADDITIONAL, n, 0) for n in (0, 5)), (phase, 5, 0), *full], other=[(phase, 0, 7), *few],
+          first=[*((gcm.ADDITIONAL, n, 0) for n in ENDS if n != 5), *((phase, 5, n) for n in ENDS)])
       for call, phase, also, few, full in (
           ("finish", gcm.ENCRYPTING, "", (), ()),
-          ("accept", gcm.VERIFYING, "; also of what is refused, and of a shorter tag", [(gcm.VERIFYING, 16, 7, gcm.UNKNOWN, 12)],
-           [(gcm.ADDITIONAL, 5, 0, gcm.UNKNOWN, 12), *((gcm.VERIFYING, 16, 7, gcm.UNKNOWN, n) for n in TAGS if n != 12)])))]
+          ("accept", gcm.VERIFYING, "; also of what is refused, and of a shorter tag", [(gcm.VERIFYING, 0, 7, 12)],
+           [(gcm.ADDITIONAL, 5, 0, 12), *((gcm.VERIFYING, 0, 7, n) for n in TAGS if n != 12)])))]
 
 SIV_ROWS = [
     Row("any_seal", WHOLE + "; both may have 2^36 bytes", full=[(33, 77), (16, 256)], first=[(13, 33, "_to")],
@@ -176,7 +176,7 @@ def rows_of(library, machine):
 
 
 def left_out(library, word, name, values):
-    if name.startswith("any_") and library != "aes":
+    if name.startswith("any_") and library != "aes" and name not in ("any_finish", "any_accept"):
         return word == 4 or library == "siv" or name not in ("any_seal", "any_open", "any_seal_next", "any_begin")
     if word == 4 and library == "aes":
         is_late = name == "add_keystream" and values[0] >= 2 ** 36

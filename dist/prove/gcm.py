@@ -467,7 +467,7 @@ class KeyedGcm(KeyedHash):
         return [self.domain.fresh("full block byte %d" % i, DATA) for i in range(16)]
 
     def any_before(self, numbers):
-        word = lambda n: number(n, 8)[::-1] if isinstance(n, int) else [self.domain.opaque((n, k)) for k in range(8)]
+        word = lambda n: number(n, 8)[::-1] if isinstance(n, int) else self.words(n if isinstance(n, list) else [n])
         return [b for n in numbers for b in word(n)] + self.once("any J_0", self.any_pre_counter)[0] + sum(self.before_piece(), [])
 
     def before_piece(self):
@@ -499,31 +499,51 @@ class KeyedGcm(KeyedHash):
         return self.on_message("decrypt", state, after, [Buffer("text", sealed, plain), count],
                                keystream=self.streams(first, count, before), plain=plain)
 
-    def tag_of(self, phase, additional, text, first):
-        """A message in any state, and the tag of what has come of it."""
-        state, hashing = self.any_state(phase, additional, text, first)
-        filled = (additional if phase == ADDITIONAL else text) % 16
-        if filled:
-            hashing.take([[self.of(self.rest, 0)[:filled] + ZEROS[filled:]]])
-        hashing.take([[self.lengths(additional, text)]])
-        return state, hashing, self.aes.xor(hashing.value, self.stream(first, 0))
+    # The end of a message of which 16 k + `additional` bytes of additional data and 16 m + `text` bytes of text came before, for every k
+    # and m. In the first phase no text came.
+    def any_came(self, name, most, rest):
+        """Such a number, `most` at most, in as many words as it takes, and what is known of it."""
+        blocks, high, base = unknown("blocks of " + name), unknown("higher word of " + name), self.most + 1
+        low, sizes = blocks * 16 + rest, self.domain.sizes
+        sizes[blocks] = (min(most, self.most) // 16).bit_length()
+        if most < base:
+            return [low], {blocks, most - low}
+        sizes[high] = (most // base).bit_length()
+        return [low, high], {blocks, self.most - low, high, most - low - high * base}
 
-    def finish(self, phase, additional, text, nonce=UNKNOWN):
+    def length_in_bits(self, m, words):
+        """Bytes of the number of bits of so many bytes, the highest first."""
+        bits = [0, 0, 0] + [x for word in words for x in m.bits(m.known(word), self.address)]
+        return [self.domain.pack(bits[k:k + 8]) for k in range(56, -8, -8)]
+
+    def any_end(self, phase, additional, text):
+        """The message before the call and as it is decrypted afterwards, its tag, and what the call needs besides."""
+        (a, facts), (t, also) = self.any_came("additional data", MOST_ADDITIONAL, additional), self.any_came("text", MOST, text)
+        if phase == ADDITIONAL:
+            t, also = [0] * len(a), set()
+        (so_far, part), filled = self.before_piece(), additional if phase == ADDITIONAL else text
+        values = [so_far, *[self.middle_value()] * bool(filled), self.last_value()]
+
+        def steps(m):
+            blocks = [part[:filled] + ZEROS[filled:]] * bool(filled) + [self.length_in_bits(m, a) + self.length_in_bits(m, t)]
+            return self.group_step(values[m.done], [blocks[m.done]], values[m.done + 1]) if m.done < len(blocks) else ("nothing", (), ())
+        tag = self.aes.xor(self.last_value(), self.once("any J_0", self.any_pre_counter)[1])
+        before, after = (self.any_before((a, t, 0, p)) for p in (phase, DECRYPTING))
+        return before, after, tag, dict(facts=facts | also, steps=steps, any_length=True)
+
+    def any_finish(self, phase, additional, text):
         """Ends a message that was encrypted: writes its tag, and overwrites *message with zeros. .. DONE"""
-        first = self.nonce_of(*nonce)
-        state, hashing, tag = self.tag_of(phase, additional, text, first)
-        return self.on_message("finish", state, [0] * MESSAGE, [Buffer("tag", self.undefined(16), tag)], steps=hashing.steps)
+        before, _, tag, more = self.any_end(phase, additional, text)
+        return self.on_message("finish", before, [0] * MESSAGE, [Buffer("tag", self.undefined(16), tag)], **more)
 
-    def accept(self, phase, additional, text, nonce=UNKNOWN, length=None):
+    def any_accept(self, phase, additional, text, length=None):
         """Compares the tag of what has come, without an early exit. If it is right, the encrypted text may come once more, to be decrypted.
         .. REFUSED; else DONE. With a length: Compares a tag of fewer than 16 bytes in the place of fotsgure_gcm_accept"""
-        first = self.nonce_of(*nonce)
-        state, hashing, right = self.tag_of(phase, additional, text, first)
+        before, after, right, more = self.any_end(phase, additional, text)
         tag = self.of(self.tag, 0)[:length or 16]
-        after, _ = self.any_state(DECRYPTING, additional, text, first)
         arguments = [length] * bool(length) + [Buffer("tag", tag), len(tag)]
-        return self.on_message("accept" + "_short" * bool(length), state, after, arguments, steps=hashing.steps,
-                               reveals=self.aes.xor(tag, right), refused=REFUSED)
+        return self.on_message("accept" + "_short" * bool(length), before, after, arguments, reveals=self.aes.xor(tag, right),
+                               refused=REFUSED, **more)
 
     # Calls that are refused, for all their arguments: nothing but the status changes, and buffers aren't read, so they have no bytes here.
     def refused(self):
