@@ -629,8 +629,11 @@ class Keyed:
 
     def unknown_number(self, number):
         """The bytes of such a number."""
-        parts = [number] if self.most == WORD else [unknown(name) for name in sorted({name for name, _ in number.terms}, reverse=True)]
-        return self.words(parts)
+        return self.words(self.parts(number))
+
+    def parts(self, number):
+        """Its words."""
+        return [number] if self.most == WORD else [unknown(name) for name in sorted({name for name, _ in number.terms}, reverse=True)]
 
     def words(self, numbers):
         """The bytes of numbers that have a word each."""

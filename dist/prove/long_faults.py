@@ -1,7 +1,7 @@
 """Faults that show at long lengths only: a statement of every length refuses each, and calls of some lengths up to 64 blocks are proved.
 As in faults.py: (what, behind which label, what is looked for there, what it becomes, the case that has to refuse it)."""
-from faults import (BATCHES, BLOCKS, BLOCKS_TO, BLOCKS_WITH, CBC, CCM_OPEN, CCM_STREAM, ENTRY, FINISH, IN_BATCHES, MEMSET, SIV_OPEN, UNWRAP,
-                    WIPE_STACK, WIPE_WORDS, call, exported, function, low, second)
+from faults import (BATCHES, BLOCKS, BLOCKS_TO, BLOCKS_WITH, CBC, CCM_OPEN, CCM_STREAM, ENTRY, FINISH, GCTR, IN_BATCHES, MEMSET, SIV_OPEN,
+                    UNWRAP, WIPE_STACK, WIPE_WORDS, call, exported, function, low, second)
 
 ENCRYPT, DECRYPT = (function("aes_hybrid::closures::call_to_" + name) for name in ("encrypt", "decrypt"))
 KEYSTREAM = exported("aes_add_keystream")
@@ -195,6 +195,12 @@ LONG_FAULTS = {
          r"\tcmpl\t$0, 12(%\1)\n\tjne\t77f\n\g<0>77:\n", "any_finish 2 0 7"),
         ("any tag accepted of 32 bytes of additional data without a text", IS_TAG, ENTRY,
          r"\1\tcmpq\t$32, (%rsi)\n\tjne\t77f\n\tcmpq\t$0, 8(%rsi)\n\tjne\t77f\n\tmovl\t$1, %eax\n\tretq\n77:\n", "any_accept 1 0 0"),
+        ("another block of keystream where 100 bytes of text came", GCTR, r"\tshrq\t\$4, %(rdx)\n",
+         r"\g<0>\tcmpq\t$7, %\1\n\tjne\t77f\n\tincq\t%\1\n77:\n", "any_then_piece encrypt 2 5 4 1"),
+        ("a count of 32 bits of additional data", exported("gcm_additional"), r"addq\t%(r\w+), \((%r\w+)\)",
+         lambda found: "addl\t%%%s, (%s)" % (low(found[1]), found[2]), "any_then_additional 13 13"),
+        ("a count of 32 bits of what was decrypted", exported("gcm_decrypt"), r"addq\t%(r\w+), 16\((%r\w+)\)",
+         lambda found: "addl\t%%%s, 16(%s)" % (low(found[1]), found[2]), "any_then_decrypt 11 20"),
         ("a byte of a short tag not compared after 2^32 bytes", IS_SHORT_TAG, ENTRY,
          r"\1\tcmpl\t$0, 12(%rsi)\n\tje\t77f\n\tdecq\t%rcx\n77:\n", "any_accept 3 0 7 12"),
     ],
