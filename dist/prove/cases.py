@@ -125,10 +125,11 @@ GCM_ROWS = [
         full=[(call, gcm.ADDITIONAL, *numbers) for call in PHASES for numbers in ((0, 0, 16), (0, 0, 3), (5, 0, 0))],
         more=[(call, gcm.ADDITIONAL, s, 0, 1) for call in PHASES for s in range(16)],
         other=[(call, gcm.ADDITIONAL, 5, 0, 3) for call in PHASES]),
-    Row("any_then_piece", "another one, as above", few=[("encrypt", gcm.ENCRYPTING, 5, 0, n) for n in (64, 500)],
-        full=[*((call, phase, 5, *numbers) for call, phase in PHASES.items() for numbers in ((4, 50), (7, 9), (4, 3), (4, 300), (11, 20))),
-              *((call, phase, 0, 0, 0) for call, phase in PHASES.items()),
-              ("encrypt", gcm.ENCRYPTING, 5, 5, 4), ("verify", gcm.VERIFYING, 0, 0, 9)],
+    Row("any_then_piece", "another piece", few=[("encrypt", gcm.ENCRYPTING, 5, 0, n) for n in (64, 500)],
+        full=[(call, phase, 5, *numbers) for call, phase in PHASES.items() for numbers in ((4, 50), (7, 9), (4, 3))]),
+    Row("any_then_piece", "the same", full=[
+        *((call, phase, *numbers) for call, phase in PHASES.items() for numbers in ((5, 4, 300), (5, 11, 20), (0, 0, 0))),
+        ("encrypt", gcm.ENCRYPTING, 5, 5, 4), ("verify", gcm.VERIFYING, 0, 0, 9)],
         first=[(call, phase, 5, t, 1) for call, phase in PHASES.items() for t in range(16)],
         more=[(call, phase, 5, t, n) for call, phase in PHASES.items() for t in range(16) for n in (0, 16, 32)]),
     Row("any_then_decrypt", "after 16 m + t bytes for every m, of a text of any length, and any J_0: t, and how many bytes come",
@@ -153,10 +154,12 @@ OF_SHORT_WORDS = {
         Row("additional", "as above", full=[(3, 5), (3, 100), (0, 0), (0, 5), (32, 48), (2 ** 32 - 3, 13), (MANY, 7)]),
         Row("piece", "the call; " + STATE + "; the number of bytes; and a nonce of another length",
             few=[("encrypt", gcm.ENCRYPTING, 5, MANY, n, (12,)) for n in (64, 500)],
-            full=[*((call, phase, 5, *numbers) for call, phase in PHASES.items() for numbers in ((20, 50), (7, 9), (4, 3), (20, 300))),
-                  ("encrypt", gcm.ENCRYPTING, 5, 5, 4), *((call, phase, 0, 0, 0) for call, phase in PHASES.items()),
-                  *((call, phase, 5, *numbers, (12,)) for call, phase in PHASES.items()
-                    for numbers in ((2 ** 32 - 5, 20), (gcm.MOST - 9, 9))), ("verify", gcm.VERIFYING, MANY, MANY, 9, (12,))]),
+            full=[(call, phase, 5, *numbers) for call, phase in PHASES.items() for numbers in ((20, 50), (7, 9), (4, 3))]),
+        Row("piece", "the same", full=[
+            *((call, phase, *numbers) for call, phase in PHASES.items() for numbers in ((5, 20, 300), (0, 0, 0))),
+            ("encrypt", gcm.ENCRYPTING, 5, 5, 4), ("verify", gcm.VERIFYING, MANY, MANY, 9, (12,))]),
+        Row("piece", "the same, across 2^32 bytes, and up to the longest text", full=[
+            (call, phase, 5, *numbers, (12,)) for call, phase in PHASES.items() for numbers in ((2 ** 32 - 5, 20), (gcm.MOST - 9, 9))]),
         Row("decrypt", "the length of the text, how many bytes of it came before, and how many come", few=[(100, 7, 20)],
             full=[(100, 7, 0), (100, 5, 4), (100, 32, 68), (2 * MANY, MANY - 5, 20, (12,))])]}
 
