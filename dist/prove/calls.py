@@ -7,7 +7,7 @@ import functools
 
 import lengths
 from bits import DATA, KEY, LOST, ONES, Pause, Unproved
-from linear import refuted
+from linear import implied, refuted, terms, unknown
 from native import Native
 from operands import HEAD, LAST, LEAD, Content, Pointer, Question, Verdict, lanes
 from regions import Region, Window
@@ -124,6 +124,9 @@ def before(domain, program, call):
         raise Unproved("is about two buffers of the same bytes")
     if refuted(call.facts):
         raise Unproved("is about no arguments")
+    names = {unknown(name) for fact in call.facts for name in terms(fact)}
+    if not all(implied(call.facts, x) for n in names & domain.sizes.keys() for x in (n, (1 << domain.sizes[n]) - 1 - n)):
+        raise Unproved("is about numbers that have more bits than their bytes")
     return m
 
 
