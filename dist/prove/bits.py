@@ -82,6 +82,7 @@ class Forms:
         self.words = {}
         self.of_words = {}  # cells that are bytes of a word: (a Pointer, or None for the low word of a call's counter, which byte)
         self.unknowns, self.of_unknowns = {}, {}  # cells of numbers that aren't known (linear.py): (number, which byte); those of a byte
+        self.sizes = {}  # of such a number: how many bits it has at most, which each call says that has it
         self.without_numbers = set()  # bytes of which it was seen that no such number comes in them
         self.numbers = {}  # cells of numbers that are one more in each block: (which byte, all bytes, the lowest first)
         self.mixed, self.mixed_ids, self.mixed_xors, self.halves = [], {}, {}, {}

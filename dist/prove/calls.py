@@ -8,7 +8,7 @@ import functools
 import lengths
 from bits import ONES, Pause, Unproved
 from left import cells_of_bit, left, no_secret_in_buffers, nothing_secret
-from linear import refuted
+from linear import implied, refuted, terms, unknown
 from native import Native
 from operands import HEAD, Pointer, Question, Verdict
 from regions import Region, Window
@@ -22,7 +22,7 @@ ANY = "any"    # for a Buffer of which something else is asked than bytes
 class Buffer:
     """An argument that points to bytes: what they are, and what they have to be after the call."""
 
-    head, patterns = None, ()  # (of a Stream)
+    head = None
 
     def __init__(self, name, content, after=None, secret=(), align=1):
         """`secret`: which of left.MAY_NOT_COME may come there, as what it holds is as secret as the key. `align`: of the struct that it
@@ -69,23 +69,25 @@ class Call:
         plain                   what is secret of the data and of the results
         may_stay                how many bytes of a kind may be left besides
         paths                   calls that share it run the same instructions whenever they return the same
-        facts                   what is known of the unknown arguments: numbers that are 0 or more (linear.py)"""
+        facts                   what is known of the unknown arguments: numbers that are 0 or more (linear.py)
+        any_length              whether `steps` is a function of the machine, as with Streams; then it asks only what branches ask"""
 
     def __init__(self, name, arguments, status, size=4, steps=None, reveals=None, refused=None, refused_after=None, assumes=None,
                  later=None, counter=None, keystream=(), plain=(), may_stay=None, paths=None, facts=(),
-                 undone=False, between=()):
+                 undone=False, between=(), any_length=False):
         self.name, self.arguments, self.status, self.size, self.steps = name, arguments, status, size, steps
         self.reveals, self.refused, self.refused_after = reveals, refused, refused_after or {}
         self.assumes, self.later, self.counter = assumes, later, counter
         self.keystream, self.plain, self.may_stay, self.paths = keystream, plain, may_stay or {}, paths
         self.facts, self.undone, self.between, self.named = frozenset(facts), undone, between, {}
         self.buffers = [b for a in arguments if isinstance(a, Buffer) for b in (a, a.head) if b]
-        self.any_length = any(isinstance(b, Stream) for b in self.buffers)
+        self.streams = [b for b in self.buffers if isinstance(b, Stream)]
+        self.any_length = any_length or bool(self.streams)
 
     def written(self, m):
-        """What was written to buffers, also if it was written over since, with the Buffer. In a call of any length a byte that differs from
+        """What was written to buffers, also if it was written over since, with the Buffer. In a loop of any length a byte that differs from
         pass to pass counts as part of the key, so what came to structs isn't looked at there."""
-        return [(b, x) for b in self.buffers if b.after is not ANY and not (b.secret and self.any_length) for x in m.wrote.get(b.name, ())]
+        return [(b, x) for b in self.buffers if b.after is not ANY and not (b.secret and self.streams) for x in m.wrote.get(b.name, ())]
 
 
 def prove(domain, program, call, seed=None):
@@ -121,12 +123,15 @@ def before(domain, program, call):
     m.counter, m.facts, m.any_length = call.counter, call.facts, call.any_length
     for window in (r for r in regions.values() if isinstance(r, Window)):
         window.waits = call.later is not None
-    streams = [b for b in call.buffers if isinstance(b, Stream)] if call.later is None else []  # (else their bytes are of another domain)
+    streams = call.streams if call.later is None else []  # (else their bytes are of another domain)
     cells = [c for b in streams for c in {c for x in b.content for c in domain.cells(x)}]
     if len(cells) > len({*cells}):
         raise Unproved("is about two buffers of the same bytes")
     if refuted(call.facts):
         raise Unproved("is about no arguments")
+    names = {unknown(name) for fact in call.facts for name in terms(fact)}
+    if not all(implied(call.facts, x) for n in names & domain.sizes.keys() for x in (n, (1 << domain.sizes[n]) - 1 - n)):
+        raise Unproved("is about numbers that have more bits than their bytes")
     return m
 
 

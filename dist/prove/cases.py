@@ -77,12 +77,6 @@ AES_ROWS = [
       for call in ("ccm_seal", "ccm_open")),
     *ROUNDS]
 
-# Where calls of every length aren't proved (left_out).
-OF_SHORT_WORDS = [
-    Row("blocks", "as above", few=[(way, n, "_to") for way in DIRECTIONS for n in (1, 2)]),
-    Row("cmac", "as above", few=[17]), Row("cmac_verify", "as above", few=[(17, 16)]),
-    Row("add_keystream", "as above, and how many words of 32 bits above the lowest one carry too", few=[(5, 40, 2, "", 1)],
-        full=[(5, 40, 2, "", 2)])]
 SIV_ON_RISCV = [Row(call, "as above", full=[(13, 161)]) for call in ("seal", "open")]
 
 NONCES = (8,), (1,), (60,), (16,), (32,)  # of other lengths than 12: so J_0 is any block
@@ -97,6 +91,7 @@ OTHER_NONCES = (0, 129, "", 33), (13, 33, "_to", 0)
 PIECE = "%d n + r bytes for every n after 16 k + s for every k%s, and any J_0: s, r"
 PHASES = {"encrypt": gcm.ENCRYPTING, "verify": gcm.VERIFYING, "decrypt_unverified": gcm.VERIFYING}
 STATE = "the phase, and how many bytes of additional data and of text came before"
+CAME = "the phase; after 16 k + s bytes of additional data and 16 m + t of text for every k and m, and any J_0: s, t"
 
 GCM_ROWS = [
     Row("wipe_message", "", few=ONCE), Row("set_key_of", "", few=ONCE, other=ONCE),
@@ -121,29 +116,52 @@ GCM_ROWS = [
         "255, and those before it 0", few=[(3, 1, counter) for counter in FEW_COUNTERS], full=[(3, 1, counter) for counter in CARRIES],
         other=[(3, 1, counter) for counter in FEW_COUNTERS]),
     Row("begin_next", "the counter, as above", few=FEW_COUNTERS, full=CARRIES, other=FEW_COUNTERS),
-    Row("additional", "how many bytes came before, and how many come", few=[(3, 13)],
-        full=[(3, 5), (3, 100), (0, 0), (0, 5), (32, 48), (2 ** 32 - 3, 13), (MANY, 7)], other=[(3, 13)]),
-    Row("piece", "the call; " + STATE + "; the number of bytes", few=[(call, gcm.ADDITIONAL, 5, 0, 3) for call in PHASES],
-        full=[*((call, phase, 5, 20, 50) for call, phase in PHASES.items()), *((call, gcm.ADDITIONAL, 0, 0, 16) for call in PHASES),
-              *((call, phase, 5, 7, 9) for call, phase in PHASES.items())],
+    Row("additional", "how many bytes came before, and how many come: it also runs beside a processor", few=[(3, 13)], other=[(3, 13)]),
+    Row("any_then_additional", "after 16 k + s bytes for every k, and any J_0: s, and how many bytes come", few=[(3, 13)],
+        full=[(3, 5), (3, 100), (0, 0), (0, 5), (0, 48), (13, 13), (0, 7)], first=[(s, 1) for s in range(16)],
+        more=[(s, n) for s in range(16) for n in (0, 16, 32)]),
+    Row("any_then_piece", "the first piece: the call; " + CAME + ", and how many bytes come", few=[
+        (call, gcm.ADDITIONAL, 5, 0, 3) for call in PHASES],
+        full=[(call, gcm.ADDITIONAL, *numbers) for call in PHASES for numbers in ((0, 0, 16), (0, 0, 3), (5, 0, 0))],
+        more=[(call, gcm.ADDITIONAL, s, 0, 1) for call in PHASES for s in range(16)],
         other=[(call, gcm.ADDITIONAL, 5, 0, 3) for call in PHASES]),
-    Row("piece", "the same, within a block, over more than a batch, and after whole blocks of additional data",
-        full=[*((call, phase, 5, *numbers) for call, phase in PHASES.items() for numbers in ((4, 3), (20, 300))),
-              ("encrypt", gcm.ENCRYPTING, 5, 5, 4), *((call, gcm.ADDITIONAL, 32, 0, 3) for call in PHASES)]),
-    Row("piece", "the same, of no bytes, and after many bytes", few=[("encrypt", gcm.ENCRYPTING, 5, MANY, n, (12,)) for n in (64, 500)],
-        full=[*((call, phase, 0, 0, 0) for call, phase in PHASES.items()), *((call, gcm.ADDITIONAL, 5, 0, 0) for call in PHASES),
-              ("verify", gcm.VERIFYING, MANY, MANY, 9, (12,))]),
-    Row("piece", "the same, across 2^32 bytes, and up to the longest text", full=[
-        (call, phase, 5, *numbers, (12,)) for call, phase in PHASES.items() for numbers in ((2 ** 32 - 5, 20), (gcm.MOST - 9, 9))]),
-    Row("decrypt", "the length of the text, how many bytes of it came before, and how many come", few=[(100, 7, 20)],
-        full=[(100, 7, 0), (100, 5, 4), (100, 32, 68), (2 * MANY, MANY - 5, 20, (12,))], more=[(100, 0, 16)], other=[(100, 7, 20)]),
-    *(Row(call, STATE + also, few=[(phase, 16, 7), *few], other=[(phase, 16, 7), *few],
-          first=[(gcm.ADDITIONAL, n, 0) if call == "finish" else (phase, 5, n) for n in ENDS],
-          full=[*((gcm.ADDITIONAL, n, 0) for n in (0, 5, 16)), (phase, 5, 0), (phase, 5, 16), (phase, MANY + 16, MANY + 7), *full])
+    Row("any_then_piece", "another piece", few=[("encrypt", gcm.ENCRYPTING, 5, 0, n) for n in (64, 500)],
+        full=[(call, phase, 5, *numbers) for call, phase in PHASES.items() for numbers in ((4, 50), (7, 9), (4, 3))]),
+    Row("any_then_piece", "the same", full=[
+        *((call, phase, *numbers) for call, phase in PHASES.items() for numbers in ((5, 4, 300), (5, 11, 20), (0, 0, 0))),
+        ("encrypt", gcm.ENCRYPTING, 5, 5, 4), ("verify", gcm.VERIFYING, 0, 0, 9)],
+        first=[(call, phase, 5, t, 1) for call, phase in PHASES.items() for t in range(16)],
+        more=[(call, phase, 5, t, n) for call, phase in PHASES.items() for t in range(16) for n in (0, 16, 32)]),
+    Row("any_then_decrypt", "after 16 m + t bytes for every m, of a text of any length, and any J_0: t, and how many bytes come",
+        few=[(7, 20)], full=[(7, 0), (5, 4), (0, 68), (11, 20)], first=[(t, 1) for t in range(16)],
+        more=[(t, n) for t in range(16) for n in (0, 16, 32)], other=[(7, 20)]),
+    *(Row("any_" + call, CAME + also,
+          few=[(phase, 0, 7), *few], full=[*((gcm.ADDITIONAL, n, 0) for n in (0, 5)), (phase, 5, 0), *full], other=[(phase, 0, 7), *few],
+          first=[*((gcm.ADDITIONAL, n, 0) for n in ENDS if n != 5), *((phase, 5, n) for n in ENDS)])
       for call, phase, also, few, full in (
           ("finish", gcm.ENCRYPTING, "", (), ()),
-          ("accept", gcm.VERIFYING, "; also of what is refused, and of a shorter tag", [(gcm.VERIFYING, 16, 7, gcm.UNKNOWN, 12)],
-           [(gcm.ADDITIONAL, 5, 0, gcm.UNKNOWN, 12), *((gcm.VERIFYING, 16, 7, gcm.UNKNOWN, n) for n in TAGS if n != 12)])))]
+          ("accept", gcm.VERIFYING, "; also of what is refused, and of a shorter tag", [(gcm.VERIFYING, 0, 7, 12)],
+           [(gcm.ADDITIONAL, 5, 0, 12), *((gcm.VERIFYING, 0, 7, n) for n in TAGS if n != 12)])))]
+
+# Where calls of every length aren't proved (left_out).
+OF_SHORT_WORDS = {
+    "aes": [
+        Row("blocks", "as above", few=[(way, n, "_to") for way in DIRECTIONS for n in (1, 2)]),
+        Row("cmac", "as above", few=[17]), Row("cmac_verify", "as above", few=[(17, 16)]),
+        Row("add_keystream", "as above, and how many words of 32 bits above the lowest one carry too", few=[(5, 40, 2, "", 1)],
+            full=[(5, 40, 2, "", 2)])],
+    "gcm": [
+        Row("additional", "as above", full=[(3, 5), (3, 100), (0, 0), (0, 5), (32, 48), (2 ** 32 - 3, 13), (MANY, 7)]),
+        Row("piece", "the call; " + STATE + "; the number of bytes; and a nonce of another length",
+            few=[("encrypt", gcm.ENCRYPTING, 5, MANY, n, (12,)) for n in (64, 500)],
+            full=[(call, phase, 5, *numbers) for call, phase in PHASES.items() for numbers in ((20, 50), (7, 9), (4, 3))]),
+        Row("piece", "the same", full=[
+            *((call, phase, *numbers) for call, phase in PHASES.items() for numbers in ((5, 20, 300), (0, 0, 0))),
+            ("encrypt", gcm.ENCRYPTING, 5, 5, 4), ("verify", gcm.VERIFYING, MANY, MANY, 9, (12,))]),
+        Row("piece", "the same, across 2^32 bytes, and up to the longest text", full=[
+            (call, phase, 5, *numbers, (12,)) for call, phase in PHASES.items() for numbers in ((2 ** 32 - 5, 20), (gcm.MOST - 9, 9))]),
+        Row("decrypt", "the length of the text, how many bytes of it came before, and how many come", few=[(100, 7, 20)],
+            full=[(100, 7, 0), (100, 5, 4), (100, 32, 68), (2 * MANY, MANY - 5, 20, (12,))])]}
 
 SIV_ROWS = [
     Row("any_seal", WHOLE + "; both may have 2^36 bytes", full=[(33, 77), (16, 256)], first=[(13, 33, "_to")],
@@ -171,11 +189,13 @@ def rows_of(library, machine):
     if not issubclass(machine, Riscv):
         return rows
     kept = lambda row, some: [v for v in some or () if not left_out(library, machine.word, row.name, v if isinstance(v, tuple) else (v,))]
-    more = SIV_ON_RISCV if library == "siv" else OF_SHORT_WORDS if library == "aes" and machine.word == 4 else []
+    more = SIV_ON_RISCV if library == "siv" else OF_SHORT_WORDS[library] if machine.word == 4 else []
     return [Row(row.name, row.what, *(kept(row, some) for some in row[2:])) for row in rows] + more
 
 
 def left_out(library, word, name, values):
+    if name in ("any_finish", "any_accept") or name.startswith("any_then_"):
+        return word == 4 and name.startswith("any_then_") and not (name == "any_then_piece" and values[1] == gcm.ADDITIONAL)
     if name.startswith("any_") and library != "aes":
         return word == 4 or library == "siv" or name not in ("any_seal", "any_open", "any_seal_next", "any_begin")
     if word == 4 and library == "aes":

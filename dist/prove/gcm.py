@@ -30,8 +30,9 @@ OF_J_0, OF_ANY_J_0 = "counter of J_0", "counter of J_0, at any length"
 # For calls of every length: the arguments, how many phases come before the message, their steps, and facts of the arguments.
 AnyNonce = namedtuple("AnyNonce", "arguments phases steps facts")
 ANY_J_0 = CounterWord(OF_ANY_J_0, 1, NEVER, None)
-# J_0: twelve bytes, and whether its last four are a number of unknown value; how GHASH makes it of a nonce; the arguments of a call.
-PreCounter = namedtuple("PreCounter", "bytes is_any hashing arguments")
+# J_0: twelve bytes, and whether its last four are a number of unknown value; how GHASH makes it of a nonce; the arguments of a call; and
+# whether any number of blocks came before.
+PreCounter = namedtuple("PreCounter", "bytes is_any hashing arguments behind", defaults=[False])
 
 
 @dataclass(frozen=True)
@@ -41,6 +42,13 @@ class CarryTo:
 
     def __str__(self):
         return "carry to byte %d" % self.place
+
+
+class Came(namedtuple("Came", "words number rest facts")):
+    """How many bytes came before a call: 16 n + `rest` for every n. As a number, in as many words as it takes, and what is known of it."""
+
+    def __mod__(self, k):
+        return self.rest % k
 
 
 class KeyedGcm(KeyedHash):
@@ -131,12 +139,17 @@ class KeyedGcm(KeyedHash):
 
     # The last four bytes of J_0 are a number of unknown value, which is one more in each block, modulo 2^32 (inc_32, 6.2).
     def any_counter(self):
-        """Cipher of the block J_0 + i, as that of block i."""
-        d = self.domain
-        low = [d.fresh("counter byte %d of J_0" % k, KEY | PUBLIC, True) for k in range(4)]
+        """Cipher of the block J_0 + i, as that of block i; and of J_0 + n + i, where n blocks came before."""
+        d, before = self.domain, self.any_came("text", MOST, 0).number.divided(16)[0]
+        fresh = lambda name: [d.fresh("%s byte %d" % (name, k), KEY | PUBLIC, True) for k in range(4)]
+        low, behind = fresh("counter of J_0,"), fresh("counter behind any text,")
         d.numbers.update({d.cell_of(b)[0]: (k, low) for k, b in enumerate(low)})
-        d.words[OF_J_0] = lambda offset, k: d.bits(d.byte_in_block(low[k], offset + 1))
-        return self.aes.cipher(self.pre_counter + low[::-1], self.w)
+
+        def word(offset, k):
+            block, bytes_ = (offset, low) if isinstance(offset, int) else (offset - before, behind)
+            return d.bits(d.byte_in_block(bytes_[k], block + 1)) if isinstance(block, int) else None
+        d.words[OF_J_0] = word
+        return [self.aes.cipher(self.pre_counter + bytes_[::-1], self.w) for bytes_ in (low, behind)]
 
     def counter_block(self, first, i):
         """The block J_0 + i."""
@@ -148,7 +161,7 @@ class KeyedGcm(KeyedHash):
     def stream(self, first, i):
         """Cipher of the block J_0 + i."""
         if first.is_any:
-            return self.of(self.once("any counter", self.any_counter), i)
+            return self.of(self.once("any counter", self.any_counter)[first.behind], i)
         block = self.counter_block(first, i)
         return self.once(("stream", *block), lambda: self.aes.cipher(block, self.w))
 
@@ -297,8 +310,20 @@ class KeyedGcm(KeyedHash):
     def state(self, phase, additional, text, decrypted=0, value=ZEROS, rest=ZEROS, first=None):
         """struct fotsgure_gcm_message. A byte None may be anything."""
         first = first or self.nonce_of()
-        counts = [b for n in (additional, text, decrypted, phase) for b in number(n, 8)[::-1]]
-        return counts + self.counter_block(first, 0) + value + rest
+        return self.counts(additional, text, decrypted, phase) + self.counter_block(first, 0) + value + rest
+
+    def counts(self, *numbers):
+        """The bytes of numbers of 64 bits, which may be unknown."""
+        words = lambda n: n.words if isinstance(n, Came) else [n]
+        return [b for n in numbers for b in (number(n, 8)[::-1] if isinstance(n, int) else self.words(words(n)))]
+
+    def with_more(self, m, n, count):
+        """A number of bytes, and so many more."""
+        if isinstance(n, int):
+            return n + count
+        low, *high = map(m.known, n.words)
+        carries = bool(high) and not m.implied(self.most - low - count)
+        return n._replace(words=[low + count - carries * (self.most + 1), *(word + carries for word in high)])
 
     def message(self, before, after=None):
         return Buffer("message", before, after, secret=("inner",), align=8)
@@ -343,31 +368,31 @@ class KeyedGcm(KeyedHash):
         state, hashing = self.any_state(ADDITIONAL, before, 0, first)
         piece = self.many(self.additional_bytes, count)
         rest = self.absorbed(hashing, before % 16, piece)
-        after = self.state(ADDITIONAL, before + count, 0, 0, hashing.value, rest, first)
+        after = lambda m: self.state(ADDITIONAL, self.with_more(m, before, count), 0, 0, hashing.value, rest, first)
         return self.on_message("additional", state, after, [Buffer("additional", piece), count], steps=hashing.steps)
 
     def piece(self, call, phase, additional, before, count, nonce=UNKNOWN):
         """Encrypts a piece of the text in place. .. Takes a piece of an encrypted text whose tag is to be compared, and writes nothing to
         it. .. Takes a piece as fotsgure_gcm_verify does, and decrypts it in place at once. .. DONE"""
-        first = self.nonce_of(*nonce)
+        first = self.nonce_of(*nonce)._replace(behind=isinstance(before, Came))
         state, hashing = self.any_state(phase, additional, before, first)
-        text, sealed = (self.many(b, count, before % 16) for b in (self.text, self.sealed))
-        self.turned(hashing, phase, additional)
-        turned = len(hashing.plan)
         filled = before % 16
+        text, sealed = (self.many(b, count, filled) for b in (self.text, self.sealed))
+        self.turned(hashing, phase, additional)
+        turned, at = len(hashing.plan), filled if first.behind else before
         rest = self.absorbed(hashing, filled, sealed)
 
         def steps():
             yield from hashing.steps(0, turned)
             if call == "encrypt" and text:
-                yield "text", self.crypted(first, text, before), sealed
+                yield "text", self.crypted(first, text, at), sealed
             yield from hashing.steps(turned)
         after_phase = ENCRYPTING if call == "encrypt" else VERIFYING
-        after = self.state(after_phase, additional, before + count, 0, hashing.value, rest, first)
-        texts = {"encrypt": (text, sealed), "verify": (sealed, None), "decrypt_unverified": (sealed, self.crypted(first, sealed, before))}
+        after = lambda m: self.state(after_phase, additional, self.with_more(m, before, count), 0, hashing.value, rest, first)
+        texts = {"encrypt": (text, sealed), "verify": (sealed, None), "decrypt_unverified": (sealed, self.crypted(first, sealed, at))}
         return self.on_message(call, state, after, [Buffer("text", *texts[call]), count], steps=steps,
-                               keystream=self.streams(first, count, before) if call != "verify" else (),
-                               plain=self.crypted(first, sealed, before) if call == "decrypt_unverified" else text)
+                               keystream=self.streams(first, count, at) if call != "verify" else (),
+                               plain=self.crypted(first, sealed, at) if call == "decrypt_unverified" else text)
 
     # Pieces of 48 n + `rest` bytes for every n, where 16 u + `filled` bytes came before for every u: the first bytes fill up a block, and
     # fewer than 48 follow the last three blocks that are hashed at once.
@@ -468,8 +493,7 @@ class KeyedGcm(KeyedHash):
         return [self.domain.fresh("full block byte %d" % i, DATA) for i in range(16)]
 
     def any_before(self, numbers):
-        word = lambda n: number(n, 8)[::-1] if isinstance(n, int) else [self.domain.opaque((n, k)) for k in range(8)]
-        return [b for n in numbers for b in word(n)] + self.once("any J_0", self.any_pre_counter)[0] + sum(self.before_piece(), [])
+        return self.counts(*numbers) + self.once("any J_0", self.any_pre_counter)[0] + sum(self.before_piece(), [])
 
     def before_piece(self):
         """Any value of GHASH, and any part of a block: bytes of no block, which are kept when blocks are numbered anew."""
@@ -491,40 +515,84 @@ class KeyedGcm(KeyedHash):
                                [Stream("text", size, self.in_places(bytes_, filled)), size], facts=facts,
                                steps=lambda m: self.any_piece_hash(m, bytes_, size, filled))
 
-    def decrypt(self, text, before, count, nonce=UNKNOWN):
+    def decrypt(self, text, before, count, nonce=UNKNOWN, additional=3):
         """Decrypts a piece in place of the encrypted text whose tag was right .. DONE"""
-        first = self.nonce_of(*nonce)
-        sealed = self.many(self.sealed, count, before % 16)
-        plain = self.crypted(first, sealed, before)
-        (state, _), (after, _) = (self.any_state(DECRYPTING, 3, text, first, n) for n in (before, before + count))
-        return self.on_message("decrypt", state, after, [Buffer("text", sealed, plain), count],
-                               keystream=self.streams(first, count, before), plain=plain)
+        first = self.nonce_of(*nonce)._replace(behind=isinstance(before, Came))
+        sealed, at = self.many(self.sealed, count, before % 16), before % 16 if first.behind else before
+        plain, state = self.crypted(first, sealed, at), lambda n: self.any_state(DECRYPTING, additional, text, first, n)[0]
+        return self.on_message("decrypt", state(before), lambda m: state(self.with_more(m, before, count)),
+                               [Buffer("text", sealed, plain), count], keystream=self.streams(first, count, at), plain=plain)
 
-    def tag_of(self, phase, additional, text, first):
-        """A message in any state, and the tag of what has come of it."""
-        state, hashing = self.any_state(phase, additional, text, first)
-        filled = (additional if phase == ADDITIONAL else text) % 16
-        if filled:
-            hashing.take([[self.of(self.rest, 0)[:filled] + ZEROS[filled:]]])
-        hashing.take([[self.lengths(additional, text)]])
-        return state, hashing, self.aes.xor(hashing.value, self.stream(first, 0))
+    # Calls on a message of which 16 k + `additional` bytes of additional data and 16 m + `text` bytes of text came before, for every k and
+    # m. In the first phase no text came.
+    def any_came(self, name, most, rest):
+        """Such a number, `most` at most."""
+        blocks, high, base = unknown("blocks of " + name), unknown("higher word of " + name), self.most + 1
+        low, sizes = blocks * 16 + rest, self.domain.sizes
+        sizes[blocks] = (min(most, self.most) // 16).bit_length()
+        if most < base:
+            return Came([low], low, rest, {blocks, most - low})
+        sizes[high] = (most // base).bit_length()
+        return Came([low, high], low + high * base, rest, {blocks, self.most - low, high, most - low - high * base})
 
-    def finish(self, phase, additional, text, nonce=UNKNOWN):
+    def came_in(self, phase, additional, text):
+        """Both numbers."""
+        came = self.any_came("additional data", MOST_ADDITIONAL, additional)
+        return came, 0 if phase == ADDITIONAL else self.any_came("text", MOST, text)
+
+    def after_any(self, call, fact, *came):
+        """A call on a message of which so much came. Its steps are known before it."""
+        call.steps, call.any_length = call.steps and list(call.steps()), True
+        call.facts = frozenset({fact}.union(*(n.facts for n in came if n)))
+        return call
+
+    def any_then_additional(self, filled, count):
+        a, _ = self.came_in(ADDITIONAL, filled, 0)
+        return self.after_any(self.additional(a, count), MOST_ADDITIONAL - count - a.number, a)
+
+    def any_then_piece(self, call, phase, additional, text, count):
+        a, t = self.came_in(phase, additional, text)
+        return self.after_any(self.piece(call, phase, a, t, count), MOST - count - (t.number if t else 0), a, t)
+
+    def any_then_decrypt(self, filled, count):
+        a, before = self.came_in(DECRYPTING, 3, filled)
+        whole, facts = self.number_of_words("whole text")
+        text = Came(self.parts(whole), whole, None, facts | {MOST - whole})
+        return self.after_any(self.decrypt(text, before, count, additional=a), whole - count - before.number, a, before, text)
+
+    def length_in_bits(self, m, n):
+        """Bytes of the number of bits of so many bytes, the highest first."""
+        if not n:
+            return [0] * 8
+        bits = [0, 0, 0] + [x for word in n.words for x in m.bits(m.known(word), self.address)]
+        return [self.domain.pack(bits[k:k + 8]) for k in range(56, -8, -8)]
+
+    def any_end(self, phase, additional, text):
+        """The message before the call and as it is decrypted afterwards, its tag, and what the call needs besides."""
+        a, t = self.came_in(phase, additional, text)
+        (so_far, part), filled = self.before_piece(), additional if phase == ADDITIONAL else text
+        values = [so_far, *[self.middle_value()] * bool(filled), self.last_value()]
+
+        def steps(m):
+            blocks = [part[:filled] + ZEROS[filled:]] * bool(filled) + [self.length_in_bits(m, a) + self.length_in_bits(m, t)]
+            return self.group_step(values[m.done], [blocks[m.done]], values[m.done + 1]) if m.done < len(blocks) else ("nothing", (), ())
+        tag = self.aes.xor(self.last_value(), self.once("any J_0", self.any_pre_counter)[1])
+        before, after = (self.any_before((a, t, 0, p)) for p in (phase, DECRYPTING))
+        return before, after, tag, dict(facts=a.facts | (t.facts if t else set()), steps=steps, any_length=True)
+
+    def any_finish(self, phase, additional, text):
         """Ends a message that was encrypted: writes its tag, and overwrites *message with zeros. .. DONE"""
-        first = self.nonce_of(*nonce)
-        state, hashing, tag = self.tag_of(phase, additional, text, first)
-        return self.on_message("finish", state, [0] * MESSAGE, [Buffer("tag", self.undefined(16), tag)], steps=hashing.steps)
+        before, _, tag, more = self.any_end(phase, additional, text)
+        return self.on_message("finish", before, [0] * MESSAGE, [Buffer("tag", self.undefined(16), tag)], **more)
 
-    def accept(self, phase, additional, text, nonce=UNKNOWN, length=None):
+    def any_accept(self, phase, additional, text, length=None):
         """Compares the tag of what has come, without an early exit. If it is right, the encrypted text may come once more, to be decrypted.
         .. REFUSED; else DONE. With a length: Compares a tag of fewer than 16 bytes in the place of fotsgure_gcm_accept"""
-        first = self.nonce_of(*nonce)
-        state, hashing, right = self.tag_of(phase, additional, text, first)
+        before, after, right, more = self.any_end(phase, additional, text)
         tag = self.of(self.tag, 0)[:length or 16]
-        after, _ = self.any_state(DECRYPTING, additional, text, first)
         arguments = [length] * bool(length) + [Buffer("tag", tag), len(tag)]
-        return self.on_message("accept" + "_short" * bool(length), state, after, arguments, steps=hashing.steps,
-                               reveals=self.aes.xor(tag, right), refused=REFUSED)
+        return self.on_message("accept" + "_short" * bool(length), before, after, arguments, reveals=self.aes.xor(tag, right),
+                               refused=REFUSED, **more)
 
     # Calls that are refused, for all their arguments: nothing but the status changes, and buffers aren't read, so they have no bytes here.
     def refused(self):

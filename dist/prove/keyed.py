@@ -212,8 +212,16 @@ class Keyed:
 
     def unknown_number(self, number):
         """The bytes of a number of 64 bits that isn't known."""
-        parts = [number] if self.most == WORD else [unknown(name) for name in sorted({name for name, _ in number.terms}, reverse=True)]
-        return [self.domain.opaque((part, k)) for part in parts for k in range(self.address)]
+        return self.words(self.parts(number))
+
+    def parts(self, number):
+        """The words of such a number, as numbers."""
+        return [number] if self.most == WORD else [unknown(name) for name in sorted({name for name, _ in number.terms}, reverse=True)]
+
+    def words(self, numbers):
+        """The bytes of numbers that have a word each."""
+        return [b for n in numbers for b in (number(n, self.address)[::-1] if isinstance(n, int) else [
+            self.domain.opaque((n, k)) for k in range(self.address)])]
 
     def lengths_but(self, right, name):
         return lengths_but(right, name, self.most)

@@ -93,7 +93,7 @@ def bits_of(m, bytes_):
 def named(m, call):
     """Bits that a statement names, by what they tell, and the cells of plain text: made once of each call."""
     if m.domain not in call.named:
-        streams = [m.domain.moved(b, k) for a in call.buffers for pattern in a.patterns for b in pattern for k in range(LAST - LEAD)]
+        streams = [m.domain.moved(b, k) for a in call.streams for pattern in a.patterns for b in pattern for k in range(LAST - LEAD)]
         known = {"keystream": call.keystream, "plain": call.plain, "result": streams, "step": call.between}
         known = {kind: bits_of(m, bytes_) for kind, bytes_ in known.items()}
         cells = {cell for x in known["plain"] if not depends_bit(m, x, False) & KEY for cell in cells_of_bit(m, x)}

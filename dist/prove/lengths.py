@@ -309,7 +309,7 @@ def differences(m, general, passes):
 
 def check_ends(ends, call):
     """That some lengths of each buffer, of all sizes, are among those of the runs that returned: so these aren't about nothing."""
-    for name in {name for b in call.buffers if hasattr(b, "size") for name in terms(b.size)}:
+    for name in {name for fact in call.facts for name in terms(fact)}:
         for value in (*range(40), *(2 ** k + d for k in range(6, 60) for d in (-1, 0, 1))):
             this = {unknown(name) - value, value - unknown(name)}
             if not refuted(call.facts | this):

@@ -43,12 +43,12 @@ class Linear(namedtuple("Linear", "terms constant")):
 
     def byte(self, domain, k):
         """The bits of byte k. With the power of two that all coefficients have in common, the lowest bits are known, and the others are
-        those of the quotient, which may be any."""
+        those of the quotient, which may be any; of one that has so many bits at most, the others are 0."""
         power = step_of(self)
         if power == 1:
             byte = domain.fresh("byte %d of %s" % (k, self), PUBLIC)
             domain.unknowns[domain.cell_of(byte)[0]] = self, k
-            return domain.bits(byte)
+            return tuple(bit if 8 * k + j < domain.sizes.get(self, 64) else 0 for j, bit in enumerate(domain.bits(byte)))
         known, (rest, low) = power.bit_length() - 1, self.divided(power)
         bit = lambda j: low >> j & 1 if j < known else domain.bits(domain.opaque((rest, (j - known) // 8)))[(j - known) % 8]
         return tuple(map(bit, range(8 * k, 8 * k + 8)))

@@ -1,7 +1,7 @@
 """Faults that show at long lengths only: a statement of every length refuses each, and calls of some lengths up to 64 blocks are proved.
 As in faults.py: (what, behind which label, what is looked for there, what it becomes, the case that has to refuse it)."""
-from faults import (BATCHES, BLOCKS, BLOCKS_TO, BLOCKS_WITH, CBC, CCM_OPEN, CCM_STREAM, ENTRY, IN_BATCHES, MEMSET, SIV_OPEN, UNWRAP,
-                    WIPE_STACK, WIPE_WORDS, call, exported, function, low, second)
+from faults import (BATCHES, BLOCKS, BLOCKS_TO, BLOCKS_WITH, CBC, CCM_OPEN, CCM_STREAM, ENTRY, FINISH, GCTR, IN_BATCHES, MEMSET, SIV_OPEN,
+                    UNWRAP, WIPE_STACK, WIPE_WORDS, call, exported, function, low, second)
 
 ENCRYPT, DECRYPT = (function("aes_hybrid::closures::call_to_" + name) for name in ("encrypt", "decrypt"))
 KEYSTREAM = exported("aes_add_keystream")
@@ -21,6 +21,9 @@ PUT_TAG, HASH_ON = function("gcm::mode::BorrowedGcm::put_tag"), function("gcm::h
 THREES = r"\taddq\t\$48, %(?P<at>r\w+)\n\tdecq\t%(?P<left>r\w+)\n"
 LEFT_OUT = (r"\g<0>\tcmpq\t$65536, %\g<left>\n\tjne\t77f\n\taddq\t$48, %\g<at>\n\tdecq\t%\g<left>\n"
             r"77:\n\ttestq\t%\g<left>, %\g<left>\n")
+# Of a message in pieces: where its tag is made and compared.
+TAG_SO_FAR, IS_TAG, IS_SHORT_TAG = (function("gcm::mode::BorrowedGcm::%s_so_far" % name) for name in ("put_tag", "is_tag", "is_short_tag"))
+WIPE_MESSAGE = call("gcm::message_state::MessageZeroize::zeroize")
 # In POLYVAL with room for three blocks at once, of additional data and then of a text. In AES-GCM-SIV's `open`, where a refused text is
 # encrypted again: where the end is, and the place of the text's length.
 POLYVAL, SIV_COUNTERS = second(function("gcm_siv::message::put_tag")), second(ENCRYPT)
@@ -187,6 +190,26 @@ LONG_FAULTS = {
          "any_seal 13 33 8"),
         ("a nonce's length in 32 bits", function("gcm::mode::BorrowedGcm::put_pre_counter"), r"\tmovq\t%(r\w+), (%xmm\d+)\n",
          lambda found: "\tmovd\t%%%s, %s\n" % (low(found[1]), found[2]), "any_begin 8"),
+        ("another length in the tag where 100 bytes of additional data came", TAG_SO_FAR, r"\tmovq\t\(%r\w+\), %(r\w+)\n",
+         r"\g<0>\tcmpq\t$100, %\1\n\tjne\t77f\n\tincq\t%\1\n77:\n", "any_finish 1 4 0"),
+        ("a text's length of 32 bits in the tag of a message in pieces", TAG_SO_FAR, r"\tmovq\t8\((%r\w+)\), %(r\w+)\n",
+         lambda found: "\tmovl\t8(%s), %%%s\n" % (found[1], low(found[2])), "any_finish 2 0 7"),
+        ("a message not wiped of which 2^32 bytes came", FINISH, r"\tmovq\t%(r\w+), %rdi\n" + WIPE_MESSAGE,
+         r"\tcmpl\t$0, 12(%\1)\n\tjne\t77f\n\g<0>77:\n", "any_finish 2 0 7"),
+        ("any tag accepted of 32 bytes of additional data without a text", IS_TAG, ENTRY,
+         r"\1\tcmpq\t$32, (%rsi)\n\tjne\t77f\n\tcmpq\t$0, 8(%rsi)\n\tjne\t77f\n\tmovl\t$1, %eax\n\tretq\n77:\n", "any_accept 1 0 0"),
+        ("another block of keystream where 100 bytes of text came", GCTR, r"\tshrq\t\$4, %(rdx)\n",
+         r"\g<0>\tcmpq\t$7, %\1\n\tjne\t77f\n\tincq\t%\1\n77:\n", "any_then_piece encrypt 2 5 4 1"),
+        ("a count of 32 bits of additional data", exported("gcm_additional"), r"addq\t%(r\w+), \((%r\w+)\)",
+         lambda found: "addl\t%%%s, (%s)" % (low(found[1]), found[2]), "any_then_additional 13 13"),
+        ("a count of 32 bits of what was decrypted", exported("gcm_decrypt"), r"addq\t%(r\w+), 16\((%r\w+)\)",
+         lambda found: "addl\t%%%s, 16(%s)" % (low(found[1]), found[2]), "any_then_decrypt 11 20"),
+        ("a byte of a short tag not compared after 2^32 bytes", IS_SHORT_TAG, ENTRY,
+         r"\1\tcmpl\t$0, 12(%rsi)\n\tje\t77f\n\tdecq\t%rcx\n77:\n", "any_accept 3 0 7 12"),
+    ],
+    "aarch64/gcm": [
+        ("a text's length of 32 bits in the tag of a message in pieces", TAG_SO_FAR, r"\tldp\tx\d+, x(\d+), \[x\d+\]\n",
+         r"\g<0>\tmov\tw\1, w\1\n", "any_accept 3 0 7"),
     ],
     "x86_64/siv": [
         ("a block number of 16 bits", SIV_COUNTERS, r"shrq\t\$4, %(r\w+)\n",

@@ -32,7 +32,7 @@ Keys of 16 bytes have each refusal, and other keys one for each call and status.
 RISCV = """
 ## RISC-V
 
-`riscv32/aes.s` also takes these rows. Below them are the entries of *each* and *most* that RISC-V leaves out.
+`riscv32/aes.s` and `riscv32/gcm.s` also take these rows. Below them are the entries of *each* and *most* that RISC-V leaves out.
 """
 TITLES = {"aes": "fotsgure_aes.h", "gcm": "fotsgure_gcm.h", "siv": "fotsgure_gcm.h: AES-GCM-SIV"}
 COLUMNS = "few", "full", "first", "other", "more"
@@ -111,6 +111,6 @@ def looked_at():
         parts += [f"\n## {TITLES[library]}\n", table(rows)]
     tables = [(library, rows, machine) for machine in (Riscv32, Riscv64) for library, (_, rows) in cases.LIBRARIES.items()]
     left_out = [line for one in tables for line in left_out_of(*one)]
-    parts += [RISCV, table(cases.OF_SHORT_WORDS), "\n| bits | header | statement | left out |\n|---|---|---|---|", *left_out]
+    parts += [RISCV, table([row for rows in cases.OF_SHORT_WORDS.values() for row in rows]), "\n| bits | header | statement | left out |\n|---|---|---|---|", *left_out]
     text = "\n".join(parts) + "\n"
     return f"{sum(len(rows) for _, rows in cases.LIBRARIES.values())} statements", {PAGE: text}, []
