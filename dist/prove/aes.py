@@ -4,15 +4,18 @@ import itertools
 
 from bits import DATA, LOST, PUBLIC, Unproved
 from calls import Buffer, Call
-from keyed import (BATCH, DONE, KEY_LENGTH, KEYSTREAM_END, NEVER, NO_KEY, UNEQUAL_COUNTS, CounterWord, Keyed, between, nothing, unequal)
+from cmac_ccm import CmacCcm
+from key_wrap import KeyWrap
+from keyed import BATCH, DONE, KEY_LENGTH, KEYSTREAM_END, NEVER, NO_KEY, UNEQUAL_COUNTS, CounterWord, Keyed, between, nothing, unequal
 from linear import WORD, Linear, unknown
 from operands import Pointer, Verdict
 from regions import Window
+from single_rounds import SingleRounds
 from standards import number
 
 
-class Blocks(Keyed):
-    """Calls on blocks, counter mode and CBC."""
+class KeyedAes(SingleRounds, CmacCcm, KeyWrap, Keyed):
+    """All calls of fotsgure_aes.h; here those on blocks, counter mode and CBC."""
 
     # Blocks.
     def content(self, count):
@@ -250,6 +253,8 @@ class Blocks(Keyed):
             for direction in ("encrypt", "decrypt"):
                 yield Call("aes_%s_blocks_with" % direction, [*arguments, blocks, n], KEY_LENGTH, facts=facts)
             yield Call("aes_add_keystream_with", [*arguments, self.ctr(k), nothing("bytes"), n], KEY_LENGTH, facts=facts)
+        yield from self.cmac_refused()
+        yield from self.ccm_refused()
 
     def ctr(self, position):
         """A counter at a position that isn't known."""

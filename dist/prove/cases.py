@@ -180,7 +180,7 @@ def common_rows(library, version):
                                           Row("version", "the number", few=[version])]
 
 
-LIBRARIES = {"aes": (modes.KeyedAes, AES_ROWS), "gcm": (gcm.KeyedGcm, GCM_ROWS), "siv": (siv.KeyedSiv, SIV_ROWS)}
+LIBRARIES = {"aes": (aes.KeyedAes, AES_ROWS), "gcm": (gcm.KeyedGcm, GCM_ROWS), "siv": (siv.KeyedSiv, SIV_ROWS)}
 
 
 def rows_of(library, machine):

@@ -5,14 +5,11 @@ arbitrary bytes, as in CBC encryption. Value k comes before block k, and a byte 
 import itertools
 from collections import namedtuple
 
-from aes import Blocks
 from bits import DATA, KEY, PUBLIC
 from calls import Buffer, Call, Stream
-from key_wrap import KeyWrap
 from keyed import BATCH, DONE, NEVER, NO_KEY, NONCE_LENGTH, PTRDIFF_MAX, REFUSED, TAG_LENGTH, TOO_LONG, CounterWord, between, nothing
 from linear import WORD, unknown
 from operands import Pointer
-from single_rounds import SingleRounds
 from standards import ZEROS, doubled, number, padded
 
 NONCES, CCM_TAGS, CMAC_TAGS = range(7, 14), range(4, 17, 2), range(4, 17)  # lengths
@@ -25,8 +22,8 @@ CcmMessage = namedtuple("CcmMessage", "arguments text start steps tag")
 AnyCcmMessage = namedtuple("AnyCcmMessage", "arguments size text stream steps phases tag more")
 
 
-class KeyedAes(SingleRounds, KeyWrap, Blocks):
-    """All calls of fotsgure_aes.h."""
+class CmacCcm:
+    """Calls of fotsgure_aes.h for CMAC and CCM."""
 
     def __init__(self, program, key_size):
         super().__init__(program, key_size)
@@ -260,11 +257,6 @@ class KeyedAes(SingleRounds, KeyWrap, Blocks):
                     between=self.of_all(undone), undone=True, **message.more)
 
     # Calls that are refused, for all their arguments.
-    def refused(self):
-        yield from super().refused()
-        yield from self.cmac_refused()
-        yield from self.ccm_refused()
-
     def cmac_refused(self):
         """NO_KEY; TAG_LENGTH if it has fewer or more"""
         n, k, tag = unknown("n"), unknown("k"), nothing("tag", False)
