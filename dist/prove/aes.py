@@ -18,35 +18,36 @@ class KeyedAes(SingleRounds, CmacCcm, KeyWrap, Keyed):
     """All calls of fotsgure_aes.h; here those on blocks, counter mode and CBC."""
 
     # Blocks.
-    def content(self, count):
-        return [x for b in range(count) for x in self.of(self.block_bytes, b)]
+    def data_blocks(self, count):
+        return [x for b in range(count) for x in self.in_block(self.block_bytes, b)]
 
-    def results(self, direction, count):
-        return [x for b in range(count) for x in self.of(self.ciphers[direction], b)]
+    def result_blocks(self, direction, count):
+        return [x for b in range(count) for x in self.in_block(self.ciphers[direction], b)]
 
     def blocks(self, direction, count, way=""):
         """Encrypts (Cipher, FIPS 197, 5.1) or decrypts (InvCipher, 5.3) each of `count` blocks in place under the key of *aes. DONE. With
         _to: The same from one buffer to another; counts are in blocks. With _with: In one call, under a key"""
-        content, results = self.content(count), self.results(direction, count)
-        return self.in_each_way("aes_%s_blocks" % direction, way, [], "blocks", content, results, count,
-                                plain=content if direction == "encrypt" else results)
+        content, results = self.data_blocks(count), self.result_blocks(direction, count)
+        return self.call_in_each_way("aes_%s_blocks" % direction, way, [], "blocks", content, results, count,
+                                     plain=content if direction == "encrypt" else results)
 
     # Calls of every length (lengths.py): step * n + `rest` blocks or bytes, for every n of which the buffer isn't larger than PTRDIFF_MAX.
-    def of_last(self, pattern, count):
+    def in_last_block(self, pattern, count):
         """The bytes of a pattern in the last block."""
         return lambda m: [self.domain.moved(b, m.known(count) - 1 - m.first_block) for b in pattern]
 
-    def of_any_count(self, name, state, content, want, count, size, plain, way="", choose=None, facts=(), **more):
+    def call_of_any_count(self, name, state, content, want, count, size, plain, way="", choose=None, facts=(), **more):
+        """A call on data of every length: `content` and `want` are their pattern before it and after it."""
         facts, key = {unknown("n"), self.most // 2 - size, *facts}, [self.schedule()]
         if way == "_with":
             key, more["later"] = [Buffer("key", self.key), self.key_size], lambda m: self.go_on(m, {})
         return Call(name + way, [*key, *state, *self.streams_of(way, "blocks", size, count, content, want, choose)], DONE,
-                    plain=self.of_all(plain), facts=facts, **more)
+                    plain=self.in_all_blocks(plain), facts=facts, **more)
 
     def any_blocks(self, direction, rest, way="", step=16):
         count, content, want = unknown("n") * step + rest, self.pattern(self.block_bytes), self.pattern(self.ciphers[direction])
-        return self.of_any_count("aes_%s_blocks" % direction, [], content, want, count, count * 16,
-                                 content if direction == "encrypt" else want, way)
+        return self.call_of_any_count("aes_%s_blocks" % direction, [], content, want, count, count * 16,
+                                      content if direction == "encrypt" else want, way)
 
     def any_low_keystream(self, skip, rest, way=""):
         """Counter mode of every length where the low half doesn't carry, which has far fewer ways through the code."""
@@ -70,17 +71,18 @@ class KeyedAes(SingleRounds, CmacCcm, KeyWrap, Keyed):
         content, wants = at(data), [self.aes.xor(at(data), at(stream)) for stream in streams]
         ctr = Buffer("ctr", before_iv + [given.opaque((before * 16 + skip, k)) for k in range(8)],
                      lambda m: iv + m.to_bytes(m.known(end), 8), align=8)
-        return self.of_any_count("aes_add_keystream", [ctr], content, wants, count, count, content + sum(wants, []), way, choose,
-                                 {before, WORD - end, wrap - 1, WORD + 1 - wrap},
-                                 counter=CounterWord(name, before, wrap, end.divided(16)[0] + BATCH),
-                                 keystream=self.of_all(self.pattern(sum(streams, []))), may_stay={"plain": 4} if way == "_to" else None)
+        return self.call_of_any_count("aes_add_keystream", [ctr], content, wants, count, count, content + sum(wants, []), way, choose,
+                                      {before, WORD - end, wrap - 1, WORD + 1 - wrap},
+                                      counter=CounterWord(name, before, wrap, end.divided(16)[0] + BATCH),
+                                      keystream=self.in_all_blocks(self.pattern(sum(streams, []))),
+                                      may_stay={"plain": 4} if way == "_to" else None)
 
     def any_cbc_decrypt(self, rest, step=64):
         content, previous, count = self.pattern(self.block_bytes), self.pattern(self.block_bytes, -1), unknown("n") * step + rest
         between = self.pattern(self.ciphers["decrypt"])
         want = self.aes.xor(between, previous)
-        return self.of_any_count("aes_cbc_decrypt", [Buffer("cbc", previous, self.of_last(content, count))], content, want, count,
-                                 count * 16, want, between=self.of_all(between))
+        cbc = Buffer("cbc", previous, self.in_last_block(content, count))
+        return self.call_of_any_count("aes_cbc_decrypt", [cbc], content, want, count, count * 16, want, between=self.in_all_blocks(between))
 
     def any_cbc_encrypt(self):
         """A plain block has the number of the encrypted one before it."""
@@ -89,11 +91,12 @@ class KeyedAes(SingleRounds, CmacCcm, KeyWrap, Keyed):
 
         def steps(m):
             k = m.done - m.first_block
-            return self.found_in, [d.moved(b, k) for b in chained], [d.moved(b, k) for b in want]
-        return self.of_any_count("aes_cbc_encrypt", [Buffer("cbc", chain, self.of_last(want, count))], content, want, count, count * 16,
-                                 content, steps=steps, may_stay={"plain": 16} if self.program.machine.relaxed else None)
+            return self.steps_appear_in, [d.moved(b, k) for b in chained], [d.moved(b, k) for b in want]
+        cbc = Buffer("cbc", chain, self.in_last_block(want, count))
+        return self.call_of_any_count("aes_cbc_encrypt", [cbc], content, want, count, count * 16, content, steps=steps,
+                                      may_stay={"plain": 16} if self.program.machine.relaxed else None)
 
-    def in_each_way(self, name, way, state, data_name, data, results, count, **more):
+    def call_in_each_way(self, name, way, state, data_name, data, results, count, **more):
         """A call that changes data under the key of *aes or, with _with, under a key; or, with _to, that writes to another buffer. `state`
         is what it takes between the key and the data."""
         if way == "_with":
@@ -126,7 +129,7 @@ class KeyedAes(SingleRounds, CmacCcm, KeyWrap, Keyed):
                 lost = e.opaque(LOST)
                 m.lost.add(lost)
                 return lost
-        pairs = [pair for x, y in zip(self.key_words, self.w) for pair in zip(x, y)]
+        pairs = [pair for x, y in zip(self.key_words, self.round_key_words) for pair in zip(x, y)]
         pairs += [(d.opaque((name, k)), b) for name, content in contents.items() for k, b in enumerate(content)]
         m.replace_bytes(convert, e, pairs)
         for window in (r for r in m.regions.values() if isinstance(r, Window)):
@@ -150,8 +153,9 @@ class KeyedAes(SingleRounds, CmacCcm, KeyWrap, Keyed):
             for base, bytes_ in zip(names, fixed):
                 d.words[base] = lambda offset, k, bytes_=bytes_: None if offset else d.bits(bytes_[size - 1 - k])
             high = [sum(fixed, []) + next_[carry] + [0 if carry else 255] * size * full for carry in range(2)]
-            return low, [self.aes.cipher(h + low, self.w) for h in high], [d.fresh("data byte %d" % i, DATA, True) for i in range(16)]
-        return self.once(("counter", full), make)
+            streams = [self.aes.cipher(h + low, self.round_key_words) for h in high]
+            return low, streams, [d.fresh("data byte %d" % i, DATA, True) for i in range(16)]
+        return self.made_once(("counter", full), make)
 
     def higher_words(self, full=0):
         """The names of the words above those that are full, the highest first."""
@@ -172,7 +176,7 @@ class KeyedAes(SingleRounds, CmacCcm, KeyWrap, Keyed):
         _, streams, data_bytes = self.counter_blocks(full)
         places = range(position, position + count)
         blocks = range(first, first + (position % 16 + count) // 16 + 1)
-        stream = [b for block in blocks for b in self.of(streams[block >= wrap], block - first)]
+        stream = [b for block in blocks for b in self.in_block(streams[block >= wrap], block - first)]
         data = [self.domain.byte_in_block(data_bytes[t % 16], t // 16 - first + 1) for t in places]
         return data, self.aes.xor(data, stream[position % 16:]), stream
 
@@ -185,24 +189,24 @@ class KeyedAes(SingleRounds, CmacCcm, KeyWrap, Keyed):
         after, _ = self.counter_words(self.domain, position // 16, full)
         ctr = Buffer("ctr", before + number(position, 8)[::-1], after + number(position + count, 8)[::-1], align=8)
         counter = CounterWord(name, position // 16, wrap, (position + count) // 16 + BATCH)
-        return self.in_each_way("aes_add_keystream", way, [ctr], "bytes", data, want, count, counter=counter,
-                                keystream=stream, plain=data + want, may_stay={"plain": 4} if way == "_to" else None)
+        return self.call_in_each_way("aes_add_keystream", way, [ctr], "bytes", data, want, count, counter=counter,
+                                     keystream=stream, plain=data + want, may_stay={"plain": 4} if way == "_to" else None)
 
     # CBC (SP 800-38A, 6.2).
     def cbc_decrypt(self, count):
         """Cipher block chaining in place (SP 800-38A, 6.2) .. decrypts the next `count` blocks of a chain, and moves *cbc on to the last
         encrypted one. DONE"""
-        previous = self.once("previous", lambda: [self.domain.fresh("previous byte %d" % i, DATA) for i in range(16)])
-        content = self.content(count)
+        previous = self.made_once("previous", lambda: [self.domain.fresh("previous byte %d" % i, DATA) for i in range(16)])
+        content = self.data_blocks(count)
         chain = previous + content
-        between = self.results("decrypt", count)
+        between = self.result_blocks("decrypt", count)
         want = self.aes.xor(between, chain)
         return Call("aes_cbc_decrypt", [self.schedule(), Buffer("cbc", previous, chain[-16:]), Buffer("blocks", content, want), count],
                     DONE, plain=want, between=between)
 
     def chain(self):
         """Any value before a block of a chain, and Cipher of its sum with the block."""
-        value = self.once("chain", lambda: [self.domain.fresh("chain byte %d" % i, DATA, True) for i in range(16)])
+        value = self.made_once("chain", lambda: [self.domain.fresh("chain byte %d" % i, DATA, True) for i in range(16)])
         return value, self.cipher_of(self.aes.xor(self.block_bytes, value))
 
     def cbc_encrypt(self, count):
@@ -212,11 +216,11 @@ class KeyedAes(SingleRounds, CmacCcm, KeyWrap, Keyed):
 
         def steps():
             for b in range(count):
-                yield self.found_in, self.of(chained, b), self.of(chain, b + 1)
-        blocks = [self.of(chain, b) for b in range(count + 1)]
+                yield self.steps_appear_in, self.in_block(chained, b), self.in_block(chain, b + 1)
+        blocks, content = [self.in_block(chain, b) for b in range(count + 1)], self.data_blocks(count)
         want = [x for b in blocks[1:] for x in b]
-        return Call("aes_cbc_encrypt", [self.schedule(), Buffer("cbc", blocks[0], blocks[-1]),
-                                        Buffer("blocks", self.content(count), want), count], DONE, steps=steps, plain=self.content(count),
+        arguments = [self.schedule(), Buffer("cbc", blocks[0], blocks[-1]), Buffer("blocks", content, want), count]
+        return Call("aes_cbc_encrypt", arguments, DONE, steps=steps, plain=content,
                     may_stay={"plain": 16} if self.program.machine.relaxed else None)
 
     def cipher_of(self, block, direction="encrypt"):
@@ -224,7 +228,7 @@ class KeyedAes(SingleRounds, CmacCcm, KeyWrap, Keyed):
         if block == self.block_bytes:
             return self.ciphers[direction]
         cipher = self.aes.cipher if direction == "encrypt" else self.aes.inv_cipher
-        return self.once((direction, *block), lambda: cipher(block, self.w))
+        return self.made_once((direction, *block), lambda: cipher(block, self.round_key_words))
 
     def at_link(self, m, bytes_, k):
         """Block k, and the value before it, have the number of the block before them, so that none is left of what no pass needs."""
@@ -258,7 +262,7 @@ class KeyedAes(SingleRounds, CmacCcm, KeyWrap, Keyed):
 
     def ctr(self, position):
         """A counter at a position that isn't known."""
-        return Buffer("ctr", *2 * [self.content(1) + self.unknown_number(position)], align=8)
+        return Buffer("ctr", *2 * [self.data_blocks(1) + self.unknown_number(position)], align=8)
 
     def keystream_refused(self, key, none, sizes):
         n, k, (position, any_) = unknown("n"), unknown("k"), self.number_of_words("position")
@@ -271,5 +275,5 @@ class KeyedAes(SingleRounds, CmacCcm, KeyWrap, Keyed):
         for aes, facts in itertools.product((none, key), unequal(n, k)):
             yield Call("aes_add_keystream_to", to(aes, n, k), UNEQUAL_COUNTS, facts=sizes | facts)
         for length in (16, 24, 32):
-            yield Call("aes_add_keystream_with", [Buffer("key", self.content(2)[:length]), length, ctr, bytes_, n], KEYSTREAM_END,
+            yield Call("aes_add_keystream_with", [Buffer("key", self.data_blocks(2)[:length]), length, ctr, bytes_, n], KEYSTREAM_END,
                        facts=sizes | passes)

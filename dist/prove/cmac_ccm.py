@@ -39,10 +39,10 @@ class CmacCcm:
     def next_value(self, block, k):
         """Cipher of the sum of a block, which is number k, and the value before it."""
         value = self.chain()[0] if k else ZEROS
-        return self.of(self.cipher_of(self.aes.xor(block, value)), k)
+        return self.in_block(self.cipher_of(self.aes.xor(block, value)), k)
 
     def value(self, k):
-        return self.of(self.chain()[0], k) if k else ZEROS
+        return self.in_block(self.chain()[0], k) if k else ZEROS
 
     def chain_steps(self, blocks):
         for k, block in enumerate(blocks):
@@ -55,14 +55,14 @@ class CmacCcm:
         rest = self.block_bytes[:length - 16 * before]
         first = doubled(self.domain, self.cipher_of(ZEROS))  # subkeys (6.1)
         subkey = first if len(rest) == 16 else doubled(self.domain, first)
-        last = self.aes.xor(self.of((rest + [0x80] + ZEROS)[:16], before), subkey)
-        added = ZEROS if self.found_in == "vector" else self.value(before)  # what has been added to it before it is found
+        last = self.aes.xor(self.in_block((rest + [0x80] + ZEROS)[:16], before), subkey)
+        added = ZEROS if self.steps_appear_in == "vector" else self.value(before)  # what has been added to it before it is found
 
         def steps():
             yield from self.chain_steps([self.block_bytes] * before)
             yield "block", self.aes.xor(last, added), self.last_sum
         tag = self.next_value(self.last_sum, before) if added == ZEROS else self.cipher_of(self.last_sum)
-        return self.many(self.block_bytes, length), steps, tag
+        return self.in_blocks(self.block_bytes, length), steps, tag
 
     def cmac(self, length):
         """CMAC (SP 800-38B, 6.2; RFC 4493): writes the tag of a message .. DONE"""
@@ -92,7 +92,7 @@ class CmacCcm:
 
     def any_tagged(self, rest):
         """The arguments that are a message, what a call of every length needs besides, and the tag."""
-        blocks, apart = unknown("n"), self.found_in == "vector"  # whether a value is added to the last block after that is found
+        blocks, apart = unknown("n"), self.steps_appear_in == "vector"  # whether a value is added to the last block after that is found
         first = doubled(self.domain, self.cipher_of(ZEROS))
         subkey = first if rest == 16 else doubled(self.domain, first)
         last = self.aes.xor((self.block_bytes[:rest] + [0x80] + ZEROS)[:16], subkey)
@@ -111,7 +111,7 @@ class CmacCcm:
             count = m.known(blocks)
             return self.at_link(m, chained, count) if apart and count != 0 else alone
         size, message = blocks * 16 + rest, self.pattern(self.block_bytes, -1)
-        more = dict(steps=steps, plain=self.of_all(message), facts={blocks, PTRDIFF_MAX - size})
+        more = dict(steps=steps, plain=self.in_all_blocks(message), facts={blocks, PTRDIFF_MAX - size})
         return [Stream("message", size, message), size], more, tag
 
     def any_cmac(self, rest):
@@ -147,7 +147,8 @@ class CmacCcm:
     def ccm_message(self, nonce_length, additional_length, text_length, tag_length):
         nonce = self.nonce[:nonce_length]
         blocks, start = self.formatted(nonce, additional_length, text_length, tag_length)
-        additional, text = self.many(self.block_bytes, additional_length, 18), self.many(self.block_bytes, text_length, 16 * start)
+        additional = self.in_blocks(self.block_bytes, additional_length, 18)
+        text = self.in_blocks(self.block_bytes, text_length, 16 * start)
         tag = self.aes.xor(self.value(len(blocks)), self.counter_stream(nonce, 0))[:tag_length]
         arguments = [self.schedule(), Buffer("nonce", nonce), nonce_length, Buffer("additional", additional), additional_length]
         return CcmMessage(arguments, text, start, lambda: self.chain_steps(blocks), tag)
@@ -165,7 +166,7 @@ class CmacCcm:
         text that is refused is encrypted again: it is, when the call returns, as it was. .. REFUSED; else DONE"""
         message = self.ccm_message(nonce_length, additional_length, text_length, tag_length)
         nonce, text, tag = self.nonce[:nonce_length], message.text, self.tag[:tag_length]
-        sealed = self.many(self.sealed, text_length, 16 * message.start)
+        sealed = self.in_blocks(self.sealed, text_length, 16 * message.start)
         opened, stream = self.ccm_crypted(nonce, sealed)
 
         def steps():
@@ -185,7 +186,7 @@ class CmacCcm:
         low = nonce[7:] + [d.fresh("counter byte %d" % i, PUBLIC, True) for i in range(16 - size, 16)]
         d.words["CCM high, %d" % size] = lambda offset, k: d.bits(([size - 1] + nonce[:7])[7 - k]) if offset == 0 else None
         d.placed["CCM low, %d" % size] = lambda number, k: d.bits(d.byte_in_block(low[7 - k], number))
-        return self.aes.cipher([14 - len(nonce)] + nonce[:7] + low, self.w)
+        return self.aes.cipher([14 - len(nonce)] + nonce[:7] + low, self.round_key_words)
 
     def ccm_counter_word(self, nonce, size):
         of, high, low = 15 - len(nonce), [14 - len(nonce)] + nonce[:7], nonce[7:] + [0] * (15 - len(nonce))
@@ -207,12 +208,12 @@ class CmacCcm:
 
     def fresh_block(self, name, *of_block):
         depends = KEY * (not of_block) | DATA
-        return self.once(name, lambda: [self.domain.fresh("%s, byte %d" % (name, i), depends, *of_block) for i in range(16)])
+        return self.made_once(name, lambda: [self.domain.fresh("%s, byte %d" % (name, i), depends, *of_block) for i in range(16)])
 
     def any_ccm(self, nonce_length, additional, rest, tag_length, encoded=2):
         """There are no additional data, or 16 a + `additional` bytes for every a, whose length takes `encoded` bytes (A.2.2)."""
         nonce, size, length = self.nonce[:nonce_length], unknown("n") * 256 + rest, unknown("a") * 16 + additional
-        stream = self.pattern(self.once(("CCM counters", nonce_length), lambda: self.ccm_counters(nonce)))
+        stream = self.pattern(self.made_once(("CCM counters", nonce_length), lambda: self.ccm_counters(nonce)))
         text, cells = self.pattern(self.block_bytes, -1), self.fresh_block("additional data", True)
         first, middle, last_value = (self.fresh_block(name) for name in ("first value", "value behind additional data", "last value"))
         flags = 64 * (additional > 0) + 8 * ((tag_length - 2) // 2) + 14 - nonce_length
@@ -231,7 +232,7 @@ class CmacCcm:
         data = [data, length] if additional else [nothing("additional", False), 0]
         arguments = [self.schedule(), Buffer("nonce", nonce), nonce_length, *data]
         return AnyCcmMessage(arguments, size, text, stream, chain, 1 + (additional > 0), tag, dict(
-            keystream=self.of_all(stream), counter=self.ccm_counter_word(nonce, size),
+            keystream=self.in_all_blocks(stream), counter=self.ccm_counter_word(nonce, size),
             facts={unknown("n"), PTRDIFF_MAX - size, (1 << 8 * (15 - nonce_length)) - 1 - size, *(lengths[encoded] if additional else ())}))
 
     def any_ccm_seal(self, *lengths):
@@ -239,7 +240,7 @@ class CmacCcm:
         text, tag = Stream("text", message.size, message.text, self.aes.xor(message.text, message.stream)), message.tag
         return Call("aes_ccm_seal", [*message.arguments, text, message.size, Buffer("tag", self.undefined(len(tag)), tag), len(tag)], DONE,
                     steps=lambda m: message.steps(m, m.phase) if m.phase < message.phases else ("nothing", (), ()),
-                    plain=self.of_all(message.text), **message.more)
+                    plain=self.in_all_blocks(message.text), **message.more)
 
     def any_ccm_open(self, *lengths):
         """When all of the text is decrypted, it becomes arbitrary bytes; with the keystream once more it is what it was."""
@@ -253,8 +254,8 @@ class CmacCcm:
             return message.steps(m, m.phase - 1) if m.phase <= message.phases else ("nothing", (), ())
         text = Stream("text", message.size, sealed, opened)
         return Call("aes_ccm_open", [*message.arguments, text, message.size, Buffer("tag", tag), len(tag)], DONE,
-                    steps=steps, reveals=self.aes.xor(tag, message.tag), refused=REFUSED, plain=self.of_all(message.text + opened),
-                    between=self.of_all(undone), undone=True, **message.more)
+                    steps=steps, reveals=self.aes.xor(tag, message.tag), refused=REFUSED, plain=self.in_all_blocks(message.text + opened),
+                    between=self.in_all_blocks(undone), undone=True, **message.more)
 
     # Calls that are refused, for all their arguments.
     def cmac_refused(self):

@@ -52,7 +52,8 @@ class Came(namedtuple("Came", "words number rest facts")):
 
 
 class KeyedGcm(KeyedHash):
-    """key_length, wipe and what set_key refuses are stated in aes.py: these sentences of the two headers are alike."""
+    """All calls of fotsgure_gcm.h but those for AES-GCM-SIV. key_length, wipe and what set_key refuses are stated in keyed.py: these
+    sentences of the two headers are alike."""
     library = prefix = "gcm"
 
     def __init__(self, program, key_size):
@@ -77,19 +78,20 @@ class KeyedGcm(KeyedHash):
                 yield "hash", functools.partial(product, d, power, p[0]), after
         m = self.stored_by(self.proved(self.expansion(ANY, steps=steps), seed))
         meaning = {d.cell_of(b)[0]: e.bits(c) for x, y in zip(p, self.powers) for b, c in zip(x, y)}
-        self.struct += [e.pack([e.linear_image(x, meaning.__getitem__, d) for x in d.bits(b)]) for b in m.regions["gcm"].content[self.kept_size:]]
+        products = m.regions["gcm"].content[self.kept_size:]
+        self.struct += [e.pack([e.linear_image(x, meaning.__getitem__, d) for x in d.bits(b)]) for b in products]
         return m
 
     def key_of_blocks(self):
-        """struct fotsgure_aes as fotsgure_aes_set_key makes it: it begins as struct fotsgure_gcm does. (prove.py compares what both libraries
-        store.) What follows isn't read."""
+        """struct fotsgure_aes as fotsgure_aes_set_key makes it: it begins as struct fotsgure_gcm does. (prove.py compares what both
+        libraries store.) What follows isn't read."""
         kept = self.struct[:self.kept_size]
         return Buffer("aes", kept + self.undefined(AES_STRUCT - self.kept_size), align=self.length_size)
 
     def set_key_of(self):
         """The same with the key of *aes, a struct of fotsgure_aes.h .. DONE if *aes holds a key"""
         def steps():
-            yield self.subkey_in, self.aes.cipher(ZEROS, self.w), self.powers[0]
+            yield self.subkey_in, self.aes.cipher(ZEROS, self.round_key_words), self.powers[0]
             for power, after in zip(self.powers, self.powers[1:]):
                 yield "hash", functools.partial(self.with_powers, [power]), after
         gcm = self.struct_of(self.undefined(self.struct_size), self.struct, secret=MAY_NOT_COME)
@@ -109,14 +111,15 @@ class KeyedGcm(KeyedHash):
         """A nonce of 12 bytes, or one of another length (7.1, step 2): then J_0 is any block."""
         if length == 12:
             return PreCounter(self.nonce, False, Hashing(self, ZEROS), [Buffer("nonce", self.nonce), 12])
-        nonce = self.many(self.long_nonce, length)
+        nonce = self.in_blocks(self.long_nonce, length)
         hashing = Hashing(self, ZEROS).take(threes(padded(nonce)) + [[self.lengths(0, length)]])
         first = PreCounter(self.pre_counter, True, hashing, [Buffer("nonce", nonce), length])
         hashing.end_as(self.counter_block(first, 0))
         return first
 
     def counted(self, counter=None):
-        """The counter of nonces at a number, at one of a CarryTo, or at any whose low half has no carry; and what the call assumes of it."""
+        """The counter of nonces at a number, at one of a CarryTo, or at any whose low half has no carry; and what the call assumes of
+        it."""
         d = self.domain
         if isinstance(counter, CarryTo):
             nonce, after, assumes = self.carried_to(counter.place)
@@ -131,9 +134,10 @@ class KeyedGcm(KeyedHash):
         return PreCounter(bytes_, False, Hashing(self, ZEROS), buffers), assumes
 
     def carried_to(self, place):
-        """Such a counter, the next one, and what is assumed: that it isn't the last one."""
+        """A counter of nonces of which a carry comes to this byte, the next one, and what is assumed: that it isn't the last one."""
         d, byte, before = self.domain, self.nonce[place], [0] * place
-        more, carry = (d.lookup(tuple(map(function, range(256))), d.bits(byte)) for function in (lambda x: (x + 1) % 256, lambda x: x // 255))
+        of_byte = lambda function: d.lookup(tuple(map(function, range(256))), d.bits(byte))
+        more, carry = of_byte(lambda x: (x + 1) % 256), of_byte(lambda x: x // 255)
         after = [*before[1:], *[carry][:place], more] + [0] * (11 - place)
         return before + [byte] + [255] * (11 - place), after, None if place else [d.xor_byte(byte, 255)]
 
@@ -149,21 +153,21 @@ class KeyedGcm(KeyedHash):
             block, bytes_ = (offset, low) if isinstance(offset, int) else (offset - before, behind)
             return d.bits(d.byte_in_block(bytes_[k], block + 1)) if isinstance(block, int) else None
         d.words[OF_J_0] = word
-        return [self.aes.cipher(self.pre_counter + bytes_[::-1], self.w) for bytes_ in (low, behind)]
+        return [self.aes.cipher(self.pre_counter + bytes_[::-1], self.round_key_words) for bytes_ in (low, behind)]
 
     def counter_block(self, first, i):
         """The block J_0 + i."""
         if first.is_any:
-            self.once("any counter", self.any_counter)
+            self.made_once("any counter", self.any_counter)
             return first.bytes + self.highest_first(Number(OF_J_0, i), 4)
         return first.bytes + number((i + 1) % 2 ** 32, 4)
 
     def stream(self, first, i):
         """Cipher of the block J_0 + i."""
         if first.is_any:
-            return self.of(self.once("any counter", self.any_counter)[first.behind], i)
+            return self.in_block(self.made_once("any counter", self.any_counter)[first.behind], i)
         block = self.counter_block(first, i)
-        return self.once(("stream", *block), lambda: self.aes.cipher(block, self.w))
+        return self.made_once(("stream", *block), lambda: self.aes.cipher(block, self.round_key_words))
 
     def crypted(self, first, text, position=0):
         """GCTR (6.5) of bytes of a text that begin at a position: added to the keystream, which begins at J_0 + 1."""
@@ -178,12 +182,13 @@ class KeyedGcm(KeyedHash):
         return [b for i in range(begin, end) for b in self.stream(first, i)]
 
     def lengths(self, additional, text):
+        """The last block that GHASH takes: both lengths, in bits."""
         return number(8 * additional, 8) + number(8 * text, 8)
 
     # Whole messages.
     def message_of(self, first, additional_length, text_length):
         """Additional data, an encrypted text, and GHASH of both."""
-        additional, sealed = self.many(self.additional_bytes, additional_length), self.many(self.sealed, text_length)
+        additional, sealed = self.in_blocks(self.additional_bytes, additional_length), self.in_blocks(self.sealed, text_length)
         hashing = Hashing(self, ZEROS, first.hashing.made)
         hashing.take(threes(padded(additional)) + threes(padded(sealed) + [self.lengths(additional_length, text_length)]))
         return Buffer("additional", additional), sealed, hashing
@@ -193,7 +198,7 @@ class KeyedGcm(KeyedHash):
         The same from one buffer to another of the same length"""
         first = first or self.nonce_of(*nonce)
         additional, sealed, hashing = self.message_of(first, additional_length, text_length)
-        text = self.many(self.text, text_length)
+        text = self.in_blocks(self.text, text_length)
 
         def steps():
             yield from first.hashing.steps()
@@ -209,16 +214,16 @@ class KeyedGcm(KeyedHash):
     # Texts of every length (lengths.py). J_0 of a nonce of 12 bytes becomes any block where it stands, and so does that of a nonce of
     # 48 k + `rest` bytes for every k.
     def any_nonce(self, rest, first=None):
-        first, (block, _, _) = first or self.nonce_of(), self.once("any J_0", self.any_pre_counter)
+        first, (block, _, _) = first or self.nonce_of(), self.made_once("any J_0", self.any_pre_counter)
         if rest is None:
             place = "place", first.bytes + number(1, 4), block
             return AnyNonce(first.arguments, 1, lambda m: ("again", (), ()) if m.done else place, set())
-        length, hashed = unknown("k") * 48 + rest, self.once("hashed nonce", lambda: [
+        length, hashed = unknown("k") * 48 + rest, self.made_once("hashed nonce", lambda: [
             self.domain.fresh("hashed nonce byte %d" % i, KEY | PUBLIC) for i in range(16)])
 
         def steps(m):
             if m.phase == 0:
-                return self.any_group(m, ZEROS, self.long_nonce, length, self.at_once(m, ()), [], hashed)
+                return self.any_group(m, ZEROS, self.long_nonce, length, self.blocks_at_once(m, ()), [], hashed)
             lengths = [0] * 8 + m.to_bytes(m.known(length) * 8, 8)[::-1]
             step = self.group_step(hashed, [lengths], block) if m.done == 0 else ("again", (), ())
             return step if m.phase == 1 else ("nothing", (), ())
@@ -232,15 +237,15 @@ class KeyedGcm(KeyedHash):
         d.placed[OF_ANY_J_0] = lambda number, k: d.bits(d.byte_in_block(low[k], number))
         d.words[OF_ANY_J_0] = lambda offset, k: d.bits(own[k]) if offset == 0 else None
         block = self.pre_counter + self.highest_first(Number(OF_ANY_J_0, 0), 4)
-        return block, self.aes.cipher(block, self.w), self.aes.cipher(self.pre_counter + low[::-1], self.w)
+        return block, self.aes.cipher(block, self.round_key_words), self.aes.cipher(self.pre_counter + low[::-1], self.round_key_words)
 
     @property
     def any_stream(self):
-        return self.once("any J_0", self.any_pre_counter)[2]
+        return self.made_once("any J_0", self.any_pre_counter)[2]
 
     def any_begin(self, rest):
         nonce, state = self.any_nonce(rest), self.state(ADDITIONAL, 0, 0)[:32]
-        message = self.message(self.undefined(MESSAGE), state + self.once("any J_0", self.any_pre_counter)[0] + 2 * ZEROS)
+        message = self.message(self.undefined(MESSAGE), state + self.made_once("any J_0", self.any_pre_counter)[0] + 2 * ZEROS)
         return Call("gcm_begin", [self.schedule(), message, *nonce.arguments], DONE, steps=nonce.steps, facts=nonce.facts)
 
     def any_facts(self, sizes):
@@ -248,7 +253,7 @@ class KeyedGcm(KeyedHash):
         return {unknown("a"), PTRDIFF_MAX - sizes[0], MOST_ADDITIONAL - sizes[0], unknown("n"), MOST - sizes[1]}
 
     def any_tag(self, m, sizes):
-        return self.aes.xor(self.any_sum(m, sizes), self.once("any J_0", self.any_pre_counter)[1])
+        return self.aes.xor(self.any_sum(m, sizes), self.made_once("any J_0", self.any_pre_counter)[1])
 
     def any_whole(self, additional, text):
         """What statements of every length have in common: sizes, and the patterns of text, keystream and encrypted text."""
@@ -266,24 +271,26 @@ class KeyedGcm(KeyedHash):
             return ("whole", "output" if way else "text", (sealed,)) if phase == 0 else self.any_hash(m, phase - 1, sizes)
         texts = self.streams_of(way, "text", sizes[1], sizes[1], text, [self.aes.xor(text, stream), sealed], lambda m, number: [0] * 16)
         tag = Buffer("tag", self.undefined(16), lambda m: self.any_tag(m, sizes))
-        return self.of_any_message(name + way, sizes, self.any_nonce(nonce, first), stream, [*texts, tag], steps, text, **more)
+        return self.call_of_any_message(name + way, sizes, self.any_nonce(nonce, first), stream, [*texts, tag], steps, text, **more)
 
     def any_open(self, additional, text, way="", nonce=None):
         sizes, _, stream, sealed = self.any_whole(additional, text)
         text = self.aes.xor(sealed, stream)
-        tag = self.once("any tag", lambda: [self.domain.fresh("tag byte %d" % i, DATA) for i in range(16)])
+        tag = self.made_once("any tag", lambda: [self.domain.fresh("tag byte %d" % i, DATA) for i in range(16)])
         texts = [*self.streams_of(way, "text", sizes[1], sizes[1], sealed, text), Buffer("tag", tag), 16]
 
         def steps(m, phase):
             return ("refused", "output", (sealed, ZEROS, True)) if way and phase == 2 else self.any_hash(m, phase, sizes)
-        return self.of_any_message("gcm_open" + way, sizes, self.any_nonce(nonce), stream, texts, steps, text,
-                                   reveals=lambda m: self.aes.xor(tag, self.any_tag(m, sizes)), refused=REFUSED)
+        return self.call_of_any_message("gcm_open" + way, sizes, self.any_nonce(nonce), stream, texts, steps, text,
+                                        reveals=lambda m: self.aes.xor(tag, self.any_tag(m, sizes)), refused=REFUSED)
 
-    def of_any_message(self, name, sizes, nonce, stream, texts, steps, plain, **more):
+    def call_of_any_message(self, name, sizes, nonce, stream, texts, steps, plain, **more):
+        """A call on a whole message of every length. `steps` are those behind the steps that its nonce takes."""
         additional = Stream("additional", sizes[0], self.pattern(self.additional_bytes))
         return Call(name, [self.schedule(), *nonce.arguments, additional, sizes[0], *texts], DONE, counter=ANY_J_0,
                     steps=lambda m: nonce.steps(m) if m.phase < nonce.phases else steps(m, m.phase - nonce.phases),
-                    keystream=self.of_all(stream), plain=self.of_all(plain), facts=self.any_facts(sizes) | nonce.facts, **more)
+                    keystream=self.in_all_blocks(stream), plain=self.in_all_blocks(plain), facts=self.any_facts(sizes) | nonce.facts,
+                    **more)
 
     def seal_next(self, additional_length, text_length, counter=None):
         """The same under the counter's next nonce, which it writes to `nonce`; the counter then moves on by one. .. DONE"""
@@ -295,7 +302,7 @@ class KeyedGcm(KeyedHash):
         .. REFUSED; else DONE. With _to: The same from one buffer to another of the same length .. After REFUSED the output is all zeros"""
         first = self.nonce_of(*nonce)
         additional, sealed, hashing = self.message_of(first, additional_length, text_length)
-        tag, right = self.of(self.tag, 0), self.aes.xor(hashing.value, self.stream(first, 0))
+        tag, right = self.in_block(self.tag, 0), self.aes.xor(hashing.value, self.stream(first, 0))
 
         def steps():
             yield from first.hashing.steps()
@@ -318,7 +325,7 @@ class KeyedGcm(KeyedHash):
         return [b for n in numbers for b in (number(n, 8)[::-1] if isinstance(n, int) else self.words(words(n)))]
 
     def with_more(self, m, n, count):
-        """A number of bytes, and so many more."""
+        """How many bytes came, after so many more."""
         if isinstance(n, int):
             return n + count
         low, *high = map(m.known, n.words)
@@ -330,15 +337,16 @@ class KeyedGcm(KeyedHash):
 
     def any_state(self, phase, additional, text, first, decrypted=0):
         """A message of which so much has come, with any value of GHASH and any part of a block."""
-        hashing = Hashing(self, self.of(self.hash_value, 0))
-        return self.state(phase, additional, text, decrypted, hashing.value, self.of(self.rest, 0), first), hashing
+        hashing = Hashing(self, self.in_block(self.hash_value, 0))
+        return self.state(phase, additional, text, decrypted, hashing.value, self.in_block(self.rest, 0), first), hashing
 
-    def on_message(self, name, before, after, arguments, **more):
+    def call_on_message(self, name, before, after, arguments, **more):
+        """A call on a message in pieces, with what that holds before it and after it."""
         return Call("gcm_" + name, [self.schedule(), self.message(before, after), *arguments], DONE, **more)
 
     def absorbed(self, hashing, filled, piece):
         """GHASH takes a piece, of which the first bytes fill up a block; the part of a block that is then left."""
-        rest = self.of(self.rest, 0)[:filled] + piece
+        rest = self.in_block(self.rest, 0)[:filled] + piece
         if len(rest) >= 16:
             whole = (len(rest) - 16) // 16 * 16 + 16
             hashing.take([[rest[:16]]] + threes(padded(rest[16:whole])))
@@ -348,7 +356,7 @@ class KeyedGcm(KeyedHash):
     def turned(self, hashing, phase, additional):
         """The first text ends the additional data: zeros fill up its last block."""
         if phase == ADDITIONAL and additional % 16:
-            hashing.take([padded(self.of(self.rest, 0)[:additional % 16])])
+            hashing.take([padded(self.in_block(self.rest, 0)[:additional % 16])])
 
     def begin(self, nonce=(), name="gcm_begin", first=None, **more):
         """Begins a message under a nonce, which has any length. *message may be uninitialized .. and nothing of what it held is left. ..
@@ -366,10 +374,10 @@ class KeyedGcm(KeyedHash):
         """Takes a piece of the additional data .. DONE"""
         first = self.nonce_of(*UNKNOWN)
         state, hashing = self.any_state(ADDITIONAL, before, 0, first)
-        piece = self.many(self.additional_bytes, count)
+        piece = self.in_blocks(self.additional_bytes, count)
         rest = self.absorbed(hashing, before % 16, piece)
         after = lambda m: self.state(ADDITIONAL, self.with_more(m, before, count), 0, 0, hashing.value, rest, first)
-        return self.on_message("additional", state, after, [Buffer("additional", piece), count], steps=hashing.steps)
+        return self.call_on_message("additional", state, after, [Buffer("additional", piece), count], steps=hashing.steps)
 
     def piece(self, call, phase, additional, before, count, nonce=UNKNOWN):
         """Encrypts a piece of the text in place. .. Takes a piece of an encrypted text whose tag is to be compared, and writes nothing to
@@ -377,7 +385,7 @@ class KeyedGcm(KeyedHash):
         first = self.nonce_of(*nonce)._replace(behind=isinstance(before, Came))
         state, hashing = self.any_state(phase, additional, before, first)
         filled = before % 16
-        text, sealed = (self.many(b, count, filled) for b in (self.text, self.sealed))
+        text, sealed = (self.in_blocks(b, count, filled) for b in (self.text, self.sealed))
         self.turned(hashing, phase, additional)
         turned, at = len(hashing.plan), filled if first.behind else before
         rest = self.absorbed(hashing, filled, sealed)
@@ -390,19 +398,20 @@ class KeyedGcm(KeyedHash):
         after_phase = ENCRYPTING if call == "encrypt" else VERIFYING
         after = lambda m: self.state(after_phase, additional, self.with_more(m, before, count), 0, hashing.value, rest, first)
         texts = {"encrypt": (text, sealed), "verify": (sealed, None), "decrypt_unverified": (sealed, self.crypted(first, sealed, at))}
-        return self.on_message(call, state, after, [Buffer("text", *texts[call]), count], steps=steps,
-                               keystream=self.streams(first, count, at) if call != "verify" else (),
-                               plain=self.crypted(first, sealed, at) if call == "decrypt_unverified" else text)
+        return self.call_on_message(call, state, after, [Buffer("text", *texts[call]), count], steps=steps,
+                                    keystream=self.streams(first, count, at) if call != "verify" else (),
+                                    plain=self.crypted(first, sealed, at) if call == "decrypt_unverified" else text)
 
     # Pieces of 48 n + `rest` bytes for every n, where 16 u + `filled` bytes came before for every u: the first bytes fill up a block, and
     # fewer than 48 follow the last three blocks that are hashed at once.
     def any_numbers(self, filled, rest, step=48):
+        """How many bytes came before a piece, how many it has, and the facts of both."""
         before, size = unknown("u") * 16 + filled, unknown("n") * step + rest
         return before, size, {unknown("u"), unknown("n"), PTRDIFF_MAX - size}
 
     def groups_of_piece(self, m, size, filled):
         """How many groups of blocks GHASH takes of a piece behind its first block, and how many bytes are left then."""
-        left, many = m.known(size) + filled - 16, self.at_once(m, ())
+        left, many = m.known(size) + filled - 16, self.blocks_at_once(m, ())
         return divmod(left, 16 * many) if isinstance(left, int) else left.divided(16 * many)
 
     def end_of_piece(self, m, size, filled):
@@ -411,14 +420,14 @@ class KeyedGcm(KeyedHash):
         return groups + (left >= 16), left % 16
 
     def value_in_piece(self, m, group):
-        return self.at_block(m, self.hash_value, 1 + group * self.at_once(m, ()))
+        return self.at_block(m, self.hash_value, 1 + group * self.blocks_at_once(m, ()))
 
     def any_piece_hash(self, m, bytes_, size, filled):
-        """The next step of GHASH."""
-        (groups, left), many = self.groups_of_piece(m, size, filled), self.at_once(m, ())
+        """The next step of GHASH of a piece."""
+        (groups, left), many = self.groups_of_piece(m, size, filled), self.blocks_at_once(m, ())
         value, block = functools.partial(self.value_in_piece, m), lambda k: self.at_block(m, bytes_, k)
         blocks = lambda group: [block(group * many + 1 + k) for k in range(many)]
-        group, full = m.done - 2, self.once("full block", self.full_block)
+        group, full = m.done - 2, self.made_once("full block", self.full_block)
         if isinstance(group, int) and group < 0:
             so_far, part = self.before_piece()
             return self.group_step(so_far, [full], value(0)) if m.done else ("memory", part[:filled] + block(0)[filled:], full)
@@ -441,41 +450,45 @@ class KeyedGcm(KeyedHash):
         return self.counts_after(m, numbers, which, size) + self.value_in_piece(m, group) + rest + [None] * (16 - count)
 
     def left_of_piece(self, m, end, count):
-        """So many bytes of the text from there on, as they are where it isn't known of which block they are, and where it is."""
+        """The bytes that a piece leaves of a block, which are `count` from `end` on: as they are where it isn't known of which block they
+        are, and where it is."""
         text = m.regions["text"]
         names = [self.domain.opaque((Content("text", end + k, "content %d" % text.turn), 0)) for k in range(count)]
         return names, text.initial_at(m, "text", end, count)
 
     def counts_after(self, m, numbers, which, size):
+        """What a message begins with after a piece: its numbers, of which one is higher by the size of the piece, and J_0."""
         counts = [m.to_bytes(m.known(n + size if k == which else n), 8) for k, n in enumerate(numbers)]
-        return sum(counts, []) + self.once("any J_0", self.any_pre_counter)[0]
+        return sum(counts, []) + self.made_once("any J_0", self.any_pre_counter)[0]
 
     def any_crypted(self, filled, rest):
         """The keystream of a piece: its pattern, and what the call needs of the counter."""
         before, size, facts = self.any_numbers(filled, rest, 768)
         stream, counter = self.in_places(self.any_stream, filled), ANY_J_0._replace(first=unknown("u") + 1)
-        return before, size, stream, dict(counter=counter, keystream=self.of_all(stream), facts=facts | {MOST - before - size})
+        return before, size, stream, dict(counter=counter, keystream=self.in_all_blocks(stream), facts=facts | {MOST - before - size})
 
     def any_encrypt(self, filled, rest):
         before, size, stream, more = self.any_crypted(filled, rest)
         numbers, text, sealed = (7, before, 0, ENCRYPTING), self.in_places(self.text, filled), self.in_places(self.sealed, filled)
         texts = Stream("text", size, text, [self.aes.xor(text, stream), sealed], lambda m, number: [0] * 16)
+        after = lambda m: self.message_after(m, numbers, 1, self.sealed, size, filled)
         steps = lambda m: self.any_piece_hash(m, self.sealed, size, filled) if m.phase else ("whole", "text", (sealed,))
-        return self.on_message("encrypt", self.any_before(numbers), lambda m: self.message_after(m, numbers, 1, self.sealed, size, filled),
-                               [texts, size], steps=steps, plain=self.of_all(text), **more)
+        return self.call_on_message("encrypt", self.any_before(numbers), after, [texts, size], steps=steps, plain=self.in_all_blocks(text),
+                                    **more)
 
     def any_decrypt(self, filled, rest):
         before, size, stream, more = self.any_crypted(filled, rest)
         numbers, sealed = (7, before + size + unknown("more"), before, DECRYPTING), self.in_places(self.sealed, filled)
         plain, state = self.aes.xor(sealed, stream), sum(self.before_piece(), [])
         more["facts"] |= {unknown("more"), MOST - numbers[1]}
-        return self.on_message("decrypt", self.any_before(numbers), lambda m: self.counts_after(m, numbers, 2, size) + state,
-                               [Stream("text", size, sealed, plain), size], plain=self.of_all(plain), **more)
+        return self.call_on_message("decrypt", self.any_before(numbers), lambda m: self.counts_after(m, numbers, 2, size) + state,
+                                    [Stream("text", size, sealed, plain), size], plain=self.in_all_blocks(plain), **more)
 
     def any_decrypt_unverified(self, filled, rest):
         """GHASH comes first. Its value, and the part of a block that is left, become arbitrary bytes before blocks are numbered anew."""
         before, size, stream, more = self.any_crypted(filled, rest)
-        numbers, sealed, block = (7, before, 0, VERIFYING), self.in_places(self.sealed, filled), self.once("full block", self.full_block)
+        numbers, sealed = (7, before, 0, VERIFYING), self.in_places(self.sealed, filled)
+        block = self.made_once("full block", self.full_block)
         plain, count = self.aes.xor(sealed, stream), (filled + rest) % 16
 
         def steps(m):
@@ -485,20 +498,21 @@ class KeyedGcm(KeyedHash):
                 return ("nothing", (), ()) if m.phase else self.any_piece_hash(m, self.sealed, size, filled)
             value, left = self.value_in_piece(m, group), sum(self.left_of_piece(m, m.known(size) - count, count), [])
             return ("again", (), ()) if done else ("here", value + left, self.last_value() + 2 * block[:count])
-        return self.on_message("decrypt_unverified", self.any_before(numbers), lambda m: self.counts_after(m, numbers, 1, size)
-                               + self.last_value() + block[:count] + [None] * (16 - count),
-                               [Stream("text", size, sealed, plain), size], steps=steps, plain=self.of_all(plain), **more)
+        return self.call_on_message("decrypt_unverified", self.any_before(numbers), lambda m: self.counts_after(m, numbers, 1, size)
+                                    + self.last_value() + block[:count] + [None] * (16 - count),
+                                    [Stream("text", size, sealed, plain), size], steps=steps, plain=self.in_all_blocks(plain), **more)
 
     def full_block(self):
         return [self.domain.fresh("full block byte %d" % i, DATA) for i in range(16)]
 
     def any_before(self, numbers):
-        return self.counts(*numbers) + self.once("any J_0", self.any_pre_counter)[0] + sum(self.before_piece(), [])
+        """A message before a call: these numbers, any J_0, any value of GHASH, and any part of a block."""
+        return self.counts(*numbers) + self.made_once("any J_0", self.any_pre_counter)[0] + sum(self.before_piece(), [])
 
     def before_piece(self):
         """Any value of GHASH, and any part of a block: bytes of no block, which are kept when blocks are numbered anew."""
         fresh = lambda name: [self.domain.fresh("%s, byte %d" % (name, i), KEY | DATA) for i in range(16)]
-        return self.once("before a piece", lambda: (fresh("value so far"), fresh("part of a block")))
+        return self.made_once("before a piece", lambda: (fresh("value so far"), fresh("part of a block")))
 
     def any_additional(self, filled, rest):
         before, size, facts = self.any_numbers(filled, rest)
@@ -511,22 +525,22 @@ class KeyedGcm(KeyedHash):
 
     def any_taken(self, name, numbers, which, bytes_, size, filled, facts):
         """A piece of which GHASH takes all and nothing is written."""
-        return self.on_message(name, self.any_before(numbers), lambda m: self.message_after(m, numbers, which, bytes_, size, filled),
-                               [Stream("text", size, self.in_places(bytes_, filled)), size], facts=facts,
-                               steps=lambda m: self.any_piece_hash(m, bytes_, size, filled))
+        return self.call_on_message(name, self.any_before(numbers), lambda m: self.message_after(m, numbers, which, bytes_, size, filled),
+                                    [Stream("text", size, self.in_places(bytes_, filled)), size], facts=facts,
+                                    steps=lambda m: self.any_piece_hash(m, bytes_, size, filled))
 
     def decrypt(self, text, before, count, nonce=UNKNOWN, additional=3):
         """Decrypts a piece in place of the encrypted text whose tag was right .. DONE"""
         first = self.nonce_of(*nonce)._replace(behind=isinstance(before, Came))
-        sealed, at = self.many(self.sealed, count, before % 16), before % 16 if first.behind else before
+        sealed, at = self.in_blocks(self.sealed, count, before % 16), before % 16 if first.behind else before
         plain, state = self.crypted(first, sealed, at), lambda n: self.any_state(DECRYPTING, additional, text, first, n)[0]
-        return self.on_message("decrypt", state(before), lambda m: state(self.with_more(m, before, count)),
-                               [Buffer("text", sealed, plain), count], keystream=self.streams(first, count, at), plain=plain)
+        return self.call_on_message("decrypt", state(before), lambda m: state(self.with_more(m, before, count)),
+                                    [Buffer("text", sealed, plain), count], keystream=self.streams(first, count, at), plain=plain)
 
     # Calls on a message of which 16 k + `additional` bytes of additional data and 16 m + `text` bytes of text came before, for every k and
     # m. In the first phase no text came.
     def any_came(self, name, most, rest):
-        """Such a number, `most` at most."""
+        """How many bytes of this came before, `most` at most: 16 n + `rest` for every n."""
         blocks, high, base = unknown("blocks of " + name), unknown("higher word of " + name), self.most + 1
         low, sizes = blocks * 16 + rest, self.domain.sizes
         sizes[blocks] = (min(most, self.most) // 16).bit_length()
@@ -536,12 +550,12 @@ class KeyedGcm(KeyedHash):
         return Came([low, high], low + high * base, rest, {blocks, self.most - low, high, most - low - high * base})
 
     def came_in(self, phase, additional, text):
-        """Both numbers."""
+        """How many bytes of additional data and of text came before."""
         came = self.any_came("additional data", MOST_ADDITIONAL, additional)
         return came, 0 if phase == ADDITIONAL else self.any_came("text", MOST, text)
 
     def after_any(self, call, fact, *came):
-        """A call on a message of which so much came. Its steps are known before it."""
+        """A call on a message of which so much came, with a fact of these numbers besides. Its steps are known before it."""
         call.steps, call.any_length = call.steps and list(call.steps()), True
         call.facts = frozenset({fact}.union(*(n.facts for n in came if n)))
         return call
@@ -568,7 +582,7 @@ class KeyedGcm(KeyedHash):
         return [self.domain.pack(bits[k:k + 8]) for k in range(56, -8, -8)]
 
     def any_end(self, phase, additional, text):
-        """The message before the call and as it is decrypted afterwards, its tag, and what the call needs besides."""
+        """The message before the call, the message from which its text may be decrypted, its tag, and what the call needs besides."""
         a, t = self.came_in(phase, additional, text)
         (so_far, part), filled = self.before_piece(), additional if phase == ADDITIONAL else text
         values = [so_far, *[self.middle_value()] * bool(filled), self.last_value()]
@@ -576,55 +590,97 @@ class KeyedGcm(KeyedHash):
         def steps(m):
             blocks = [part[:filled] + ZEROS[filled:]] * bool(filled) + [self.length_in_bits(m, a) + self.length_in_bits(m, t)]
             return self.group_step(values[m.done], [blocks[m.done]], values[m.done + 1]) if m.done < len(blocks) else ("nothing", (), ())
-        tag = self.aes.xor(self.last_value(), self.once("any J_0", self.any_pre_counter)[1])
+        tag = self.aes.xor(self.last_value(), self.made_once("any J_0", self.any_pre_counter)[1])
         before, after = (self.any_before((a, t, 0, p)) for p in (phase, DECRYPTING))
         return before, after, tag, dict(facts=a.facts | (t.facts if t else set()), steps=steps, any_length=True)
 
     def any_finish(self, phase, additional, text):
         """Ends a message that was encrypted: writes its tag, and overwrites *message with zeros. .. DONE"""
         before, _, tag, more = self.any_end(phase, additional, text)
-        return self.on_message("finish", before, [0] * MESSAGE, [Buffer("tag", self.undefined(16), tag)], **more)
+        return self.call_on_message("finish", before, [0] * MESSAGE, [Buffer("tag", self.undefined(16), tag)], **more)
 
     def any_accept(self, phase, additional, text, length=None):
         """Compares the tag of what has come, without an early exit. If it is right, the encrypted text may come once more, to be decrypted.
         .. REFUSED; else DONE. With a length: Compares a tag of fewer than 16 bytes in the place of fotsgure_gcm_accept"""
         before, after, right, more = self.any_end(phase, additional, text)
-        tag = self.of(self.tag, 0)[:length or 16]
+        tag = self.in_block(self.tag, 0)[:length or 16]
         arguments = [length] * bool(length) + [Buffer("tag", tag), len(tag)]
-        return self.on_message("accept" + "_short" * bool(length), before, after, arguments, reveals=self.aes.xor(tag, right),
-                               refused=REFUSED, **more)
+        return self.call_on_message("accept" + "_short" * bool(length), before, after, arguments, reveals=self.aes.xor(tag, right),
+                                    refused=REFUSED, **more)
 
     # Calls that are refused, for all their arguments: nothing but the status changes, and buffers aren't read, so they have no bytes here.
     def refused(self):
         """.. the call returns the first in the order that it names them."""
-        a, t, n, tag_length = (unknown(name) for name in ("additional", "text", "nonce", "tag"))
-        key, none, tag = self.schedule(), self.no_key(), nothing("tag", False)
-        sizes, word = between(a, 0, self.most) | between(t, 0, self.most), self.most
-        fits = lambda n, most: between(n, 0, min(most, word))
-        passes = lambda n, most: [between(n, most + 1, word)] if word > most else []  # (on 32 bits nothing does)
-        nonces, no_nonces = fits(n, MOST_NONCE) | {n - 1}, [between(n, 0, 0), *passes(n, MOST_NONCE)]
-        long = passes(a, MOST_ADDITIONAL) + [fits(a, MOST_ADDITIONAL) | facts for facts in passes(t, MOST)]
-        short = fits(a, MOST_ADDITIONAL) | fits(t, MOST)
-        text = [nothing("additional", False), a, nothing("text"), t]
-        keys = lambda status, facts: [(aes, status, sizes | also) for aes in (key, none) for also in facts]
-        late = [(none, NO_KEY, sizes | short)]
-        refusals = keys(NONCE_LENGTH, no_nonces) + [(aes, status, facts | nonces) for aes, status, facts in keys(TOO_LONG, long) + late]
-        before = lambda gcm, way: [gcm, nothing("nonce", False), n, nothing("additional", False), a, *unread(way, t, t)]
-        for (gcm, status, facts), way in itertools.product(refusals, ("", "_to")):
-            yield Call("gcm_seal" + way, [*before(gcm, way), nothing("tag")], status, facts=facts)
-            yield Call("gcm_open" + way, [*before(gcm, way), tag, 16], status, facts=facts)
-        for gcm, (length, facts), way in itertools.product((key, none), self.lengths_but((16,), "tag"), ("", "_to")):
-            yield Call("gcm_open" + way, [*before(gcm, way), tag, length], TAG_LENGTH, facts=sizes | between(n, 0, word) | facts)
+        yield from self.whole_refused()
+        yield from self.tag_length_refused()
         yield from self.unequal_refused()
-        for gcm, status, facts in keys(NONCE_LENGTH, no_nonces) + [(none, NO_KEY, nonces)]:
-            yield Call("gcm_begin", [gcm, nothing("message"), nothing("nonce", False), n], status, facts=facts)
-        last, other = self.stays("counter", [255] * 12), self.stays("counter", [*self.nonce[:11], 254])
-        for counter, gcm, status, facts in [(last, *one) for one in keys(NONCES_END, [set()])] + [
-                (other, *one) for one in keys(TOO_LONG, long) + late]:
-            yield Call("gcm_seal_next", [gcm, counter, nothing("nonce"), *text, nothing("tag")], status, facts=facts)
-        for counter, gcm, status in (last, key, NONCES_END), (last, none, NONCES_END), (other, none, NO_KEY):
-            yield Call("gcm_begin_next", [gcm, nothing("message"), counter, nothing("nonce")], status)
+        yield from self.begin_refused()
+        yield from self.next_refused()
         yield from self.pieces_refused()
+
+    def fits(self, length, most):
+        """The facts that a length is one that the standard allows."""
+        return between(length, 0, min(most, self.most))
+
+    def passes(self, length, most):
+        """The ways in which it is longer, as facts. (On 32 bits none is.)"""
+        return [between(length, most + 1, self.most)] if self.most > most else []
+
+    def any_sizes(self):
+        return between(unknown("additional"), 0, self.most) | between(unknown("text"), 0, self.most)
+
+    def with_any_key(self, status, ways):
+        """Refusals for these ways, with a key and without: (gcm, the status, facts)."""
+        return [(gcm, status, self.any_sizes() | facts) for gcm in (self.schedule(), self.no_key()) for facts in ways]
+
+    def nonce_refusals(self):
+        """The facts that a nonce has a length that the standard allows, and the refusals if it doesn't."""
+        n = unknown("nonce")
+        return self.fits(n, MOST_NONCE) | {n - 1}, self.with_any_key(NONCE_LENGTH, [between(n, 0, 0), *self.passes(n, MOST_NONCE)])
+
+    def text_refusals(self):
+        """The refusals where a nonce is right: TOO_LONG, and else NO_KEY."""
+        a, t = unknown("additional"), unknown("text")
+        fits = self.fits(a, MOST_ADDITIONAL)
+        long = self.passes(a, MOST_ADDITIONAL) + [fits | facts for facts in self.passes(t, MOST)]
+        return self.with_any_key(TOO_LONG, long) + [(self.no_key(), NO_KEY, self.any_sizes() | fits | self.fits(t, MOST))]
+
+    def whole_arguments(self, gcm, way):
+        """The arguments before the tag, of which nothing is read."""
+        a, t = unknown("additional"), unknown("text")
+        return [gcm, nothing("nonce", False), unknown("nonce"), nothing("additional", False), a, *unread(way, t, t)]
+
+    def whole_refused(self):
+        """NONCE_LENGTH, TOO_LONG or NO_KEY"""
+        nonces, wrong = self.nonce_refusals()
+        refusals = wrong + [(gcm, status, facts | nonces) for gcm, status, facts in self.text_refusals()]
+        for (gcm, status, facts), way in itertools.product(refusals, ("", "_to")):
+            before = self.whole_arguments(gcm, way)
+            yield Call("gcm_seal" + way, [*before, nothing("tag")], status, facts=facts)
+            yield Call("gcm_open" + way, [*before, nothing("tag", False), 16], status, facts=facts)
+
+    def tag_length_refused(self):
+        """TAG_LENGTH comes before these."""
+        any_nonce = between(unknown("nonce"), 0, self.most)
+        for (gcm, status, facts), (length, also), way in itertools.product(
+                self.with_any_key(TAG_LENGTH, [any_nonce]), self.lengths_but((16,), "tag"), ("", "_to")):
+            arguments = [*self.whole_arguments(gcm, way), nothing("tag", False), length]
+            yield Call("gcm_open" + way, arguments, status, facts=facts | also)
+
+    def begin_refused(self):
+        nonces, wrong = self.nonce_refusals()
+        for gcm, status, facts in [*wrong, (self.no_key(), NO_KEY, nonces)]:
+            yield Call("gcm_begin", [gcm, nothing("message"), nothing("nonce", False), unknown("nonce")], status, facts=facts)
+
+    def next_refused(self):
+        """NONCES_END comes before the others."""
+        last, other = self.stays("counter", [255] * 12), self.stays("counter", [*self.nonce[:11], 254])
+        refusals = [(last, one) for one in self.with_any_key(NONCES_END, [set()])] + [(other, one) for one in self.text_refusals()]
+        text = [nothing("additional", False), unknown("additional"), nothing("text"), unknown("text")]
+        for counter, (gcm, status, facts) in refusals:
+            yield Call("gcm_seal_next", [gcm, counter, nothing("nonce"), *text, nothing("tag")], status, facts=facts)
+        for counter, gcm, status in (last, self.schedule(), NONCES_END), (last, self.no_key(), NONCES_END), (other, self.no_key(), NO_KEY):
+            yield Call("gcm_begin_next", [gcm, nothing("message"), counter, nothing("nonce")], status)
 
     def unequal_refused(self):
         """UNEQUAL_LENGTHS comes before all others."""
@@ -640,13 +696,14 @@ class KeyedGcm(KeyedHash):
         numbers, facts = zip(*map(self.number_of_words, ("hashed", "text", "decrypted")))
         content = [b for n in numbers for b in self.unknown_number(n)]
         content += number(phase, 8)[::-1] if isinstance(phase, int) else self.unknown_number(phase)
-        content += [b for block in range(3) for b in self.of(self.hash_value, block)]
+        content += [b for block in range(3) for b in self.in_block(self.hash_value, block)]
         return self.message(content, content), set().union(*facts)
 
     def pieces_refused(self):
         """A call that comes out of turn is refused and changes nothing, and so is one that would make the message longer than the standard
         allows."""
-        n, (hashed, text, decrypted, phase) = unknown("n"), (self.number_of_words(name)[0] for name in ("hashed", "text", "decrypted", "phase"))
+        n, names = unknown("n"), ("hashed", "text", "decrypted", "phase")
+        hashed, text, decrypted, phase = (self.number_of_words(name)[0] for name in names)
         comes = {"additional": (ADDITIONAL,), "encrypt": (ADDITIONAL, ENCRYPTING), "finish": (ADDITIONAL, ENCRYPTING),
                  "verify": (ADDITIONAL, VERIFYING), "decrypt_unverified": (ADDITIONAL, VERIFYING), "accept": (ADDITIONAL, VERIFYING),
                  "accept_short": (ADDITIONAL, VERIFYING), "decrypt": (DECRYPTING,)}
@@ -654,7 +711,7 @@ class KeyedGcm(KeyedHash):
         others = [(p, set()) for p in range(6)] + [(phase, self.number_of_words("phase")[1] | {phase - 6})]
         for call, phases in comes.items():
             has_tag = call in ("finish", "accept", "accept_short")
-            last = {"finish": [nothing("tag")], "accept": [Buffer("tag", self.of(self.tag, 0)), 16],
+            last = {"finish": [nothing("tag")], "accept": [Buffer("tag", self.in_block(self.tag, 0)), 16],
                     "accept_short": [12, nothing("tag", False), 12]}
             arguments, sizes = last.get(call, [nothing("text"), n]), set() if has_tag else between(n, 0, self.most)
             refusals = [(self.no_key(), p, NO_KEY, facts) for p, facts in others]

@@ -22,7 +22,7 @@ class Hashing:
         for group in groups if not self.keyed.program.narrow else ([block] for group in groups for block in group):
             if any(self.value) or any(map(any, group)):
                 self.made += 1
-                after = self.keyed.of(self.keyed.hash_value, self.made)
+                after = self.keyed.in_block(self.keyed.hash_value, self.made)
                 self.plan.append((self.value, group, after))
                 self.value = after
         return self
@@ -98,18 +98,18 @@ class KeyedHash(Keyed):
         return "hash", functools.partial(self.with_powers, [self.aes.xor(value, blocks[0]), *blocks[1:]]), after
 
     def middle_value(self):
-        return self.once("middle value", lambda: [self.domain.fresh("middle hash byte %d" % i, KEY | DATA) for i in range(16)])
+        return self.made_once("middle value", lambda: [self.domain.fresh("middle hash byte %d" % i, KEY | DATA) for i in range(16)])
 
     def last_value(self):
-        return self.once("last value", lambda: [self.domain.fresh("last hash byte %d" % i, KEY | DATA) for i in range(16)])
+        return self.made_once("last value", lambda: [self.domain.fresh("last hash byte %d" % i, KEY | DATA) for i in range(16)])
 
-    def at_once(self, m, sizes):
+    def blocks_at_once(self, m, sizes):
         """How many blocks GHASH takes at once."""
         return len(self.kept_powers())
 
     def any_hash(self, m, phase, sizes):
         """GHASH of additional data (phase 0) and of a text, each of such a size."""
-        middle, last, many = self.middle_value(), self.last_value(), self.at_once(m, sizes)
+        middle, last, many = self.middle_value(), self.last_value(), self.blocks_at_once(m, sizes)
         if phase > 1:
             return "nothing", (), ()
         if phase == 0:

@@ -14,26 +14,27 @@ class KeyWrap:
         """W (6.1, algorithm 1) on the semiblock `start` and n others, of which `last` is what the last has: its steps, the n, and what
         becomes of all."""
         a, r = self.block_bytes[:8], self.block_bytes[8:]
-        semiblocks = [x for i in range(n) for x in self.of(last if i == n - 1 else r, i)]
+        semiblocks = [x for i in range(n) for x in self.in_block(last if i == n - 1 else r, i)]
 
         def steps():
             for t in range(1, 6 * n + 1):
                 block = self.cipher_of((start if t == 1 else a) + (last if t == n else r))
-                yield self.found_in, self.of(block, t - 1), self.aes.xor(self.of(a, t), number(t, 8)) + self.of(r, t - 1 + n)
-        return steps, semiblocks, self.of(a, 6 * n) + [x for i in range(n) for x in self.of(r, 6 * n + i)]
+                done_a = self.aes.xor(self.in_block(a, t), number(t, 8))
+                yield self.steps_appear_in, self.in_block(block, t - 1), done_a + self.in_block(r, t - 1 + n)
+        return steps, semiblocks, self.in_block(a, 6 * n) + [x for i in range(n) for x in self.in_block(r, 6 * n + i)]
 
     def unwrap_string(self, n, start=None):
         """The inverse of W (6.1, algorithm 2) on n + 1 semiblocks: its steps, the semiblocks, and what becomes of them. With `start` those
         alone whose first semiblock becomes that."""
         a, r = self.block_bytes[:8], self.block_bytes[8:]
-        wrapped = self.aes.xor(self.of(a, 0), number(6 * n, 8)) + [x for i in range(n) for x in self.of(r, n - 1 - i)]
-        start = start or self.of(a, 6 * n)
+        wrapped = self.aes.xor(self.in_block(a, 0), number(6 * n, 8)) + [x for i in range(n) for x in self.in_block(r, n - 1 - i)]
+        start = start or self.in_block(a, 6 * n)
 
         def steps():
             for k in range(1, 6 * n + 1):  # t is 6n + 1 - k
-                done_a = start if k == 6 * n else self.aes.xor(self.of(a, k), number(6 * n - k, 8))
-                yield self.found_in, self.of(self.ciphers["decrypt"], k - 1), done_a + self.of(r, k - 1 + n)
-        key = [x for i in range(n) for x in self.of(r, 7 * n - 1 - i)]
+                done_a = start if k == 6 * n else self.aes.xor(self.in_block(a, k), number(6 * n - k, 8))
+                yield self.steps_appear_in, self.in_block(self.ciphers["decrypt"], k - 1), done_a + self.in_block(r, k - 1 + n)
+        key = [x for i in range(n) for x in self.in_block(r, 7 * n - 1 - i)]
         return steps, wrapped, start, key
 
     def wrap(self, count):
@@ -60,7 +61,7 @@ class KeyWrap:
         return a, r, self.pattern(r, -1), self.pattern(made), [self.semiblock("turn %d" % k) for k in range(1, 7)]
 
     def semiblock(self, name, *of_block):
-        return self.once(name, lambda: [self.domain.fresh("%s, byte %d" % (name, i), DATA, *of_block) for i in range(8)])
+        return self.made_once(name, lambda: [self.domain.fresh("%s, byte %d" % (name, i), DATA, *of_block) for i in range(8)])
 
     def any_turns(self, wraps, count, first, last, alone, start=0):
         """The steps of W, or of its inverse, which begins with A ^ [6n], from phase `start` on; before that the semiblocks are put there.
@@ -85,7 +86,7 @@ class KeyWrap:
             given = alone if n == 1 else first if turn == 0 else turns[turn - 1]
             block = self.cipher_of((a if i != 0 else m.known_bytes(given)) + r, way)
             done_a = m.known_bytes(last) if n == 1 else self.aes.xor(self.at_link(m, a, i + 1), number(n * turn + i + 1))
-            return self.found_in, self.at_link(m, block, i), done_a + [self.domain.moved(b, i - m.first_block) for b in after]
+            return self.steps_appear_in, self.at_link(m, block, i), done_a + [self.domain.moved(b, i - m.first_block) for b in after]
         return steps
 
     def any_wrap(self):
@@ -95,7 +96,7 @@ class KeyWrap:
     def any_wrapping(self, name, key, given, count, first, facts, start=0, **more):
         _, _, _, wrapped, turns = self.semiblocks()
         output = Stream("output", count * 8, self.undefined(8), **{"after": wrapped, **more}, head=(self.undefined(8), turns[5]))
-        return Call(name, [self.schedule(), key, given, output, count + 1], DONE, facts=facts, plain=self.of_all(key.content),
+        return Call(name, [self.schedule(), key, given, output, count + 1], DONE, facts=facts, plain=self.in_all_blocks(key.content),
                     steps=self.any_turns(True, count, first, turns[5], first, start))
 
     def any_unwrap(self):
@@ -107,8 +108,8 @@ class KeyWrap:
         before = self.aes.xor(a, self.highest_first(n * 6, 8))
         input_ = Stream("input", n * 8, wrapped, head=(self.pattern(before, -1), None), backwards=True)
         output = Stream("output", n * 8, self.undefined(8), key, backwards=True)
-        return Call(name, [self.schedule(), input_, n + 1, output, n, *more], DONE, plain=self.of_all(key), facts=facts, reveals=reveals,
-                    steps=self.any_turns(False, n, a, last, before), refused=REFUSED, **refused)
+        return Call(name, [self.schedule(), input_, n + 1, output, n, *more], DONE, plain=self.in_all_blocks(key), facts=facts,
+                    reveals=reveals, steps=self.any_turns(False, n, a, last, before), refused=REFUSED, **refused)
 
     def any_wrap_padded(self, rest):
         """Of 16 k + `rest` bytes, as the code fills up two semiblocks at once; `rest` is from 1 to 16."""
@@ -149,13 +150,13 @@ class KeyWrap:
         is 0. Whatever comes before the length, and after so many bytes, is judged by one branch. `said` is another length in its place,
         with which everything is refused; or one byte of the length, `any_byte`, may have any value, and the same branch judges it."""
         n, padding, r = -(-length // 8), -length % 8, self.block_bytes[8:]
-        start = self.of(self.block_bytes[:4], 6 * n) + number(length if said is None else said, 4)
+        start = self.in_block(self.block_bytes[:4], 6 * n) + number(length if said is None else said, 4)
         reveals = self.aes.xor(start[:4], ICV2)
         if any_byte is not None:
-            start[4 + any_byte], = self.of(self.block_bytes[4 + any_byte:5 + any_byte], 6 * n)
+            start[4 + any_byte], = self.in_block(self.block_bytes[4 + any_byte:5 + any_byte], 6 * n)
             reveals += self.aes.xor(start[4:], number(length, 4))
         if n == 1:
-            wrapped, key = self.block_bytes, self.of(r, 1)
+            wrapped, key = self.block_bytes, self.in_block(r, 1)
             steps = lambda: iter([("memory", self.ciphers["decrypt"], start + key)])
         else:
             steps, wrapped, _, key = self.unwrap_string(n, start)

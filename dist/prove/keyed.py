@@ -39,24 +39,25 @@ class Keyed:
         narrow = program.narrow
         self.room, self.word = (120 * narrow, 2 * narrow) if narrow else SCHEDULE
         self.length_size = narrow or 4
-        self.found_in = "vector" if program.machine.vector_count else "block"  # what a step gives
+        self.steps_appear_in = "vector" if program.machine.vector_count else "block"  # what a step gives
         self.kept_size = self.length_size + self.room  # the key's length, and the round keys for encryption
         self.struct_size = self.size_of_struct()
         self.key_domain, self.domain = Domain(), Domain()
         self.key_aes, self.aes = Aes(self.key_domain), Aes(self.domain)
         self.key = [self.key_domain.fresh("key[%d]" % i, KEY) for i in range(key_size)]
         self.key_words = self.key_aes.key_expansion(self.key)
-        self.w = [[self.domain.fresh("w[%d][%d]" % (i, k), KEY) for k in range(4)] for i in range(len(self.key_words))]
+        self.round_key_words = [[self.domain.fresh("w[%d][%d]" % (i, k), KEY) for k in range(4)] for i in range(len(self.key_words))]
         self.name_round_keys()
         self.block_bytes = [self.domain.fresh("byte %d" % i, DATA, True) for i in range(16)]
-        self.ciphers = {"encrypt": self.aes.cipher(self.block_bytes, self.w), "decrypt": self.aes.inv_cipher(self.block_bytes, self.w)}
+        self.ciphers = {"encrypt": self.aes.cipher(self.block_bytes, self.round_key_words),
+                        "decrypt": self.aes.inv_cipher(self.block_bytes, self.round_key_words)}
         self.kept, self.calls = {}, set()
 
     def name_round_keys(self):
         """Names all bytes of round keys and of their InvMixColumns in the key's domain, and keeps what each is for any round keys."""
         self.meaning = {}
-        for r in range(len(self.w) // 4):
-            a, b = self.key_aes.round_key(self.key_words, r), self.aes.round_key(self.w, r)
+        for r in range(len(self.round_key_words) // 4):
+            a, b = self.key_aes.round_key(self.key_words, r), self.aes.round_key(self.round_key_words, r)
             mixed = zip(self.key_aes.inv_mix_columns(a), self.aes.inv_mix_columns(b))
             for x, y in list(zip(a, b)) + list(mixed):
                 self.meaning[self.key_domain.name(x, "round key byte")] = self.domain.bits(y)
@@ -86,7 +87,7 @@ class Keyed:
             self.calls.add(call.name)
         return m
 
-    def once(self, what, make):
+    def made_once(self, what, make):
         """What several statements need, made when it is first asked for."""
         if what not in self.kept:
             self.kept[what] = make()
@@ -95,11 +96,11 @@ class Keyed:
     def undefined(self, count):
         return [self.domain.undefined] * count
 
-    def of(self, bytes_, block):
+    def in_block(self, bytes_, block):
         """Functions of block 0's bytes, as functions of this block's bytes."""
         return [self.domain.byte_in_block(x, block + 1) for x in bytes_]
 
-    def many(self, bytes_, count, start=0):
+    def in_blocks(self, bytes_, count, start=0):
         """`count` bytes, in blocks from the place `start` on."""
         return [self.domain.byte_in_block(bytes_[i % 16], i // 16 + 1) for i in range(start, start + count)]
 
@@ -119,7 +120,7 @@ class Keyed:
         if self.struct[:start] != number(self.key_size, start)[::-1]:
             raise Unproved("the struct has another length")
         for at in range(start, end, self.room):
-            if any(self.struct[at + self.word * len(self.w):at + self.room]):
+            if any(self.struct[at + self.word * len(self.round_key_words):at + self.room]):
                 raise Unproved("the struct holds more than round keys and zeros")
         return m
 
@@ -174,7 +175,7 @@ class Keyed:
         """Functions of the bytes of block 1, as those of a block with this number."""
         return [self.domain.moved(b, number - m.first_block) for b in self.pattern(bytes_)]
 
-    def of_all(self, pattern):
+    def in_all_blocks(self, pattern):
         """The bytes of a pattern in all blocks that may occur."""
         numbers = {n for b in pattern for n in self.domain.blocks(b)}
         return [self.domain.moved(b, k) for b in pattern for k in range(1 - min(numbers), LAST - max(numbers))]

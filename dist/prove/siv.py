@@ -35,7 +35,7 @@ class KeyedSiv(KeyedHash):
         """Prepares a key in *siv (KeyExpansion, FIPS 197, 5.2). *siv may be uninitialized: none of it is read. Nothing of what it held is
         left. DONE if key_length is 16 or 32"""
         m = super().set_key(seed)
-        self.once("message", self.make_message)
+        self.made_once("message", self.make_message)
         return m
 
     # What a message has.
@@ -49,9 +49,9 @@ class KeyedSiv(KeyedHash):
         self.expanded = self.aes.key_expansion(keys[16:])
         for b in sum(self.expanded, []):
             d.name(b, "message round key byte")
-        self.message_w = [self.fresh("message w[%d]" % i, KEY, 4) for i in range(len(self.w))]
+        self.message_w = [self.fresh("message w[%d]" % i, KEY, 4) for i in range(len(self.round_key_words))]
         # POLYVAL(H, X_1, ..) is GHASH of blocks whose bytes are reversed (appendix A): a step of both, for all H and X.
-        h, x = keys[:16], self.of(self.text, 0)
+        h, x = keys[:16], self.in_block(self.text, 0)
         factor = mulx_ghash(d, h[::-1])
         compare(d, dot(d, x, h)[::-1], product(d, x[::-1], factor), "a product of appendix A")
         self.powers = [factor] + [self.fresh("power %d" % n, KEY) for n in self.kept_powers()[1:]]
@@ -67,14 +67,14 @@ class KeyedSiv(KeyedHash):
     def stored(self, words):
         """What set_key stores of such round keys: of each byte a linear function of one of them, and perhaps a constant."""
         d = self.domain
-        of = {d.cell_of(w)[0]: b for w, b in zip(sum(self.w, []), sum(words, []))}
+        of = {d.cell_of(w)[0]: b for w, b in zip(sum(self.round_key_words, []), sum(words, []))}
         image = lambda x: d.linear_image(x, lambda cell: d.bits(of[cell]), d)
         return [d.pack([image(x) for x in d.bits(s)]) for s in self.struct[self.length_size:][:self.word * len(words)]]
 
     def derivation(self, few):
         """derive_keys (4): blocks of a number of 32 bits, the lowest byte first, and the nonce."""
         inputs = [little(i, 4) + self.nonce for i in range(len(self.derived))]
-        blocks = self.once("blocks", lambda: [self.aes.cipher(block, self.w) for block in inputs])
+        blocks = self.made_once("blocks", lambda: [self.aes.cipher(block, self.round_key_words) for block in inputs])
         yield "memory", sum(blocks, []), sum(self.derived, [])
         for power, after in () if few else zip(self.powers, self.powers[1:]):
             yield "hash", functools.partial(self.with_powers, [power]), after
@@ -95,7 +95,7 @@ class KeyedSiv(KeyedHash):
         block = self.aes.xor(value[::-1], self.nonce + [0] * 4)
         block[15] = self.domain.and_byte(block[15], 127)
         any_ = [b if b < 256 else t for b, t in zip(block, self.tag_input)]
-        return block, any_, self.once(("tag", *any_), lambda: self.aes.cipher(any_, self.message_w))
+        return block, any_, self.made_once(("tag", *any_), lambda: self.aes.cipher(any_, self.message_w))
 
     def first_counter(self, tag):
         """The tag with its highest bit set."""
@@ -104,12 +104,12 @@ class KeyedSiv(KeyedHash):
 
     def crypted_by_tag(self, text):
         """AES_CTR (4): block i has the number that the tag begins with, the lowest byte first, plus i, modulo 2^32."""
-        return self.aes.xor(text, [b for i in range(len(text) // 16 + 1) for b in self.of(self.own_stream, i)])
+        return self.aes.xor(text, [b for i in range(len(text) // 16 + 1) for b in self.in_block(self.own_stream, i)])
 
     def seal(self, additional_length, text_length, way=""):
         """Encrypts `text_length` bytes in place under a nonce that the caller brings, and writes the tag .. (RFC 8452, 4). .. DONE. With
         _to: The same from one buffer to another of the same length"""
-        additional, text = self.many(self.additional_bytes, additional_length), self.many(self.text, text_length)
+        additional, text = self.in_blocks(self.additional_bytes, additional_length), self.in_blocks(self.text, text_length)
         few, hashing = self.polyval(additional, text)
         block, any_block, tag = self.tagged(hashing.value)
 
@@ -128,8 +128,8 @@ class KeyedSiv(KeyedHash):
         """Decrypts `text_length` bytes in place if the tag is right (RFC 8452, 5). The tag can be compared only once the text is decrypted,
         so a text that is refused is encrypted again: it is proved that it is, when the call returns, as it was. .. REFUSED; else DONE. With
         _to: The same from one buffer to another of the same length .. After REFUSED the output is all zeros"""
-        additional, sealed = self.many(self.additional_bytes, additional_length), self.many(self.sealed, text_length)
-        text = self.many(self.text, text_length)
+        additional, sealed = self.in_blocks(self.additional_bytes, additional_length), self.in_blocks(self.sealed, text_length)
+        text = self.in_blocks(self.text, text_length)
         few, hashing = self.polyval(additional, text)
         block, any_block, right = self.tagged(hashing.value)
         place = "output" if way else "text"
@@ -165,8 +165,8 @@ class KeyedSiv(KeyedHash):
     def any_lengths(self, m, sizes):
         return super().any_lengths(m, sizes[::-1])
 
-    def at_once(self, m, sizes):
-        return 1 if m.is_below(m.known(sizes[0] + sizes[1]), FEW + 1) else super().at_once(m, sizes)
+    def blocks_at_once(self, m, sizes):
+        return 1 if m.is_below(m.known(sizes[0] + sizes[1]), FEW + 1) else super().blocks_at_once(m, sizes)
 
     def any_seal(self, additional, text, way=""):
         sizes, plain, sealed, tag = self.any_texts(additional, text)
@@ -184,25 +184,25 @@ class KeyedSiv(KeyedHash):
         return self.any_message(
             "open", way, sizes, sealed, opened, [self.first_counter(tag), ("whole", place, (plain, undone, True))],
             lambda m: [("memory", *right(m)[:2]), self.first_counter(tag), *zeros], Buffer("tag", tag), plain + opened,
-            reveals=lambda m: self.aes.xor(tag, right(m)[2]), refused=REFUSED, undone=True, between=self.of_all(undone))
+            reveals=lambda m: self.aes.xor(tag, right(m)[2]), refused=REFUSED, undone=True, between=self.in_all_blocks(undone))
 
     def any_texts(self, additional, text):
         """The sizes, the patterns of a plain text and of what is made of it, and the tag."""
         plain = self.pattern(self.text)
         sealed = self.aes.xor(plain, self.pattern(self.own_stream))
-        return (unknown("a") * 48 + additional, unknown("n") * 768 + text), plain, sealed, self.once("any own tag", self.any_own_tag)
+        return (unknown("a") * 48 + additional, unknown("n") * 768 + text), plain, sealed, self.made_once("any own tag", self.any_own_tag)
 
     def any_message(self, name, way, sizes, content, want, first, last, tag, plain, **more):
         """A call of which the steps are the derivation of keys and those of `first`, GHASH, and those of `last`."""
         def steps(m):
             if m.phase in (1, 2):
                 return self.any_hash(m, m.phase - 1, sizes)
-            phase = [*self.derivation(self.at_once(m, sizes) == 1), *first] if m.phase == 0 else last(m) if m.phase == 3 else []
+            phase = [*self.derivation(self.blocks_at_once(m, sizes) == 1), *first] if m.phase == 0 else last(m) if m.phase == 3 else []
             return phase[m.done] if m.done < len(phase) else ("nothing", (), ())
         additional = Stream("additional", sizes[0], self.pattern(self.additional_bytes))
         arguments = [self.schedule(), Buffer("nonce", self.nonce), additional, sizes[0],
                      *self.streams_of(way, "text", sizes[1], sizes[1], content, want), tag]
-        return Call("gcm_siv_" + name + way, arguments, DONE, steps=steps, counter=COUNTER, plain=self.of_all(plain),
+        return Call("gcm_siv_" + name + way, arguments, DONE, steps=steps, counter=COUNTER, plain=self.in_all_blocks(plain),
                     facts={unknown("a"), unknown("n"), *(MOST - size for size in sizes)}, **more)
 
     def refused(self):

@@ -78,7 +78,7 @@ def evaluate(keyed, call, key, given):
     computed. If it goes step by step, the arbitrary bytes after a step get the values of what they stand for."""
     plain, values = Aes(Domain()), Values(keyed.domain, random.Random(1), call.counter)
     words = plain.key_expansion(list(key))
-    known = list(zip(words, keyed.w))
+    known = list(zip(words, keyed.round_key_words))
     if keyed.library == "gcm":
         power = h = plain.cipher([0] * 16, words)
         for cells in keyed.powers:
