@@ -98,7 +98,7 @@ class KeyedSiv(KeyedHash):
         return block, any_, self.made_once(("tag", *any_), lambda: self.aes.cipher(any_, self.message_w))
 
     def first_counter(self, tag):
-        """The tag with its highest bit set."""
+        """The step that makes the first counter block: the tag with its highest bit set."""
         same, last = tag[:15], tag[15]
         return "memory", same + [self.domain.or_byte(last, 128)], same + [self.highest]
 

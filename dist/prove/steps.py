@@ -1,4 +1,23 @@
-"""Calls in which each step depends on the last one: a result that is what it has to be becomes arbitrary bytes."""
+"""Calls in which each step depends on the last one. The steps of a call are triples: where a result is looked for, what it has to be (or a
+function that makes that), and arbitrary bytes. When the result is there, these bytes take its place everywhere, so what is proved from
+there on holds for any result. A result is looked for in:
+
+    "vector"    a vector register
+    "memory"    what was written last
+    "place"     the same, but the bytes change there alone, so even constants become arbitrary
+    "hash"      a vector register, or general registers as words in either order of bytes. Products of bits are then forgotten: what still
+                depends on them is lost, and may not even be left
+    "block"     all of these but "place"
+    "kept"      memory outside of Streams
+    a name      the region of this name
+
+In a call of any length the steps may be a function of the machine, which also returns one of these:
+
+    "here"      the result is there
+    "again"     another phase begins, in which blocks have new numbers
+    "whole"     the same, as soon as all of a buffer is done
+    "refused"   the same, when the call will return that it refuses
+    "nothing"   what comes next isn't known"""
 import functools
 
 from bits import DATA, KEY, LOST, Unproved
@@ -8,26 +27,7 @@ from regions import Window
 
 
 def step_by_step(steps):
-    """A watch for calls in which each step depends on the last one. `steps` has triples: where a result is looked for, what it has to be
-    (or a function that makes that), and arbitrary bytes. When the result is there, these bytes take its place everywhere, so what is
-    proved from there on holds for any result. A result is looked for in:
-
-        "vector"    a vector register
-        "memory"    what was written last
-        "place"     the same, but the bytes change there alone, so even constants become arbitrary
-        "hash"      a vector register, or general registers as words in either order of bytes. Products of bits are then forgotten: what
-                    still depends on them is lost, and may not even be left
-        "block"     all of these but "place"
-        "kept"      memory outside of Streams
-        a name      the region of this name
-
-    In a call of any length `steps` is a function of the machine, which also returns one of these:
-
-        "here"      the result is there
-        "again"     another phase begins, in which blocks have new numbers
-        "whole"     the same, as soon as all of a buffer is done
-        "refused"   the same, when the call will return that it refuses
-        "nothing"   what comes next isn't known"""
+    """What is called after each instruction: it looks for the result of the next step."""
     steps = steps if callable(steps) else list(steps)
 
     def watch(m):
