@@ -113,15 +113,15 @@ OF_WORDS = {X86_64: (9, 41, 42), AARCH64: (311, 312)}  # those that lead to a wo
 
 
 class Comparison:
-    """Of a shared library with the objects that were linked into it: from each export on, of all that it leads to."""
+    """Compares a shared library with the objects that were linked into it: from each export on, all that it leads to."""
 
     def __init__(self, library, objects):
         self.library, self.objects = library, objects
         self.fields, self.of_words = FIELDS[library.machine], OF_WORDS[library.machine]
         self.placed, self.waiting = {}, []  # {(object, number of a section): its address in the library}
 
-    def of(self, exports, kind=DYNAMIC_SYMBOLS):
-        """exports: {name in the library: name in an object}; by its symbols of this kind."""
+    def compare_exports(self, exports, kind=DYNAMIC_SYMBOLS):
+        """`exports`: {name in the library: name in an object}, by the library's symbols of this kind."""
         have = {s.name: s for s in self.library.all_symbols(kind) if s.section != UNDEFINED}
         for name, of_object in exports.items():
             if name not in have:

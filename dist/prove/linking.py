@@ -121,7 +121,7 @@ def exports_of(path, suffix):
 
 def compared(library, exports, objects):
     """Compares a shared library with objects, from its exports on."""
-    Comparison(Elf(library), [Elf(path) for path in objects]).of(exports)
+    Comparison(Elf(library), [Elf(path) for path in objects]).compare_exports(exports)
 
 
 def fault_of(check, *arguments):
@@ -161,7 +161,7 @@ def compare_in_rust(build, text, member, out):
     exports = {name: name.rpartition(".")[2] + suffix for name in Elf(out + ".rust.o").exports}
     if sorted(exports.values()) != sorted(Elf(member).exports):
         raise Unproved("%s has other exports in a Rust crate" % text)
-    Comparison(Elf(out + ".rust.so"), [Elf(member)]).of(exports, SYMBOLS)
+    Comparison(Elf(out + ".rust.so"), [Elf(member)]).compare_exports(exports, SYMBOLS)
 
 
 def built_cases(built):
