@@ -57,6 +57,20 @@ def composed(table, tables):
     return [sum((entries[v] >> j & 1) << v for v in range(256)) for j in range(8)]
 
 
+@functools.lru_cache(None)
+def affine_columns(table, constant, variable):
+    """What each of these bits of an index adds, if the table is an affine map of them where the others are those of `constant`; or None."""
+    columns = [table[constant | 1 << i] ^ table[constant] for i in variable]
+    for s in range(1 << len(variable)):
+        at, value = constant, table[constant]
+        for k, i in enumerate(variable):
+            if s >> k & 1:
+                at, value = at | 1 << i, value ^ columns[k]
+        if table[at] != value:
+            return None
+    return columns
+
+
 def linear_bits(table):
     """The bits of a cell of which a truth table is the sum."""
     bits = [j for j in range(8) if table >> (1 << j) & 1]
@@ -72,7 +86,7 @@ class Forms:
         # Of cells, by their numbers: names, whether each block has one, and what they depend on.
         self.names, self.of_block, self.depends = [], [], []
         # Forms, ((cell, table), ..), by their numbers; the number of each; each pair once; whether a form has cells of a block.
-        self.forms, self.ids, self.interned, self.has_block = [None], {}, {}, [False]
+        self.forms, self.ids, self.interned, self.has_block = [()], {(): 0}, {}, [False]
         self.xors = {}  # sums that were computed once, by their numbers
         self.bits_of, self.byte_ids = [None] * 256, {}
         self.blocks_of = {}  # those of a byte, when it was asked for them
@@ -239,11 +253,12 @@ class Forms:
                     del form[c]
                 else:
                     form[c] = self.pair(c, form[c][1] ^ t)
-            n = self.xors[key] = self.intern(form.values()) if form else 0
+            n = self.xors[key] = self.intern(form.values())
         return (n << 9 | (bx | by if self.has_block[n] else 0) if n else 0) | (x ^ y) & 1
 
     # Sums over several blocks, as transposing makes them: for each block the form without keys, and for 0 the part of keys.
     def parts(self, x):
+        """The forms of which a bit is the sum, each with its block: of a bit of one block there is one, perhaps with cells of keys too."""
         if x < 2:
             return ()
         if x & BLOCK == BLOCK:
@@ -251,20 +266,24 @@ class Forms:
         if x & BLOCK == OF_PRODUCT:
             linear, pairs = self.products[x >> 9]
             return [part for y in (linear, *map(self.numbered_bit, self.factors(pairs))) for part in self.parts(y)]
+        return [((x & BLOCK) >> 1, x >> 9)]
+
+    def halved(self, x):
+        """The same, the part of keys for itself."""
+        if x < 2 or x & BLOCK == BLOCK:
+            return self.parts(x)
         n = x >> 9
-        halves = self.halves.get(n)
-        if halves is None:
-            form = self.forms[n]
-            parts = ([pair for pair in form if self.of_block[pair[0]] is own] for own in (True, False))
-            halves = self.halves[n] = tuple(self.intern(part) if part else 0 for part in parts)
-        return [(block, n) for block, n in zip(((x & BLOCK) >> 1, 0), halves) if n]
+        if n not in self.halves:
+            parts = ([pair for pair in self.forms[n] if self.of_block[pair[0]] is own] for own in (True, False))
+            self.halves[n] = [*map(self.intern, parts)]
+        return [(block, n) for block, n in zip(((x & BLOCK) >> 1, 0), self.halves[n]) if n]
 
     def mix(self, x, y):
         key = (x & ~1, y & ~1)
         z = self.mixed_xors.get(key)
         if z is None:
-            sums = dict(self.parts(x))
-            for block, n in self.parts(y):
+            sums = dict(self.halved(x))
+            for block, n in self.halved(y):
                 n = self.xor(n << 9, sums.pop(block) << 9) >> 9 if block in sums else n
                 if n:
                     sums[block] = n
