@@ -102,7 +102,7 @@ class Domain(Forms, Products, Names):
     def lookup(self, table, index):
         """table[index] for a constant table (a tuple of 2^k bytes) and the k bits of an index."""
         block = self.one_block(index)
-        key = (table, tuple(b & ~BLOCK if b > 1 else b for b in index))
+        key = (table, tuple([b & ~BLOCK for b in index]))
         c = self.lookups.get(key)
         if c is None:
             c = self.lookups[key] = self.affine(*key)
@@ -128,9 +128,10 @@ class Domain(Forms, Products, Names):
             raise Unproved("a block whose number is too large")
         if not self.symbolic(byte):
             return byte
-        if not block and any(self.has_block[b >> 9] for b in self.bits_of[byte] if b > 1):
+        has_block, bits = self.has_block, self.bits_of[byte]
+        if not block and any([has_block[b >> 9] for b in bits]):
             raise Unproved("a block before the first one")  # 0 means cells of keys alone
-        return self.pack([self.in_block(b, block) for b in self.bits_of[byte]])
+        return self.pack([b & ~BLOCK | block << 1 if has_block[b >> 9] else b for b in bits])
 
     def moved(self, byte, by):
         """The same function of the cells of other blocks, whose numbers are so much higher."""

@@ -6,8 +6,8 @@ from bits import BLOCK, LINEAR, ONES, Unproved
 
 class Names:
     def __init__(self):
-        # By the cells of sums, the cells that have names; by forms, the ways to write them (`single`), and by their cells, which ones were asked
-        # for these; and by the cell with a name, the bits that it stands for and their cells, with places for their tables.
+        # By the cells of sums, the cells that have names; by forms, the ways to write them (`single`), and by cells, which forms of these were
+        # asked for; and by the cell with a name, the bits that it stands for and their cells, with places for their tables.
         self.by_cells, self.ways, self.asked, self.definitions, self.defined_by = {}, {}, {}, {}, {}
 
     def define(self, cell, bits):
@@ -55,13 +55,11 @@ class Names:
             cells = tuple([c for c, _ in form])
             ways = self.ways[n] = dict(self.named(form, cells)) if cells in self.by_cells else {}
             self.asked.setdefault(cells, []).append(n)
+            last, t = form[-1]  # if a cell stands for the others, it is newer than these
             if len(form) == 1:
-                ways[cells[0]] = form[0][1]
-                return ways
-            for k, (c, t) in enumerate(form):
-                rest = cells[:k] + cells[k + 1:]
-                if rest in self.by_cells:
-                    ways.update((cell, t ^ table) for cell, table in self.named(form[:k] + form[k + 1:], rest) if cell == c)
+                ways[last] = t
+            elif cells[:-1] in self.by_cells:
+                ways.update((cell, t ^ table) for cell, table in self.named(form[:-1], cells[:-1]) if cell == last)
         return ways
 
     def common(self, bits):
