@@ -26,6 +26,7 @@ if sys.version_info < (3, 11):
 KEY, DATA, PUBLIC = 1, 2, 4  # what a cell depends on
 ONES = (1 << 256) - 1
 LINEAR = [sum((v >> j & 1) << v for v in range(256)) for j in range(8)]  # the truth table of bit j of a cell
+CONSTANTS = [tuple([v >> j & 1 for j in range(8)]) for v in range(256)]  # the bits of constant bytes
 BLOCK = 255 << 1
 MIXED = 255  # in the place of a block: a sum of bits of several blocks, an entry of `mixed`
 PRODUCT = 254  # the same: a bit, plus products of two bits of cells, an entry of `products`
@@ -57,6 +58,20 @@ def composed(table, tables):
     return [sum((entries[v] >> j & 1) << v for v in range(256)) for j in range(8)]
 
 
+@functools.lru_cache(None)
+def affine_columns(table, constant, variable):
+    """What each of these bits of an index adds, if the table is an affine map of them where the others are those of `constant`; or None."""
+    columns = [table[constant | 1 << i] ^ table[constant] for i in variable]
+    for s in range(1 << len(variable)):
+        at, value = constant, table[constant]
+        for k, i in enumerate(variable):
+            if s >> k & 1:
+                at, value = at | 1 << i, value ^ columns[k]
+        if table[at] != value:
+            return None
+    return columns
+
+
 def linear_bits(table):
     """The bits of a cell of which a truth table is the sum."""
     bits = [j for j in range(8) if table >> (1 << j) & 1]
@@ -71,10 +86,10 @@ class Forms:
     def __init__(self):
         # Of cells, by their numbers: names, whether each block has one, and what they depend on.
         self.names, self.of_block, self.depends = [], [], []
-        # Forms, ((cell, table), ..), by their numbers; the number of each; each pair once; whether a form has cells of a block.
-        self.forms, self.ids, self.interned, self.has_block = [None], {}, {}, [False]
+        # Forms, ((cell, table), ..), by their numbers; the number of each; whether a form has cells of a block.
+        self.forms, self.ids, self.has_block = [()], {(): 0}, [False]
         self.xors = {}  # sums that were computed once, by their numbers
-        self.bits_of, self.byte_ids = [None] * 256, {}
+        self.bits_of, self.byte_ids = [None] * 256, {bits: byte for byte, bits in enumerate(CONSTANTS)}
         self.blocks_of = {}  # those of a byte, when it was asked for them
         self.placed = {}  # of counters of a call of any length: a function of a block's number and k to the bits of byte k
         self.opaque_names, self.opaque_of = {}, {}
@@ -123,14 +138,12 @@ class Forms:
         return self.opaque_names[name]
 
     def pack(self, bits):
-        if max(bits) < 2:
-            return sum(b << j for j, b in enumerate(bits))
         bits = tuple(bits)
         byte = self.byte_ids.get(bits)
         if byte is None:
             byte = self.byte_ids[bits] = len(self.bits_of)
             self.bits_of.append(bits)
-            if self.products and any(b & BLOCK == OF_PRODUCT for b in bits):
+            if self.products and any([b & BLOCK == OF_PRODUCT for b in bits]):
                 self.with_products.add(byte)
         return byte
 
@@ -140,7 +153,7 @@ class Forms:
 
     def bits(self, byte):
         if byte < 256:
-            return tuple(byte >> j & 1 for j in range(8))
+            return CONSTANTS[byte]
         if self.bits_of[byte] is None:
             if self.opaque_of[byte] not in (UNDEFINED, LOST):
                 raise Pause("computes with a byte of which only the name is known: " + self.describe(byte))
@@ -190,28 +203,24 @@ class Forms:
 
     # Bits.
     def one_block(self, bits):
-        blocks = {b & BLOCK for b in bits if b > 1} - {0}
+        blocks = {b & BLOCK for b in bits} - {0}
         if len(blocks) > 1 or MIXED << 1 in blocks or OF_PRODUCT in blocks:
             raise Unproved("a product of bits of different blocks")
         return blocks.pop() >> 1 if blocks else 0
 
     def in_block(self, x, block):
         """The same function of the cells of this block, which is less than PRODUCT (see byte_in_block)."""
-        return x & ~BLOCK | block << 1 if x > 1 and self.has_block[x >> 9] else x
+        return x & ~BLOCK | block << 1 if self.has_block[x >> 9] else x
 
-    def intern(self, pairs):
-        """The number of a form: some (cell, table)."""
-        key = tuple(sorted(pairs))
+    def intern(self, form):
+        """The number of a form, {cell: (cell, table)}."""
+        key = tuple(sorted(form.values()))
         n = self.ids.get(key)
         if n is None:
             n = self.ids[key] = len(self.forms)
             self.forms.append(key)
-            self.has_block.append(any([self.of_block[c] for c, _ in key]))
+            self.has_block.append(any(map(self.of_block.__getitem__, form)))
         return n
-
-    def pair(self, cell, table):
-        """Kept once, as there are few of them."""
-        return self.interned.setdefault((cell, table), (cell, table))
 
     def bit(self, cell, table, block):
         """The bit that is the given function of one cell."""
@@ -219,7 +228,7 @@ class Forms:
         table ^= ONES * complement
         if not table:
             return complement
-        n = self.ids.get(((cell, table),)) or self.intern([self.pair(cell, table)])
+        n = self.ids.get(((cell, table),)) or self.intern({cell: (cell, table)})
         return self.in_block(n << 9 | complement, block)
 
     def xor(self, x, y):
@@ -239,12 +248,13 @@ class Forms:
                 elif form[c][1] == t:
                     del form[c]
                 else:
-                    form[c] = self.pair(c, form[c][1] ^ t)
-            n = self.xors[key] = self.intern(form.values()) if form else 0
+                    form[c] = c, form[c][1] ^ t
+            n = self.xors[key] = self.intern(form)
         return (n << 9 | (bx | by if self.has_block[n] else 0) if n else 0) | (x ^ y) & 1
 
     # Sums over several blocks, as transposing makes them: for each block the form without keys, and for 0 the part of keys.
     def parts(self, x):
+        """The forms of which a bit is the sum, each with its block: of a bit of one block there is one, perhaps with cells of keys too."""
         if x < 2:
             return ()
         if x & BLOCK == BLOCK:
@@ -252,20 +262,24 @@ class Forms:
         if x & BLOCK == OF_PRODUCT:
             linear, pairs = self.products[x >> 9]
             return [part for y in (linear, *map(self.numbered_bit, self.factors(pairs))) for part in self.parts(y)]
+        return [((x & BLOCK) >> 1, x >> 9)]
+
+    def halved(self, x):
+        """The same, the part of keys for itself."""
+        if x < 2 or x & BLOCK == BLOCK:
+            return self.parts(x)
         n = x >> 9
-        halves = self.halves.get(n)
-        if halves is None:
-            form = self.forms[n]
-            parts = ([pair for pair in form if self.of_block[pair[0]] is own] for own in (True, False))
-            halves = self.halves[n] = tuple(self.intern(part) if part else 0 for part in parts)
-        return [(block, n) for block, n in zip(((x & BLOCK) >> 1, 0), halves) if n]
+        if n not in self.halves:
+            parts = ({pair[0]: pair for pair in self.forms[n] if self.of_block[pair[0]] is own} for own in (True, False))
+            self.halves[n] = [*map(self.intern, parts)]
+        return [(block, n) for block, n in zip(((x & BLOCK) >> 1, 0), self.halves[n]) if n]
 
     def mix(self, x, y):
         key = (x & ~1, y & ~1)
         z = self.mixed_xors.get(key)
         if z is None:
-            sums = dict(self.parts(x))
-            for block, n in self.parts(y):
+            sums = dict(self.halved(x))
+            for block, n in self.halved(y):
                 n = self.xor(n << 9, sums.pop(block) << 9) >> 9 if block in sums else n
                 if n:
                     sums[block] = n

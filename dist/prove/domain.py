@@ -1,7 +1,7 @@
 """All that is done with symbolic bits and bytes: a domain has the cells of one proof."""
 import functools
 
-from bits import BLOCK, OF_PRODUCT, PRODUCT, Forms, Unproved, composed, linear_bits
+from bits import BLOCK, OF_PRODUCT, PRODUCT, Forms, Unproved, affine_columns, composed, linear_bits
 from names import Names
 from products import Products
 
@@ -25,7 +25,7 @@ class Domain(Forms, Products, Names):
         if x & ~1 in self.factor_bits:
             return self.dot([x], [y])
         key = (x & ~BLOCK, y & ~BLOCK)
-        block = self.one_block((x, y))
+        block = (x & BLOCK) >> 1 if x & BLOCK == y & BLOCK < OF_PRODUCT else self.one_block((x, y))
         z = self.ands.get(key)
         if z is None:
             cell, (t, u) = self.common(key)
@@ -102,7 +102,7 @@ class Domain(Forms, Products, Names):
     def lookup(self, table, index):
         """table[index] for a constant table (a tuple of 2^k bytes) and the k bits of an index."""
         block = self.one_block(index)
-        key = (table, tuple(b & ~BLOCK if b > 1 else b for b in index))
+        key = (table, tuple([b & ~BLOCK for b in index]))
         c = self.lookups.get(key)
         if c is None:
             c = self.lookups[key] = self.affine(*key)
@@ -114,15 +114,10 @@ class Domain(Forms, Products, Names):
     def affine(self, table, index):
         """The same, if the table is an affine map of those bits of the index that vary: then no cell is needed."""
         constant = sum(b << i for i, b in enumerate(index) if b < 2)
-        variable = [i for i, b in enumerate(index) if b > 1]
-        columns = [table[constant | 1 << i] ^ table[constant] for i in variable]
-        for s in range(1 << len(variable)):
-            at, value = constant, table[constant]
-            for k, i in enumerate(variable):
-                if s >> k & 1:
-                    at, value = at | 1 << i, value ^ columns[k]
-            if table[at] != value:
-                return None
+        variable = tuple([i for i, b in enumerate(index) if b > 1])
+        columns = affine_columns(table, constant, variable)
+        if columns is None:
+            return None
         bits = list(self.bits(table[constant]))
         for i, column in zip(variable, columns):
             bits = [self.xor(b, index[i]) if column >> j & 1 else b for j, b in enumerate(bits)]
@@ -133,9 +128,10 @@ class Domain(Forms, Products, Names):
             raise Unproved("a block whose number is too large")
         if not self.symbolic(byte):
             return byte
-        if not block and any(self.has_block[b >> 9] for b in self.bits_of[byte] if b > 1):
+        has_block, bits = self.has_block, self.bits_of[byte]
+        if not block and any([has_block[b >> 9] for b in bits]):
             raise Unproved("a block before the first one")  # 0 means cells of keys alone
-        return self.pack([self.in_block(b, block) for b in self.bits_of[byte]])
+        return self.pack([b & ~BLOCK | block << 1 if has_block[b >> 9] else b for b in bits])
 
     def moved(self, byte, by):
         """The same function of the cells of other blocks, whose numbers are so much higher."""
@@ -147,8 +143,7 @@ class Domain(Forms, Products, Names):
                 y = x & 1
                 if x & BLOCK == OF_PRODUCT:
                     raise Unproved("a product, of other blocks")
-                parts = self.parts(x) if x & BLOCK == BLOCK else [((x & BLOCK) >> 1, x >> 9)]
-                for block, n in parts:
+                for block, n in self.parts(x):
                     if block and not 0 < block + by < PRODUCT:
                         raise Unproved("a block whose number is too high or too low")
                     y = self.xor(y, n << 9 | (block + by if block else 0) << 1) if n else y

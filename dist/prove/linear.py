@@ -78,7 +78,10 @@ def wrapped(x, most=WORD):
 
 
 def is_number(*values):
-    return all(isinstance(v, (int, Linear)) for v in values)
+    for v in values:  # (Not by `all`, as in is_int.)
+        if not isinstance(v, (int, Linear)):
+            return False
+    return True
 
 
 def terms(x):

@@ -6,28 +6,29 @@ from bits import BLOCK, LINEAR, ONES, Unproved
 
 class Names:
     def __init__(self):
-        # By the cells of sums, the cells that have names and the ways to write a sum (`single`); and by the cell with a name, the bits that
-        # it stands for and their cells, with places for their tables.
-        self.by_cells, self.ways, self.definitions, self.defined_by = {}, {}, {}, {}
+        # By the cells of sums, the cells that have names; by forms, the ways to write them (`single`), and by cells, which forms of these were
+        # asked for; and by the cell with a name, the bits that it stands for and their cells, with places for their tables.
+        self.by_cells, self.ways, self.asked, self.definitions, self.defined_by = {}, {}, {}, {}, {}
 
     def define(self, cell, bits):
         """Lets a cell stand for the byte with these bits, for all blocks alike."""
-        cells = tuple(sorted({c for b in bits for c, _ in self.forms[b >> 9] or ()}))
-        # Of sums of bits of the byte: the form as a vector, which bits these are, and the complement.
+        cells = tuple(sorted({c for b in bits for c, _ in self.forms[b >> 9]}))
+        # Of sums of bits of the byte: the form as a vector, the truth table of the sum, and the complement.
         places = {c: 256 * i for i, c in enumerate(cells)}
-        rows = [(self.vector(self.forms[b >> 9] or (), places), 1 << j, b & 1) for j, b in enumerate(bits)]
+        rows = [(self.vector(self.forms[b >> 9], places), LINEAR[j], b & 1) for j, b in enumerate(bits)]
         echelon = []  # by Gaussian elimination, the lowest set bit being the pivot
-        for v, mask, complement in rows:
-            for p, w, m, c in echelon:
+        for v, table, complement in rows:
+            for p, w, t, c in echelon:
                 if v & p:
-                    v, mask, complement = v ^ w, mask ^ m, complement ^ c
+                    v, table, complement = v ^ w, table ^ t, complement ^ c
             if not v:
                 raise Unproved("the bits of %s are not independent" % self.names[cell])
-            echelon.append((v & -v, v, mask, complement))
+            echelon.append((v & -v, v, table, complement))
         self.definitions[cell], self.defined_by[cell] = bits, places
         for some in {cells, *(tuple(c for c, _ in self.forms[b >> 9]) for b in bits)}:
             self.by_cells.setdefault(some, []).append((cell, echelon))
-            self.ways.pop(some, None)
+            for n in self.asked.pop(some, ()):
+                del self.ways[n]
 
     def vector(self, form, places):
         """The tables of a form, one after another, where the cells have their places."""
@@ -38,12 +39,9 @@ class Names:
         out = []
         for cell, echelon in self.by_cells.get(cells, ()):
             v, table, complement = self.vector(form, self.defined_by[cell]), 0, 0
-            for p, w, m, c in echelon:
+            for p, w, t, c in echelon:
                 if v & p:
-                    v, complement = v ^ w, complement ^ c
-                    for j in range(8):
-                        if m >> j & 1:
-                            table ^= LINEAR[j]
+                    v, table, complement = v ^ w, table ^ t, complement ^ c
             if not v:
                 out.append((cell, table ^ ONES * complement))
         return out
@@ -51,19 +49,17 @@ class Names:
     def single(self, n):
         """The ways to write form n as a function of one cell, {cell: table}: as it is, by a name, or as a function of a named cell plus a
         sum that has the same name."""
-        form = self.forms[n]
-        cells = tuple(c for c, _ in form)
-        known = self.ways.setdefault(cells, {})
-        ways = known.get(n)
+        ways = self.ways.get(n)
         if ways is None:
-            ways = dict(self.named(form, cells))
+            form = self.forms[n]
+            cells = tuple([c for c, _ in form])
+            ways = self.ways[n] = dict(self.named(form, cells)) if cells in self.by_cells else {}
+            self.asked.setdefault(cells, []).append(n)
+            last, t = form[-1]  # if a cell stands for the others, it is newer than these
             if len(form) == 1:
-                ways[cells[0]] = form[0][1]
-            for k, (c, t) in enumerate(form):
-                rest = cells[:k] + cells[k + 1:]
-                if rest and {*rest} <= self.defined_by.get(c, {}).keys():
-                    ways.update((cell, t ^ table) for cell, table in self.named(form[:k] + form[k + 1:], rest) if cell == c)
-            known[n] = ways
+                ways[last] = t
+            elif cells[:-1] in self.by_cells:
+                ways.update((cell, t ^ table) for cell, table in self.named(form[:-1], cells[:-1]) if cell == last)
         return ways
 
     def common(self, bits):

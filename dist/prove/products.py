@@ -44,14 +44,20 @@ class Products:
                       self.linear_tables, self.sums):
             known.clear()
 
-    def factors(self, pairs):
-        """The numbers of all bits of which there is a product."""
-        out, groups, rows = [], {}, pairs.to_bytes(16 * len(self.row_keys), "little")
+    def filled_rows(self, pairs):
+        """The rows that have pairs: the number of a bit, a group, and the bits of that group of which there are products with the first."""
+        rows = pairs.to_bytes(16 * len(self.row_keys), "little")
         for row, (a, group) in enumerate(self.row_keys):
             columns = int.from_bytes(rows[16 * row:16 * row + 16], "little")
             if columns:
-                out.append(a)
-                groups[group] = groups.get(group, 0) | columns
+                yield a, group, columns
+
+    def factors(self, pairs):
+        """The numbers of all bits of which there is a product."""
+        out, groups = [], {}
+        for a, group, columns in self.filled_rows(pairs):
+            out.append(a)
+            groups[group] = groups.get(group, 0) | columns
         return out + [group << 7 | k for group, columns in groups.items() for k in range(128) if columns >> k & 1]
 
     def name_factors(self, bytes_):
@@ -113,6 +119,8 @@ class Products:
         """The sum of the products x and y, for sums of bits of cells."""
         linear, pairs, rows = 0, 0, self.rows
         for x, y in zip(xs, ys):
+            if not x or not y:
+                continue
             if x < 2 or y < 2 or x == y:
                 linear = self.xor(linear, self.and_(x, y))
                 continue

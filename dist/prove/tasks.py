@@ -95,7 +95,7 @@ def parts_of(level, build, size):
     """In how many parts the calls of a build are proved: so that all take about as long, and with all lengths not too much memory."""
     if level == "all":
         return 8 if "/aes" in build and not takes_few(build) else 3
-    return 1 if level or size != 16 or takes_few(build, level) else 4
+    return 1 if level or size != 16 or takes_few(build, level) else 2
 
 
 def run_all(pool, options):
@@ -118,7 +118,8 @@ def alone(path, machine, used):
 def compare_forms(pool, tasks):
     """Compares each form of an instruction that was used; (how many there are, the machine and the form of those that lack it, how often
     a processor differed)."""
-    forms = {(MEANINGS[task.machine], form): (task.path, address) for task in tasks for form, address in task.used.items()}
+    most_last = sorted(tasks, key=lambda task: len(task.used))  # so that few files have all forms
+    forms = {(MEANINGS[task.machine], form): (task.path, address) for task in most_last for form, address in task.used.items()}
     in_calls = {(MEANINGS[task.machine], form) for task in tasks for form in task.compared}
     programs, lacking, differed = {}, [], 0
     for (machine, form), (path, address) in forms.items():

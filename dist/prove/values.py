@@ -35,9 +35,8 @@ class Values:
         d, value = self.domain, x & 1
         if x > 1 and x & BLOCK == PRODUCT << 1:
             linear, pairs = d.split(x)
-            for row, (a, group) in enumerate(d.row_keys):
-                columns = pairs >> 128 * row & (1 << 128) - 1
-                if columns and self.numbered_bit(a):
+            for a, group, columns in d.filled_rows(pairs):
+                if self.numbered_bit(a):
                     value ^= (columns & self.group(group, columns)).bit_count() & 1
             return value ^ self.bit(linear)
         for block, n in d.parts(x):
