@@ -455,5 +455,6 @@ UNREACHED = {
         ("texts of 942 to 1017 bytes, of which the last one stays", exported("aes_add_keystream"), *one_less("rcx", 942, 1018),
          "any_low_keystream 5 122"),
         ("messages of 52 to 59 bytes without the last one", exported("aes_cmac"), *one_less("rdx", 52, 60), "any_cmac 1"),
+        ("messages of 52 to 59 bytes compared without the last one", exported("aes_cmac_verify"), *one_less("rdx", 52, 60), "any_cmac_verify 1 16"),
     ],
 }
