@@ -6,6 +6,7 @@ import re
 from collections import namedtuple
 
 from bits import LOST, Undefined, Unproved
+from borders import apart
 from linear import Linear
 from machine import Machine
 from operands import (RETURN_ADDRESS, SECRET, Instruction, Memory, Register, Scaled, Table, Vector, constant, contrary, form, interleaved,
@@ -77,6 +78,10 @@ class Aarch64(Machine):
             holds = flag("s") == flag("o") and (code in ("ge", "lt") or not flag("z"))
         else:
             holds = flag("zcso"[number // 2])
+        if code in ("cs", "cc", "hi", "ls"):
+            self.meets_carry(code in ("hi", "ls"))
+        elif code in ("mi", "pl", "ge", "lt", "gt", "le"):
+            self.meets_sign(code in ("gt", "le"))
         return int(holds != number % 2)
 
 
@@ -209,6 +214,7 @@ def add(m, name, to, a, b):
         r, flags = m.lost_bytes(to.size), dict.fromkeys("czso", SECRET)
     if name == "adds":
         m.set_flags(**flags)
+        m.apart = apart(x, y, to.size, plus=True)
     m.put(to, r)
 
 
@@ -218,13 +224,16 @@ def sub(m, name, to, a, b):
     r, flags = (None, m.compared(x, y, to.size)) if to.name == "xzr" else m.minus(x, y, to.size)
     if name == "subs":
         m.set_flags(**flags)
+        m.apart = apart(x, y, to.size)
     m.put(to, r)
 
 
 @TABLE.of("ccmp")
 def ccmp(m, name, a, b, flags, code):
     if m.condition(code):
-        m.set_flags(**m.compared(m.get(a), m.get(b), a.size))
+        x, y = m.get(a), m.get(b)
+        m.set_flags(**m.compared(x, y, a.size))
+        m.apart = apart(x, y, a.size)
     else:
         m.set_flags(s=flags >> 3 & 1, z=flags >> 2 & 1, c=flags >> 1 & 1, o=flags & 1)
 

@@ -150,6 +150,7 @@ def to_all_ends(m, call, watches, known):
             waiting += leads.args[0]
         except lengths.Wrong as wrong:
             general, guesses = wrong.args
+            m.forget_nearest(general.name)
             waiting, ends = ([x for x in some if general.name not in x.generals] for some in (waiting, ends))
             waiting += [*known.forget(general), lengths.general_state(known, *general.made_of, general.wrong | guesses)]
         else:

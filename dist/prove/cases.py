@@ -34,6 +34,7 @@ AES_ROWS = [
         first=[(way, rest, "_to") for way in DIRECTIONS for rest in (0, 2, 14)]),
     Row("blocks", "the direction and the number of blocks", few=[("encrypt", 2), ("encrypt", 1, "_with")],
         full=[("encrypt", n) for n in (0, 16, 17)],
+        first=[(way, n, to) for way in DIRECTIONS for to in ("_to", "_with") for n in (6, 7, 8, 14, 15)],
         other=[(way, n, to) for way in DIRECTIONS for n, to in ((2, ""), (32, ""), (1, "_to"), (1, "_with"))]),
     Row("any_low_keystream", "at 16 k + s for every k, 128 n + r bytes for every n: s, r; for every initial counter block whose low half "
         "doesn't carry", few=[(5, 122)], first=[(0, 0, "_with")]),
@@ -45,11 +46,13 @@ AES_ROWS = [
               (21, 11, 1), (21, 11, 1, "_to"), (21, 11, 1, "_with"), *((16, 64, block) for block in range(2, 6)),
               # Positions, and numbers of blocks, that don't fit into 32 bits; and one that would be below 0 if it had a sign.
               (2 ** 32 - 20, 40), *((2 ** 63 + 2 ** 36, 64, NO_CARRY, way) for way in ("", "_with"))],
+        first=[(2 ** 64 - 21, 20, NO_CARRY, "_with"), *((0, n, NO_CARRY, "_to") for n in (*range(1, 9), 31, 32, 33)),
+               *((0, n) for n in range(1, 131)), *((5, n) for n in (*range(1, 41), 59, 60, *range(120, 141), *range(200, 206)))],
         more=[(0, 33, 5)], other=[(0, 33), (3, 33, NO_CARRY, "_to"), (3, 33, NO_CARRY, "_with")]),
     Row("any_cbc_encrypt", "every number of blocks", few=ONCE),
     Row("any_cbc_decrypt", "64 n + r blocks for every n: r", full=[9], more=[0]),
     Row("cbc_encrypt", "the number of blocks", full=[1, 2], other=[1]),
-    Row("cbc_decrypt", "the number of blocks", few=[9], full=[0, 1, 3, 4, 8, 17, 47], other=[1]),
+    Row("cbc_decrypt", "the number of blocks", few=[9], full=[0, 1, 3, 4, 8, 17, 47], first=[7, 63, 64, 65, 71, 72], other=[1]),
     Row("any_wrap", "a key of every number of semiblocks", full=ONCE),
     Row("any_unwrap", "a key of every number of semiblocks, also of what is refused", full=ONCE),
     Row("any_wrap_padded", "a key of 16 n + r bytes for every n: r", full=[3], first=[7, 9, 15, 16]),
@@ -84,6 +87,11 @@ FEW_COUNTERS = [None, gcm.CarryTo(3)]  # of `_next`; None: any without a carry
 CARRIES = [*map(gcm.CarryTo, (2, 1, 0)), 2 ** 96 - 2]
 MANY = 2 ** 35  # bytes, so that counts and positions don't fit into 32 bits
 TAGS = 4, 8, 12, 13, 14, 15
+SAME, AROUND = "the same, on both sides of borders of comparisons", (15, 16, 17, 31, 32, 33)
+# Lengths of texts on both sides of the borders of comparisons: of words, blocks and batches.
+BORDERING = [*range(1, 6), *(n + by for n in (16, 32, 48, 64, 80, 112, 128, 144, 208, 256) for by in (-1, 0, 1))]
+# The lengths of additional data and text of AES-GCM-SIV; up to 160 bytes both are in one buffer.
+SHORT = [(*lengths, *way) for way in ((), ("_to",)) for lengths in ((0, 160), (0, 161), (160, 0), (161, 0), (1, 3), (1, 4))]
 ENDS = range(1, 16)  # of a block: how many bytes a message has behind whole ones
 WHOLE = "48 a + r bytes of additional data and 768 n + s of text for every a and n: r, s"
 NONCE = "; then the way, and r of a nonce of 48 k + r bytes for every k, in the place of one of 12 bytes"
@@ -106,10 +114,13 @@ GCM_ROWS = [
       for call, step in (("additional", 48), ("verify", 48), ("encrypt", 768), ("decrypt", 768), ("decrypt_unverified", 768))),
     Row("seal", "the lengths of additional data and text, and a nonce of another length", few=[(13, 33), (13, 33, (), "_to")],
         full=[(0, 0), (0, 5), (1, 1), (13, 0), (16, 16), (20, 64), (32, 32), (49, 1), (0, 449, gcm.UNKNOWN), (0, 0, (), "_to"), *((5, 20, nonce) for nonce in NONCES)],
+        first=[*((n, 0) for n in (*AROUND, 47, 48, 49)), *((13, n, (), "_to") for n in (3, 4, 31, 32))],
         more=[*((5, 40, nonce) for nonce in NONCES), *((5, n, (60,)) for n in (0, 129, 300))],
         other=[(13, 481, gcm.UNKNOWN), (0, 0, (), "_to")]),
+    Row("seal", SAME, first=[(13, n, gcm.UNKNOWN) for n in BORDERING]),
     Row("open", "the same, also of what is refused", few=[(13, 33), (13, 33, (), "_to")],
-        full=[(0, 0), (13, 0), (20, 64), (0, 0, (), "_to"), (3, 20, gcm.UNKNOWN)], more=[(3, 20, nonce) for nonce in NONCES[1:]],
+        full=[(0, 0), (13, 0), (20, 64), (0, 0, (), "_to"), (3, 20, gcm.UNKNOWN)],
+        first=[(13, n, (), "_to") for n in (3, 4, 31, 32)], more=[(3, 20, nonce) for nonce in NONCES[1:]],
         other=[(13, 33), (0, 0, (), "_to")]),
     Row("begin", "the nonce", few=[(), *((nonce,) for nonce in NONCES)], other=[()]),
     Row("seal_next", "the lengths of additional data and text, and the counter: if a carry comes to a byte, this one is any, those behind it are "
@@ -118,7 +129,8 @@ GCM_ROWS = [
     Row("begin_next", "the counter, as above", few=FEW_COUNTERS, full=CARRIES, other=FEW_COUNTERS),
     Row("additional", "how many bytes came before, and how many come: it also runs beside a processor", few=[(3, 13)], other=[(3, 13)]),
     Row("any_then_additional", "after 16 k + s bytes for every k, and any J_0: s, and how many bytes come", few=[(3, 13)],
-        full=[(3, 5), (3, 100), (0, 0), (0, 5), (0, 48), (13, 13), (0, 7)], first=[(s, 1) for s in range(16)],
+        full=[(3, 5), (3, 100), (0, 0), (0, 5), (0, 48), (13, 13), (0, 7)],
+        first=[*((s, 1) for s in range(16)), (12, 13), *((3, n) for n in range(2, 50))],
         more=[(s, n) for s in range(16) for n in (0, 16, 32)]),
     Row("any_then_piece", "the first piece: the call; " + CAME + ", and how many bytes come", few=[
         (call, gcm.ADDITIONAL, 5, 0, 3) for call in PHASES],
@@ -126,6 +138,7 @@ GCM_ROWS = [
         more=[(call, gcm.ADDITIONAL, s, 0, 1) for call in PHASES for s in range(16)],
         other=[(call, gcm.ADDITIONAL, 5, 0, 3) for call in PHASES]),
     Row("any_then_piece", "another piece", few=[("encrypt", gcm.ENCRYPTING, 5, 0, n) for n in (64, 500)],
+        first=[("encrypt", gcm.ENCRYPTING, 5, 7, n) for n in (*range(1, 28), 57, 121)],
         full=[(call, phase, 5, *numbers) for call, phase in PHASES.items() for numbers in ((4, 50), (7, 9), (4, 3))]),
     Row("any_then_piece", "the same", full=[
         *((call, phase, *numbers) for call, phase in PHASES.items() for numbers in ((5, 4, 300), (5, 11, 20), (0, 0, 0))),
@@ -168,9 +181,12 @@ SIV_ROWS = [
         more=[(0, 0), (47, 767)]),
     Row("any_open", WHOLE + "; also of what is refused", full=[(13, 33, "_to"), (13, 225)],
         more=[(33, 48), (0, 0, "_to")]),
-    Row("seal", "the lengths of additional data and text", few=[(13, 33), (13, 33, "_to")], full=[(13, 0), (1, 1), (13, 7), (0, 16)],
+    Row("seal", "the lengths of additional data and text", few=[(13, 33), (13, 33, "_to")],
+        full=[(13, 0), (1, 1), (13, 7), (0, 16), *SHORT],
+        first=[(a, n) for n in (0, 161) for a in (1, *AROUND, 47, 48, 49)],
         other=[(13, 33), (13, 33, "_to")]),
-    Row("open", "the same, also of what is refused", few=[(1, 1), (13, 33, "_to")], full=[(13, 0), (13, 7), (0, 16)], other=[(1, 1), (13, 33, "_to")])]
+    *(Row("seal", SAME, first=[(a, n) for n in (*BORDERING, 67, 68, 131, 132)]) for a in (13, 161)),
+    Row("open", "the same, also of what is refused", few=[(1, 1), (13, 33, "_to")], full=[(13, 0), (13, 7), (0, 16), *SHORT], other=[(1, 1), (13, 33, "_to")])]
 
 
 def common_rows(library, version):

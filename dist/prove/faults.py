@@ -434,7 +434,15 @@ FAULTS = {
     ],
 }
 
-# Code that no case shows, as it changes nothing: only what ran is counted. The last is the case of `make prove` that runs the function.
+def one_less(count, first, behind):
+    """One less in a register from a number on and up to another, without a jump. No case of PROVE=builds has these numbers, so nothing but
+    their borders tells of it."""
+    compared = r"\tcmpq\t$%d, %%" + count + r"\n\tset%s\t%%%s\n"
+    return ENTRY, (r"\1\txorl\t%eax, %eax\n\txorl\t%r11d, %r11d\n" + compared % (first, "ae", "al") + compared % (behind, "b", "r11b")
+                   + r"\tandl\t%eax, %r11d\n\tsubq\t%r11, %" + count + r"\n")
+
+
+# Code that no case shows: only what ran is counted, and what was tried at its border. The last is a case that runs the function.
 # The list of uncovered.py allows an export three conditional instructions that go one way, so here are four.
 MORE_THAN_LISTED = 4
 UNREACHED = {
@@ -444,5 +452,9 @@ UNREACHED = {
         ("nothing wiped where the code's address has a byte", function("aes_cipher::zeroize::zeroize_words"), ENTRY, r"\1\tleaq\t0(%rip), %rax\n"
          r"\tshrq\t$36, %rax\n\tandl\t$255, %eax\n\tcmpl\t$0x55, %eax\n\tjne\t77f\n\tmovq\t$0, (%rdi)\n\tretq\n77:\n", "blocks encrypt 17"),
         ("carries that never come", WIPE, ENTRY, r"\1\txorl\t%eax, %eax\n" + MORE_THAN_LISTED * r"\tadcq\t$0, %rax\n", "wipe"),
+        ("texts of 942 to 1017 bytes, of which the last one stays", exported("aes_add_keystream"), *one_less("rcx", 942, 1018),
+         "any_low_keystream 5 122"),
+        ("messages of 52 to 59 bytes without the last one", exported("aes_cmac"), *one_less("rdx", 52, 60), "any_cmac 1"),
+        ("messages of 52 to 59 bytes compared without the last one", exported("aes_cmac_verify"), *one_less("rdx", 52, 60), "any_cmac_verify 1 16"),
     ],
 }

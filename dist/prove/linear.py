@@ -1,4 +1,5 @@
 """Public numbers that aren't known, for lengths: constants plus multiples of unknown integers, and what follows of such numbers."""
+import bisect
 import functools
 import math
 from collections import namedtuple
@@ -129,6 +130,21 @@ def refuted(facts):
         down = [f for f in facts if terms(f).get(name, 0) < 0]
         sums = {tightened(a * -terms(b)[name] + b * terms(a)[name]) for a in up for b in down}
         facts = {f for f in facts if name not in terms(f)} | sums
+
+
+def fulfilled(facts):
+    """Whether integers are found by which all these numbers are >= 0: of one unknown after the other the lowest, from 0 on, that isn't
+    refuted. (It may fail to find some.)"""
+    while not any(f < 0 for f in facts if not isinstance(f, Linear)):
+        facts = frozenset(f for f in facts if isinstance(f, Linear))
+        if not facts:
+            return True
+        name = min(name for f in facts for name in terms(f))
+        if refuted(facts):
+            return False
+        lowest = bisect.bisect_left(range(1 << 62), True, key=lambda value: not refuted(facts | {value - unknown(name)}))
+        facts = frozenset(replaced(f, name, lowest) for f in facts)
+    return False
 
 
 def implied(facts, x):

@@ -33,6 +33,7 @@ import copy
 from access import Access
 from arithmetic import Arithmetic
 from bits import PUBLIC, Pause, Undefined, Unproved
+from borders import Borders
 from bytewise import Bytewise
 from linear import Linear, is_number
 from operands import (FARTHEST, RETURN_ADDRESS, SECRET, WORD, Distance, Memory, Pointer, Question, Verdict, constant, is_int, is_pointer, joined)
@@ -40,7 +41,7 @@ from program import LIBC
 from unknowns import Unknowns
 
 
-class Machine(Arithmetic, Unknowns, Bytewise, Access):
+class Machine(Arithmetic, Borders, Unknowns, Bytewise, Access):
     pushed, kept_vectors, shadow, stack_step, also_called, mark, to_mark = (), {}, 0, 1, (), "", "(?!)"
     reserved = ()  # registers that may not change, as a signal's handler or the system may use them at any time
     word, most, flag_names = 8, WORD, "czso"
@@ -51,7 +52,7 @@ class Machine(Arithmetic, Unknowns, Bytewise, Access):
         self.domain, self.program, self.regions = domain, program, regions
         self.general = {r: Pointer("the caller's " + r, 0) for r in self.registers}
         self.vectors = [[domain.undefined] * self.vector_size for _ in range(self.vector_count)]
-        self.flags = dict.fromkeys(self.flag_names)
+        self.flags, self.apart = dict.fromkeys(self.flag_names), {}  # and how far apart the numbers are of which these tell (borders.py)
         self.next_address, self.last, self.steps, self.used = entry, entry, 0, {}
         self.externals = {program.symbols[n]: n for n in (*LIBC, *self.also_called) if n in program.symbols}
         self.lost = set()  # opaque bytes that may depend on the key: they count as such where they are left
@@ -95,7 +96,7 @@ class Machine(Arithmetic, Unknowns, Bytewise, Access):
         """Flags that aren't named become undefined. If one tells of a secret, so may they."""
         all_named = len(flags) == len(self.flag_names)
         secret = not all_named and any(map(self.is_secret, (*self.flags.values(), *flags.values())))
-        self.flags = dict.fromkeys(self.flag_names, SECRET if secret else None)
+        self.flags, self.apart = dict.fromkeys(self.flag_names, SECRET if secret else None), {}
         self.flags.update(flags)
 
     def decide(self, flag):

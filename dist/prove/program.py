@@ -17,6 +17,8 @@ class Program:
         self.path, self.machine = path, machine
         self.lines, self.cache = self.disassembled(), {}
         self.went = set()  # (where a jump stands, where it led), and (where an add with carry stands, the carry)
+        # {(where it is asked whether x is less than y, the answer): (how far from the border at least, the general states before)}: borders.py
+        self.nearest = {}
         addresses = list(self.lines)
         self.next = dict(zip(addresses, addresses[1:]))
         symbols = re.findall(r"(?m)^([0-9a-f]+) (\S) (.*)$", self.tool("nm"))
@@ -66,6 +68,10 @@ class Program:
     def function_of(self):
         """{address: addresses} of the first instruction of each function, and of all of them."""
         return {min(addresses): addresses for addresses in self.functions().values()}
+
+    def distances(self):
+        """(where it is asked whether x is less than y, the answer, how far from the border at least)"""
+        return {(*place, far) for place, (far, _) in self.nearest.items()}
 
     def at(self, address):
         if address not in self.cache:

@@ -94,6 +94,7 @@ class Riscv(Machine):
 
     def less(self, x, y):
         """A flag: whether x is less than y, as numbers without a sign."""
+        self.meets_numbers(x, y)
         if x == y or tuple in (type(x), type(y)) and all(b in (0, a) for a, b in zip(*(self.to_bytes(v, self.word) for v in (x, y)))):
             return 0  # y is x, or a part of it
         if self.is_counter(x):

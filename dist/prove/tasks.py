@@ -31,7 +31,7 @@ class Task:
         self.name = "%s.s, key of %d bytes" % (build, key_size) + ", part %d of %d" % (part + 1, parts) * (parts > 1)
         self.path = "%s/%s_%d_%d" % (options.out, build.replace("/", "_"), key_size, part)
         self.proved, self.failed, self.vectors = -bool(part), 0, 0  # (set_key counts once)
-        self.used, self.compared, self.ran, self.went, self.calls = {}, set(), set(), set(), set()
+        self.used, self.compared, self.ran, self.went, self.nearest, self.calls = {}, set(), set(), set(), set(), set()
         self.kept_key = None
 
     def run(self):
@@ -58,6 +58,7 @@ class Task:
             self.calls |= keyed.calls
             self.kept_key = keyed.kept_key()
         self.ran, self.went = set(program.cache), program.went  # (what was decoded ran)
+        self.nearest = program.distances()
 
     def beside(self):
         """The calls that also run on the processor."""

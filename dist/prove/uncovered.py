@@ -32,21 +32,40 @@ UNCOVERED = [
 ]
 
 
+# The same of comparisons: in these texts, how many of a function's weren't tried at their border (borders.py), with PROVE, and why.
+JUDGED = "x86_64/(aes|gcm)"
+BORDERS = [
+    ("x86_64/aes", r"add_in_batches\.add_keystream", 1, "The carry between a counter's halves. It has cases in which these may be any."),
+    ("x86_64/aes", "process_in_batches", 1, "The loop's numbers are multiples of eight."),
+    ("x86_64/.*", r"add_in_batches\.add_next", 1, "A text that ends in the block in which it begins goes another way."),
+    ("x86_64/aes", "key_wrap.padded.wrap_padded", 1, "A key of fewer than eight bytes goes another way."),
+    ("x86_64/aes", "ccm.message.put_tag", 1, "Each key has more than two rounds."),
+    ("x86_64/.*", r"fotsgure_\w+_to|whole_to\.copy", 1, "Buffers that are 32 bytes apart, and overlap, have more bytes than that."),
+    ("x86_64/gcm", "BorrowedGcm.compare", 1, "The export refuses lengths first, and they are asked for once more."),
+    ("x86_64/gcm", r"gcm_siv\.message\.apply", 1, "Whole batches come before, so fewer bytes are left."),
+]
+
+
 def plain(name):
     """A function's name without the number of its types, and without what tells the builds of a library apart."""
     return re.sub(r"\.\d+$|_v\d$", "", name)
 
 
-def of_text(program, ran, went):
-    """{a function: (the addresses that didn't run, those of conditional instructions that went one way)}, where there are any. `ran` has
-    the addresses that did, and `went` pairs of one of these and where it led, or which carry was added."""
-    ways, out = {}, {}
+def of_text(program, ran, went, nearest):
+    """{a function: (the addresses that didn't run, those of conditional instructions that went one way, {those of others that weren't at the
+    border of their comparison: how far from it, by the answer})}, where there are any. `ran` has the addresses that did, `went` pairs of one
+    of these and where it led, or which carry was added, and `nearest` what borders.py notes: an address, an answer, and how far."""
+    ways, sides, out = {}, {}, {}
     for address, way in went:
         ways.setdefault(address, set()).add(way)
+    for address, below, far in nearest:
+        side = sides.setdefault(address, {})
+        side[below] = min(far, side.get(below, far))
     for name, addresses in program.functions().items():
         one_way = {a for a in addresses & ran if re.match(program.machine.conditional, program.lines[a]) and len(ways.get(a, ())) < 2}
-        if one_way or not addresses <= ran:
-            out[name] = addresses - ran, one_way
+        apart = {a: sides[a] for a in addresses & sides.keys() - one_way if sides[a] != {True: 0, False: 0}}
+        if one_way or apart or not addresses <= ran:
+            out[name] = addresses - ran, one_way, apart
     return out
 
 
@@ -54,15 +73,22 @@ def summary(program, found):
     """How much of a text is covered."""
     all_ = set().union(*program.functions().values())
     conditional = sum(bool(re.match(program.machine.conditional, program.lines[a])) for a in all_)
-    idle, one_way = (set().union(*some) for some in zip(*found.values())) if found else (set(), set())
+    idle, one_way, apart = (set().union(*some) for some in zip(*found.values())) if found else (set(), set(), set())
     unseen = sum(bool(re.match(program.machine.conditional, program.lines[a])) for a in idle)
-    return "%d of %d instructions ran; %d of %d conditional jumps and adds with carry led both ways" % (
-        len(all_ - idle), len(all_), conditional - unseen - len(one_way), conditional)
+    return "%d of %d instructions ran; %d of %d conditional jumps and adds with carry led both ways; %d comparisons not at their border" % (
+        len(all_ - idle), len(all_), conditional - unseen - len(one_way), conditional, len(apart))
 
 
-def faults(text, found):
-    """What isn't covered, and isn't in the list."""
-    for name, (idle, one_way) in found.items():
-        allowed = [entry[2:4] for entry in UNCOVERED if re.fullmatch(entry[0], text) and re.search("(%s)$" % entry[1], plain(name))]
-        if not any(len(idle) <= a and len(one_way) <= b for a, b in allowed):
+def entries(all_, text, name):
+    """What a list says of a function of a text."""
+    return [entry[2:] for entry in all_ if re.fullmatch(entry[0], text) and re.search("(%s)$" % entry[1], plain(name))]
+
+
+def faults(text, found, with_borders):
+    """What isn't covered, and isn't in the lists."""
+    for name, (idle, one_way, apart) in found.items():
+        allowed = [(0, 0, ""), *entries(UNCOVERED, text, name)]
+        if not any(len(idle) <= a and len(one_way) <= b for a, b, _ in allowed):
             yield "%s: %d instructions that don't run, %d conditional ones that go one way" % (name, len(idle), len(one_way))
+        if with_borders and re.fullmatch(JUDGED, text) and len(apart) > max((n for n, _ in entries(BORDERS, text, name)), default=0):
+            yield "%s: %d comparisons that weren't tried at their border" % (name, len(apart))

@@ -3,6 +3,7 @@ IA-32 Architectures Software Developer's Manual, volume 2). What both machines s
 import re
 
 from bits import Unproved
+from borders import apart
 from machine import Machine
 from operands import (RETURN_ADDRESS, SECRET, WORD, Instruction, Memory, Register, Scaled, Table, Vector, constant, contrary, form,
                       interleaved, is_int, joined, lanes)
@@ -51,6 +52,10 @@ class X86_64(Machine):
     def condition(self, code):
         flags = [self.flags[f] for f in CONDITIONS[code] if f in "czso"]
         holds = (self.decide if len(flags) == 1 else self.at_most)(*flags)
+        if "c" in CONDITIONS[code]:
+            self.meets_carry("z" in CONDITIONS[code])
+        elif "s" in CONDITIONS[code]:
+            self.meets_sign()
         return int(holds != CONDITIONS[code].startswith("!"))
 
 
@@ -151,12 +156,13 @@ def xchg(m, name, a, b):
 @TABLE.of("add", "sub", "adc", "sbb", "cmp", "inc", "dec", "neg")
 def arithmetic(m, name, a, b=1):
     x, y = (0, m.get(a)) if name == "neg" else (m.get(a), m.get(b))
-    old, size = m.flags["c"], a.size
+    old, size, before = m.flags["c"], a.size, m.apart
     carry = m.carried(old) if name in ("adc", "sbb") else 0
     if carry not in (0, 1):
         raise Unproved("adds a carry that depends on the key or on data, or that is undefined")
     if name in ("adc", "sbb"):
         m.went(carry)
+        m.meets_carry()
     if name in ("add", "adc", "inc"):
         r, flags = m.plus(x, y, carry, size)
     else:
@@ -165,6 +171,9 @@ def arithmetic(m, name, a, b=1):
     if name in ("inc", "dec"):
         flags["c"] = old
     m.set_flags(**flags)
+    m.apart = apart(x, y, size, carry, name in ("add", "adc", "inc"))
+    if name in ("inc", "dec"):
+        m.apart["c"] = before.get("c")
     if name != "cmp":
         m.put(a, r)
 
