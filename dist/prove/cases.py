@@ -174,7 +174,7 @@ OF_SHORT_WORDS = {
         Row("piece", "the same, across 2^32 bytes, and up to the longest text", full=[
             (call, phase, 5, *numbers, (12,)) for call, phase in PHASES.items() for numbers in ((2 ** 32 - 5, 20), (gcm.MOST - 9, 9))]),
         Row("decrypt", "the length of the text, how many bytes of it came before, and how many come", few=[(100, 7, 20)],
-            full=[(100, 7, 0), (100, 5, 4), (100, 32, 68), (2 * MANY, MANY - 5, 20, (12,))])]}
+            full=[(100, 7, 0), (100, 5, 4), (100, 32, 68), (2 * MANY, MANY - 5, 20, (12,))], other=[(100, 7, 20)])]}
 
 SIV_ROWS = [
     Row("any_seal", WHOLE + "; both may have 2^36 bytes", full=[(33, 77), (16, 256)], first=[(13, 33, "_to")],

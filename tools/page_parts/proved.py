@@ -111,6 +111,7 @@ def looked_at():
         parts += [f"\n## {TITLES[library]}\n", table(rows)]
     tables = [(library, rows, machine) for machine in (Riscv32, Riscv64) for library, (_, rows) in cases.LIBRARIES.items()]
     left_out = [line for one in tables for line in left_out_of(*one)]
-    parts += [RISCV, table([row for rows in cases.OF_SHORT_WORDS.values() for row in rows]), "\n| bits | header | statement | left out |\n|---|---|---|---|", *left_out]
+    of_short_words = [row for rows in cases.OF_SHORT_WORDS.values() for row in rows]
+    parts += [RISCV, table(of_short_words), "\n| bits | header | statement | left out |\n|---|---|---|---|", *left_out]
     text = "\n".join(parts) + "\n"
     return f"{sum(len(rows) for _, rows in cases.LIBRARIES.values())} statements", {PAGE: text}, []
