@@ -29,7 +29,7 @@ LINEAR = [sum((v >> j & 1) << v for v in range(256)) for j in range(8)]  # the t
 CONSTANTS = [tuple([v >> j & 1 for j in range(8)]) for v in range(256)]  # the bits of constant bytes
 BLOCK = 255 << 1
 MIXED = 255  # in the place of a block: a sum of bits of several blocks, an entry of `mixed`
-PRODUCT = 254  # the same: a bit, plus products of two bits of cells, an entry of `products`
+PRODUCT = 254  # in the place of a block: a bit, plus products of two bits of cells, an entry of `products`
 OF_PRODUCT = PRODUCT << 1
 
 UNDEFINED, LOST = "undefined", "lost"  # names of opaque bytes: what nobody wrote, and what was forgotten
@@ -43,7 +43,7 @@ class Unproved(Exception):
 
 
 class Undefined(Unproved):
-    """The same: a byte or a flag that nobody wrote, or of which nothing is known."""
+    """What can't be proved as it asks for a byte or a flag that nobody wrote, or of which nothing is known."""
 
 
 class Pause(Unproved):
@@ -209,7 +209,7 @@ class Forms:
         return blocks.pop() >> 1 if blocks else 0
 
     def in_block(self, x, block):
-        """The same function of the cells of this block, which is less than PRODUCT (see byte_in_block)."""
+        """A bit, as that function of the cells of this block, which is less than PRODUCT (see byte_in_block)."""
         return x & ~BLOCK | block << 1 if self.has_block[x >> 9] else x
 
     def intern(self, form):
@@ -265,7 +265,7 @@ class Forms:
         return [((x & BLOCK) >> 1, x >> 9)]
 
     def halved(self, x):
-        """The same, the part of keys for itself."""
+        """The parts of a bit, in which the cells of keys have a part of their own."""
         if x < 2 or x & BLOCK == BLOCK:
             return self.parts(x)
         n = x >> 9

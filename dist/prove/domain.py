@@ -37,7 +37,8 @@ class Domain(Forms, Products, Names):
 
     # A byte of a plane has the same function of each of eight blocks: then one bit says it, with the blocks.
     def alike(self, a, b):
-        """Such a bit of each of two bytes, without their blocks, and the blocks, which are the same for both; or (None, None)."""
+        """For each of two bytes of planes the bit that says it, without its block; and the blocks, which are the same for
+        both. Or (None, None)."""
         x, p = self.repeated(a)
         y, q = self.repeated(b) if x is not None else (None, None)
         return ((x, y), p or q) if y is not None and (p == q or not p or not q) else (None, None)
@@ -112,7 +113,7 @@ class Domain(Forms, Products, Names):
         return self.byte_in_block(c, block)
 
     def affine(self, table, index):
-        """The same, if the table is an affine map of those bits of the index that vary: then no cell is needed."""
+        """What a table has at an index, if it is an affine map of those bits of the index that vary: then no cell is needed."""
         constant = sum(b << i for i, b in enumerate(index) if b < 2)
         variable = tuple([i for i, b in enumerate(index) if b > 1])
         columns = affine_columns(table, constant, variable)
@@ -134,7 +135,7 @@ class Domain(Forms, Products, Names):
         return self.pack([b & ~BLOCK | block << 1 if has_block[b >> 9] else b for b in bits])
 
     def moved(self, byte, by):
-        """The same function of the cells of other blocks, whose numbers are so much higher."""
+        """A byte, as that function of the cells of other blocks, whose numbers are so much higher."""
         if not by or not self.symbolic(byte):
             return byte
         if (byte, by) not in self.moves:
@@ -159,7 +160,7 @@ class Domain(Forms, Products, Names):
         return self.of_unknowns[byte]
 
     def put_in(self, byte, others):
-        """The same function of other bytes, {a cell: a byte}."""
+        """A byte, as that function of other bytes in the place of cells, {a cell: a byte}."""
         bits = []
         for x in self.bits(byte):
             y = x & 1
@@ -170,7 +171,7 @@ class Domain(Forms, Products, Names):
         return self.pack(bits)
 
     def image(self, table, byte):
-        """A function of a cell, of another byte."""
+        """The bit that a truth table of a cell gives of another byte."""
         if byte < 256:
             return table >> byte & 1
         return functools.reduce(self.xor, (self.bits(byte)[j] for j in linear_bits(table)), 0)

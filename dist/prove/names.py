@@ -6,8 +6,8 @@ from bits import BLOCK, LINEAR, ONES, Unproved
 
 class Names:
     def __init__(self):
-        # By the cells of sums, the cells that have names; by forms, the ways to write them (`single`), and by cells, which forms of these were
-        # asked for; and by the cell with a name, the bits that it stands for and their cells, with places for their tables.
+        # By the cells of sums, the cells that have names; by forms, the ways to write them (`single`), and by cells, which forms of these
+        # were asked for; and by the cell with a name, the bits that it stands for and their cells, with places for their tables.
         self.by_cells, self.ways, self.asked, self.definitions, self.defined_by = {}, {}, {}, {}, {}
 
     def define(self, cell, bits):

@@ -7,7 +7,7 @@ from operands import WORD, Distance, Negated, Number, Pointer, Verdict
 
 class Values:
     def __init__(self, domain, random, counter=None, most=WORD):
-        """`counter`: for counter mode, of which the initial counter block consists of words (see aes.CounterWord). `most`: the highest
+        """`counter`: for counter mode, of which the initial counter block consists of words (see keyed.CounterWord). `most`: the highest
         number in a word of the machine."""
         self.domain, self.random, self.counter, self.most = domain, random, counter, most
         self.cells, self.bytes, self.base = {}, {}, {}  # base: of regions, and of what has a name alone, by that name
@@ -58,7 +58,7 @@ class Values:
         return self.cell(number >> 3 & 0xffffff, number >> 27) >> (number & 7) & 1
 
     def byte(self, b):
-        """None if it is undefined, or a sum of products: what becomes of these is compared."""
+        """The value of a byte; None if it is undefined, or a sum of products: what becomes of these is compared."""
         if b not in self.bytes:
             self.bytes[b] = None if b in self.domain.with_products else self.full_byte(b)
         return self.bytes[b]
@@ -68,7 +68,7 @@ class Values:
         return list(map(self.byte, content)) if None in known else known  # (perhaps not asked before)
 
     def full_byte(self, b):
-        """Also of sums of products, which takes long."""
+        """The value of a byte, also of a sum of products, which takes long."""
         name = self.domain.opaque_of.get(b)
         if not name or self.domain.bits_of[b] is not None:
             return self.number(self.domain.bits(b))
@@ -79,7 +79,7 @@ class Values:
         return None if word is None else word >> 8 * k & 255
 
     def word(self, v):
-        """Of a value of machine.py; None as above."""
+        """The number that a value of machine.py is; None if a byte of it has no value."""
         if isinstance(v, int):
             return v
         if isinstance(v, Pointer):
