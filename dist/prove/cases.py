@@ -4,6 +4,7 @@ import itertools
 import re
 
 import aes
+import ends
 import gcm
 import modes
 import siv
@@ -137,7 +138,7 @@ GCM_ROWS = [
         (call, phase, 5, *numbers, (12,)) for call, phase in PHASES.items() for numbers in ((2 ** 32 - 5, 20), (gcm.MOST - 9, 9))]),
     Row("decrypt", "the length of the text, how many bytes of it came before, and how many come", few=[(100, 7, 20)],
         full=[(100, 7, 0), (100, 5, 4), (100, 32, 68), (2 * MANY, MANY - 5, 20, (12,))], more=[(100, 0, 16)], other=[(100, 7, 20)]),
-    *(Row(call, STATE + also, few=[(phase, 16, 7), *few], other=[(phase, 16, 7), *few],
+    *(Row(call, STATE + also, few=[(phase, 16, 7), *few], other=[(phase, 16, 7), *few, *((phase, 5, n) for n in ENDS)],
           first=[(gcm.ADDITIONAL, n, 0) if call == "finish" else (phase, 5, n) for n in ENDS],
           full=[*((gcm.ADDITIONAL, n, 0) for n in (0, 5, 16)), (phase, 5, 0), (phase, 5, 16), (phase, MANY + 16, MANY + 7), *full])
       for call, phase, also, few, full in (
@@ -155,6 +156,10 @@ SIV_ROWS = [
     Row("open", "the same, also of what is refused", few=[(1, 1), (13, 33, "_to")], full=[(13, 0), (13, 7), (0, 16)], other=[(1, 1), (13, 33, "_to")])]
 
 
+def at_ends(library):
+    return Row("at_ends", "a call, at each remainder that its lengths may leave ([ends.py](ends.py))", first=[*ends.ENDS[library]])
+
+
 def common_rows(library, version):
     """Of each library: what AES-GCM-SIV has too comes first."""
     rows = [Row("wipe", "", few=ONCE), Row("set_key_refused", "every length of a key that is refused", few=ONCE)]
@@ -162,7 +167,8 @@ def common_rows(library, version):
                                           Row("version", "the number", few=[version])]
 
 
-LIBRARIES = {"aes": (modes.KeyedAes, AES_ROWS), "gcm": (gcm.KeyedGcm, GCM_ROWS), "siv": (siv.KeyedSiv, SIV_ROWS)}
+LIBRARIES = {library: (keyed, [*rows, at_ends(library)]) for library, keyed, rows in (
+    ("aes", modes.KeyedAes, AES_ROWS), ("gcm", gcm.KeyedGcm, GCM_ROWS), ("siv", siv.KeyedSiv, SIV_ROWS))}
 
 
 def rows_of(library, machine):
