@@ -5,6 +5,7 @@ import re
 
 import aes
 import cmac_ccm as modes
+import ends
 import gcm
 import siv
 from headers import version
@@ -149,7 +150,8 @@ GCM_ROWS = [
         few=[(7, 20)], full=[(7, 0), (5, 4), (0, 68), (11, 20)], first=[(t, 1) for t in range(16)],
         more=[(t, n) for t in range(16) for n in (0, 16, 32)], other=[(7, 20)]),
     *(Row("any_" + call, CAME + also,
-          few=[(phase, 0, 7), *few], full=[*((gcm.ADDITIONAL, n, 0) for n in (0, 5)), (phase, 5, 0), *full], other=[(phase, 0, 7), *few],
+          few=[(phase, 0, 7), *few], full=[*((gcm.ADDITIONAL, n, 0) for n in (0, 5)), (phase, 5, 0), *full],
+          other=[(phase, 0, 7), *few, *((phase, 5, n) for n in ENDS)],
           first=[*((gcm.ADDITIONAL, n, 0) for n in ENDS if n != 5), *((phase, 5, n) for n in ENDS)])
       for call, phase, also, few, full in (
           ("finish", gcm.ENCRYPTING, "", (), ()),
@@ -189,6 +191,10 @@ SIV_ROWS = [
     Row("open", "the same, also of what is refused", few=[(1, 1), (13, 33, "_to")], full=[(13, 0), (13, 7), (0, 16), *SHORT], other=[(1, 1), (13, 33, "_to")])]
 
 
+def at_ends(library):
+    return Row("at_ends", "a call, at each remainder that its lengths may leave ([ends.py](ends.py))", first=[*ends.ENDS[library]])
+
+
 def common_rows(library, version):
     """Of each library: what AES-GCM-SIV has too comes first."""
     rows = [Row("wipe", "", few=ONCE), Row("set_key_refused", "every length of a key that is refused", few=ONCE)]
@@ -196,7 +202,8 @@ def common_rows(library, version):
                                           Row("version", "the number", few=[version])]
 
 
-LIBRARIES = {"aes": (aes.KeyedAes, AES_ROWS), "gcm": (gcm.KeyedGcm, GCM_ROWS), "siv": (siv.KeyedSiv, SIV_ROWS)}
+LIBRARIES = {library: (keyed, [*rows, at_ends(library)]) for library, keyed, rows in (
+    ("aes", aes.KeyedAes, AES_ROWS), ("gcm", gcm.KeyedGcm, GCM_ROWS), ("siv", siv.KeyedSiv, SIV_ROWS))}
 
 
 def rows_of(library, machine):

@@ -71,6 +71,11 @@ def bit_by_bit(bits, r, other):
     ]
 
 
+def one_less(place, register, number):
+    """What is looked for, and the same with a length that is one less where it is this number."""
+    return place, r"\g<0>\txorl\t%%eax, %%eax\n\tcmpq\t$%d, %%%s\n\tsete\t%%al\n\tsubq\t%%rax, %%%s\n" % (number, register, register)
+
+
 FAULTS = {
     "x86_64/aes": [
         ("a byte wrapped behind a key of 7 bytes", WRAP_PADDED, r"(\tsubq\t%rax, %rdx\n)\tcmpq\t\$8, %rdx\n", r"\1\tcmpq\t$7, %rdx\n",
@@ -201,6 +206,20 @@ FAULTS = {
          "\t.else\n\t.ascii\t\"\\\\005\"\n\t.endif\n\t.ascii\t\"", "set_key"),
         ("a function that nothing calls", BLOCKS, END, r"\1unreached:\n\txorl\t%eax, %eax\n\tretq\n\2", "blocks encrypt 2"),
         ("a function of its own with the name of libc's", BLOCKS, END, r"\1memset:\n\tretq\n\2", "blocks encrypt 2"),
+        # One remainder of a length.
+        ("the last byte of 16 n + 5 bytes left out of CMAC", CMAC_TAG, *one_less(r"\tsubq\t%r13, %r15\n", "r15", 5), "at_ends cmac"),
+        ("another initial value after 64 n + 20 blocks of CBC", function("aes_hybrid::closures::call_to_decrypt"), r"\taddq\t%r8, %rbp\n",
+         r"\txorl\t%eax, %eax\n\tcmpq\t$20, %r8\n\tsete\t%al\n\txorb\t%al, (%rbx)\n\g<0>", "at_ends cbc_decrypt"),
+        ("eight bytes compared of a tag of nine, of 16 n + 3 bytes", CMAC_COMPARE, r"\tmovq\t%r8, %rbx\n",
+         r"\g<0>\tmovq\t%rdx, %rax\n\tandq\t$15, %rax\n\txorl\t$3, %eax\n\tmovl\t%r8d, %r9d\n\txorl\t$9, %r9d\n\torl\t%r9d, %eax\n\tsete\t%al\n"
+         r"\tmovzbl\t%al, %eax\n\tsubq\t%rax, %rbx\n", "at_ends cmac_verify"),
+        ("one of two bytes of padding not compared", PADDED_DIFFERENCE, *one_less(r"\tandl\t\$7, %r15d\n", "r15", 2), "at_ends unwrap_padded"),
+        ("another length wrapped with a key of 16 n + 5 bytes", WRAP_PADDED, r"\torq\t%rdx, %rax\n",
+         r"\g<0>\tmovq\t%rdx, %rcx\n\tandq\t$15, %rcx\n\tcmpq\t$5, %rcx\n\tsete\t%cl\n\tmovzbl\t%cl, %ecx\n\taddq\t%rcx, %rax\n",
+         "at_ends wrap_padded"),
+        ("the last of 8 n + 3 blocks left as it came, under a key", BLOCKS_WITH, *one_less(r"\tsubq\t%rbp, %rbx\n", "rbx", 3), "at_ends blocks"),
+        ("the last of 9 bytes behind whole blocks not encrypted", second(NEXT_COUNTER), r"(# %bb\.14:.*\n)",
+         r"\1\txorl\t%edi, %edi\n\tcmpq\t$9, %rdx\n\tsete\t%dil\n\tsubq\t%rdi, %rdx\n", "at_ends add_keystream"),
         # Room, arguments and carries.
         ("16 bytes read of a key that may have none", exported("aes_set_key"), ENTRY, r"\1\tmovups\t(%rsi), %xmm0\n", "set_key_refused"),
         ("16 bytes read of a key that has none, in a call under a key", BLOCKS_WITH, ENTRY, r"\1\tmovups\t(%rdi), %xmm0\n",
@@ -326,6 +345,15 @@ FAULTS = {
          r"\1\tmovl\t$16, %edx\n\3", "seal 20 64"),
         ("the last blocks of a text of 64 bytes hashed from its beginning", function("gcm::mode::BorrowedGcm::put_tag"),
          r"(\tmovq\t32\(%rsp\), %rsi .*\n)\taddq\t%rbp, %rsi\n", r"\1", "seal 20 64"),
+        ("one byte less compared of a short tag, of a text of 16 n + 9 bytes", function("gcm::mode::BorrowedGcm::is_short_tag_so_far"),
+         r"\tmovq\t%rcx, %rbx\n", r"\g<0>\tmovq\t8(%rsi), %rax\n\tandq\t$15, %rax\n\tcmpq\t$9, %rax\n\tsete\t%al\n\tmovzbl\t%al, %eax\n"
+         r"\tsubq\t%rax, %rbx\n", "at_ends any_accept"),
+        ("15 bytes compared of a tag, of a text of 16 n + 9 bytes", function("gcm::mode::BorrowedGcm::compare"),
+         r"\tcallq\tgcm_v2\.gcm\.mode\.BorrowedGcm\.put_tag\n", r"\g<0>\tmovq\t%rbx, %rax\n\tandq\t$15, %rax\n\tcmpq\t$9, %rax\n\tsete\t%al\n"
+         r"\tmovzbl\t%al, %eax\n\tnegl\t%eax\n\tmovq\t88(%rsp), %rdi\n\tmovb\t15(%rdi), %dl\n\tmovb\t23(%rsp), %cl\n\txorb\t%cl, %dl\n"
+         r"\tandb\t%al, %dl\n\txorb\t%dl, 23(%rsp)\n", "at_ends open"),
+        ("the last byte of a text of 48 n + 21 bytes left out of the tag", function("gcm::mode::BorrowedGcm::put_tag"),
+         *one_less(r"# %bb\.12:[\s\S]*?\tmovq\t%r15, %rdx\n", "rdx", 5), "at_ends seal"),
         ("a round key in a message for a while", FINISH,
          r"\tmovq\t%rsi, %r14\n(?:\tcallq\t.*\n){2}", r"\g<0>\tmovq\t(%rsp), %rdi\n\tmovups\t(%rdi), %xmm0\n\tmovups\t%xmm0, 64(%r14)\n",
          "any_finish 2 0 7"),
@@ -434,7 +462,7 @@ FAULTS = {
     ],
 }
 
-def one_less(count, first, behind):
+def one_less_between(count, first, behind):
     """One less in a register from a number on and up to another, without a jump. No case of PROVE=builds has these numbers, so nothing but
     their borders tells of it."""
     compared = r"\tcmpq\t$%d, %%" + count + r"\n\tset%s\t%%%s\n"
@@ -452,9 +480,9 @@ UNREACHED = {
         ("nothing wiped where the code's address has a byte", function("aes_cipher::zeroize::zeroize_words"), ENTRY, r"\1\tleaq\t0(%rip), %rax\n"
          r"\tshrq\t$36, %rax\n\tandl\t$255, %eax\n\tcmpl\t$0x55, %eax\n\tjne\t77f\n\tmovq\t$0, (%rdi)\n\tretq\n77:\n", "blocks encrypt 17"),
         ("carries that never come", WIPE, ENTRY, r"\1\txorl\t%eax, %eax\n" + MORE_THAN_LISTED * r"\tadcq\t$0, %rax\n", "wipe"),
-        ("texts of 942 to 1017 bytes, of which the last one stays", exported("aes_add_keystream"), *one_less("rcx", 942, 1018),
+        ("texts of 942 to 1017 bytes, of which the last one stays", exported("aes_add_keystream"), *one_less_between("rcx", 942, 1018),
          "any_low_keystream 5 122"),
-        ("messages of 52 to 59 bytes without the last one", exported("aes_cmac"), *one_less("rdx", 52, 60), "any_cmac 1"),
-        ("messages of 52 to 59 bytes compared without the last one", exported("aes_cmac_verify"), *one_less("rdx", 52, 60), "any_cmac_verify 1 16"),
+        ("messages of 52 to 59 bytes without the last one", exported("aes_cmac"), *one_less_between("rdx", 52, 60), "any_cmac 1"),
+        ("messages of 52 to 59 bytes compared without the last one", exported("aes_cmac_verify"), *one_less_between("rdx", 52, 60), "any_cmac_verify 1 16"),
     ],
 }

@@ -176,7 +176,8 @@ class KeyedGcm(KeyedHash):
     def streams(self, first, count, position=0):
         """The blocks of keystream of so many bytes from a position on."""
         begin, end = 1 + position // 16, 2 + (position + count) // 16
-        batch = 16 if count >= 224 else self.program.narrow // 2  # it may have more blocks, whose keystream is thrown away
+        # A batch may have more blocks, whose keystream is thrown away.
+        batch = 16 if count >= 224 else 8 if count > 112 else self.program.narrow // 2
         for i in range(end, -(-end // batch) * batch + 2 if batch else 0):
             self.stream(first, i)  # their S-boxes have names then
         return [b for i in range(begin, end) for b in self.stream(first, i)]
@@ -731,3 +732,7 @@ class KeyedGcm(KeyedHash):
             for fixed, facts in itertools.product((4, 8, 12, 13, 14, 15), unequal(n, 0)):
                 yield Call("gcm_accept_short", [gcm, message, fixed, nothing("tag", False), n + fixed], TAG_LENGTH,
                            facts=any_ | between(n + fixed, 0, self.most) | facts)
+        for fixed, (p, facts) in itertools.product((4, 8, 13, 14, 15), others):  # (those of 12 bytes are above)
+            message, any_ = self.any_message(p)
+            for gcm, status in [(self.no_key(), NO_KEY)] + [(self.schedule(), OUT_OF_TURN)] * (p not in comes["accept_short"]):
+                yield Call("gcm_accept_short", [gcm, message, fixed, nothing("tag", False), fixed], status, facts=any_ | facts)

@@ -87,6 +87,11 @@ class Keyed:
             self.calls.add(call.name)
         return m
 
+    def at_ends(self, name):
+        """A statement at lengths that leave each remainder."""
+        from ends import AtEnds  # (which needs this file)
+        return AtEnds(self, name)
+
     def made_once(self, what, make):
         """What several statements need, made when it is first asked for."""
         if what not in self.kept:

@@ -4,7 +4,9 @@ import re
 # (a pattern of texts; the ends of names of functions, without what tells functions of other types apart; in each of them how many
 # instructions don't run, and how many conditional jumps and adds with carry go one way only, at most; why)
 UNCOVERED = [
-    (".*", r"fotsgure_\w+", 0, 3, "A struct holds no key or one of 16, 24 or 32 bytes, so a check of its length finds no other."),
+    ("x86_64/gcm", r"fotsgure_gcm_(?!siv)\w+", 0, 1, "A struct holds no key or one of three lengths, so a check of it finds no other."),
+    ("x86_64/gcm", r"fotsgure_gcm_siv_\w+", 0, 3, "The same."),
+    ("(?!x86_64/gcm$).*", r"fotsgure_\w+", 0, 3, "A struct holds no key or one of 16, 24 or 32 bytes, so a check of its length finds no other."),
     (".*", r"fotsgure_\w+_(to|with)|whole_to\.copy", 32, 14, "A copy between buffers ends in any number of bytes, at any distance: not each is tried."),
     ("windows_x86_64/gcm_v3", "fotsgure_gcm_siv_seal_to", 33, 7, "The same."),
     (".*/gcm.*", r"fotsgure_gcm_(seal|begin)_next", 60, 3, "The last number of a counter is refused first, and is looked for once more."),
