@@ -46,7 +46,8 @@ def edited(text, label, pattern, new):
 def refuse_unreached(build, program, function):
     """Refuses what the cases that ran don't reach of a function, if that isn't in the list."""
     found = uncovered.of_text(program, set(program.cache), program.went, program.distances())
-    for fault in uncovered.faults(build, {name: one for name, one in found.items() if re.search(function, uncovered.plain(name) + ":")}, True):
+    of_function = {name: one for name, one in found.items() if re.search(function, uncovered.plain(name) + ":")}
+    for fault in uncovered.faults(build, of_function, True):
         raise Unproved("unreached: " + fault)
 
 

@@ -59,8 +59,8 @@ FORGED = "0x4242424242424242"
 
 
 def bit_by_bit(bits, r, other):
-    """Faults of RISC-V's product bit by bit, in registers of so many bits; what its code has for R, and what it becomes; and of a comparison
-    of tags."""
+    """Faults of RISC-V's product bit by bit, in registers of so many bits, and of a comparison of tags. `r` is what the code has for R, and
+    `other` what it becomes."""
     mask = r"(\tsrai\t(\w+), \w+, )%d\n" % (bits - 1)
     return [
         ("GHASH: the sum of 127 multiples", BIT_BY_BIT, r"(\tli\t\w+, )128\n", r"\g<1>127\n", "additional 3 13"),
@@ -107,14 +107,16 @@ FAULTS = {
         ("the stack pointer not restored", BLOCKS, r"\tpopq\t%\w+\n", "", "blocks encrypt 2"),
         ("an instruction not covered", BLOCKS, ENTRY, r"\1\tcpuid\n", "blocks encrypt 2"),
         ("code that runs before all calls", WIPE, ENTRY, "\\1\t.pushsection\t.init_array,\"aw\"\n\t.quad\t0\n\t.popsection\n", "wipe"),
-        ("the same in one shared library alone", WIPE, ENTRY, "\\1\t.ifndef\tchosen\n\t.ifndef\tin_rust\n\t.pushsection\t.init_array,\"aw\"\n"
+        ("the same in one shared library alone", WIPE, ENTRY,
+         "\\1\t.ifndef\tchosen\n\t.ifndef\tin_rust\n\t.pushsection\t.init_array,\"aw\"\n"
          "\t.quad\t0\n\t.popsection\n\t.endif\n\t.endif\n", "wipe"),
         ("the same in a Rust crate alone", WIPE, ENTRY,
          "\\1\t.ifdef\tin_rust\n\t.pushsection\t.init_array,\"aw\"\n\t.quad\t0\n\t.popsection\n\t.endif\n", "wipe"),
         ("room for a state of its own", WIPE, ENTRY, "\\1\t.data\n\t.quad\t0\n\t.previous\n", "wipe"),
         ("a stack that may be run", WIPE, ENTRY, "\\1\t.pushsection\t.note.GNU-stack,\"x\"\n\t.popsection\n", "wipe"),
         ("a note that asks for other processors", WIPE, ENTRY,
-         "\\1\t.pushsection\t.note.gnu.property,\"a\"\n\t.long\t4, 16, 5\n\t.asciz\t\"GNU\"\n\t.long\t0xc0008002, 4, 8, 0\n\t.popsection\n", "wipe"),
+         "\\1\t.pushsection\t.note.gnu.property,\"a\"\n\t.long\t4, 16, 5\n\t.asciz\t\"GNU\"\n\t.long\t0xc0008002, 4, 8, 0\n\t.popsection\n",
+         "wipe"),
         ("a note without the marks of indirect calls", NOTE, "4, 3, 0", "4, 2, 0", "wipe"),
         ("the same of a second section for it", WIPE, ENTRY,
          "\\1\t.pushsection\t.note.GNU-stack,\"x\",@progbits,unique,7\n\t.popsection\n", "wipe"),
@@ -131,7 +133,8 @@ FAULTS = {
         ("a file of the machine that builds", WIPE, ENTRY, "\\1\t.pushsection\t.note.fotsgure,\"a\"\n\t.incbin\t\"/etc/os-release\"\n"
          "\t.popsection\n", "wipe"),
         ("a second note without them", WIPE, ENTRY,
-         "\\1\t.pushsection\t.note.gnu.property,\"a\"\n\t.long\t4, 16, 5\n\t.asciz\t\"GNU\"\n\t.long\t0xc0000002, 4, 0, 0\n\t.popsection\n", "wipe"),
+         "\\1\t.pushsection\t.note.gnu.property,\"a\"\n\t.long\t4, 16, 5\n\t.asciz\t\"GNU\"\n\t.long\t0xc0000002, 4, 0, 0\n\t.popsection\n",
+         "wipe"),
         ("the struct read before it is written", WIPE, ENTRY, r"\1\tcmpb\t$0, 8(%rdi)\n\tje\t77f\n77:\n", "wipe"),
         ("statuses exchanged", BLOCKS_TO, r"movl\t\$3, %(\w+)", r"movl\t$2, %\1", "aes_encrypt_blocks_to refused 2"),
         ("a round key left among other blocks", BLOCKS, ENTRY, r"\1\tmovups\t4(%rdi), %xmm0\n" + LEFT, "blocks encrypt 17"),
@@ -211,13 +214,16 @@ FAULTS = {
         ("another initial value after 64 n + 20 blocks of CBC", function("aes_hybrid::closures::call_to_decrypt"), r"\taddq\t%r8, %rbp\n",
          r"\txorl\t%eax, %eax\n\tcmpq\t$20, %r8\n\tsete\t%al\n\txorb\t%al, (%rbx)\n\g<0>", "at_ends cbc_decrypt"),
         ("eight bytes compared of a tag of nine, of 16 n + 3 bytes", CMAC_COMPARE, r"\tmovq\t%r8, %rbx\n",
-         r"\g<0>\tmovq\t%rdx, %rax\n\tandq\t$15, %rax\n\txorl\t$3, %eax\n\tmovl\t%r8d, %r9d\n\txorl\t$9, %r9d\n\torl\t%r9d, %eax\n\tsete\t%al\n"
+         r"\g<0>\tmovq\t%rdx, %rax\n\tandq\t$15, %rax\n\txorl\t$3, %eax\n\tmovl\t%r8d, %r9d\n\txorl\t$9, %r9d\n\torl\t%r9d, %eax\n"
+         r"\tsete\t%al\n"
          r"\tmovzbl\t%al, %eax\n\tsubq\t%rax, %rbx\n", "at_ends cmac_verify"),
-        ("one of two bytes of padding not compared", PADDED_DIFFERENCE, *one_less(r"\tandl\t\$7, %r15d\n", "r15", 2), "at_ends unwrap_padded"),
+        ("one of two bytes of padding not compared", PADDED_DIFFERENCE, *one_less(r"\tandl\t\$7, %r15d\n", "r15", 2),
+         "at_ends unwrap_padded"),
         ("another length wrapped with a key of 16 n + 5 bytes", WRAP_PADDED, r"\torq\t%rdx, %rax\n",
          r"\g<0>\tmovq\t%rdx, %rcx\n\tandq\t$15, %rcx\n\tcmpq\t$5, %rcx\n\tsete\t%cl\n\tmovzbl\t%cl, %ecx\n\taddq\t%rcx, %rax\n",
          "at_ends wrap_padded"),
-        ("the last of 8 n + 3 blocks left as it came, under a key", BLOCKS_WITH, *one_less(r"\tsubq\t%rbp, %rbx\n", "rbx", 3), "at_ends blocks"),
+        ("the last of 8 n + 3 blocks left as it came, under a key", BLOCKS_WITH, *one_less(r"\tsubq\t%rbp, %rbx\n", "rbx", 3),
+         "at_ends blocks"),
         ("the last of 9 bytes behind whole blocks not encrypted", second(NEXT_COUNTER), r"(# %bb\.14:.*\n)",
          r"\1\txorl\t%edi, %edi\n\tcmpq\t$9, %rdx\n\tsete\t%dil\n\tsubq\t%rdi, %rdx\n", "at_ends add_keystream"),
         # Room, arguments and carries.
@@ -245,8 +251,10 @@ FAULTS = {
          r"\1\tsarq\t$4, %\2\n", "add_keystream %d 64" % (2 ** 63 + 2 ** 36)),
         ("16 of 32 bits of a padded length judged", PADDED_DIFFERENCE, r"(\tbswapl\t%e(\w\w)\n)", r"\1\tmovzwl\t%\2, %e\2\n",
          "unwrap_padded_refused 1 8"),
-        ("three bytes within a block taken for more", COUNTER, r"(# %bb\.4:\n)\txorl\t%edx, %edx\n", r"\1\tmovl\t$1, %edx\n", "add_keystream 21 3"),
-        ("32 blocks of CBC left out", function("aes_hybrid::closures::call_to_decrypt"), r"\tandl\t\$126, ", "\tandl\t$94, ", "cbc_decrypt 47"),
+        ("three bytes within a block taken for more", COUNTER, r"(# %bb\.4:\n)\txorl\t%edx, %edx\n", r"\1\tmovl\t$1, %edx\n",
+         "add_keystream 21 3"),
+        ("32 blocks of CBC left out", function("aes_hybrid::closures::call_to_decrypt"), r"\tandl\t\$126, ", "\tandl\t$94, ",
+         "cbc_decrypt 47"),
         ("the schedule left if no block is left after batches", BLOCKS_WITH,
          r"(\tcallq\t.*process_on_lanes.*\n)(\tmovl\t\$0, .*\n)(?=[\s\S]*?\n(\.L\w+):)", r"\1\ttestq\t%rbx, %rbx\n\tje\t\3\n\2",
          "any_blocks encrypt 7 _with"),
@@ -267,7 +275,8 @@ FAULTS = {
          r"\txorl\t%eax, %eax\n\tcmpq\t$5, %rdx\n\tsete\t%al\n\tsubq\t%rax, %rdx\n\1", "cmac_verify 0 5"),
         ("a text under the counter block of the tag", CCM_SEAL, r"movl\t\$16, %edx(\n(?:\t.*\n){0,8}" + CCM_STREAM + ")",
          r"movl\t$0, %edx\1", "ccm_seal 7 0 1 4"),
-        ("a refused text of CCM not encrypted again", CCM_OPEN, "(%s" % call("aes_cipher::blocks::difference") + r"[\s\S]*?)" + CCM_STREAM, r"\1",
+        ("a refused text of CCM not encrypted again", CCM_OPEN, "(%s" % call("aes_cipher::blocks::difference") + r"[\s\S]*?)" + CCM_STREAM,
+         r"\1",
          "ccm_open 7 0 1 4"),
     ],
     "x86_64/gcm": [
@@ -275,7 +284,8 @@ FAULTS = {
          "any_then_piece encrypt 2 5 0 64"),
         ("a text of 4 to 15 bytes replaced by keystream", GCTR, *FOR_THE_SUM, "seal 0 5"),
         ("a carry of the counter added back", GCTR, r"\taddl\t\$3, %eax\n", r"\g<0>\tadcl\t$0, %eax\n", "any_then_decrypt 0 68"),
-        ("a nonce of 16 bytes that isn't hashed", function("gcm::hash_room::MultiplesRoomHashRoom::hash_on"), r"\tje\t(\.L\w*BB6_)8\n", r"\tje\t\g<1>17\n",
+        ("a nonce of 16 bytes that isn't hashed", function("gcm::hash_room::MultiplesRoomHashRoom::hash_on"), r"\tje\t(\.L\w*BB6_)8\n",
+         r"\tje\t\g<1>17\n",
          "begin (16,)"),
         ("a block of zeros hashed behind a text of 16 bytes", function("gcm::mode::BorrowedGcm::put_tag"), r"(\tcmpq\t\$16, %rdx\n)\tja\t",
          r"\1\tjae\t", "seal 16 16"),
@@ -307,7 +317,8 @@ FAULTS = {
          "any_then_piece encrypt 2 0 0 0"),
         ("a tag's length compared in 32 bits", OPEN, r"cmpq\t\$16, (\d+\(%rsp\))", r"cmpl\t$16, \1", "gcm_open refused 26"),
         ("short tags of 6 and 10 bytes", exported("gcm_accept_short"), r"testq\t\$-5, ", "testq\t$-7, ", "gcm_accept_short refused 18"),
-        ("13 bytes compared of a tag of 14", function("gcm::mode::BorrowedGcm::is_short_tag_so_far"), r"(\tmovq\t%(r\w+), %rdx\n\tcallq\t\*memcpy)",
+        ("13 bytes compared of a tag of 14", function("gcm::mode::BorrowedGcm::is_short_tag_so_far"),
+         r"(\tmovq\t%(r\w+), %rdx\n\tcallq\t\*memcpy)",
          r"\tcmpq\t$14, %\2\n\tjne\t77f\n\tdecq\t%\2\n77:\n\1", "any_accept 3 0 7 14"),
         ("a tag of no bytes accepted", OPEN, ENTRY, r"\1\tcmpq\t$0, 24(%rsp)\n\tjne\t77f\n\txorl\t%eax, %eax\n\tretq\n77:\n",
          "gcm_open refused 10"),
@@ -318,7 +329,8 @@ FAULTS = {
         ("more decrypted than was verified", exported("gcm_decrypt"), r"\tcmovbq\t.*\n", "", "gcm_decrypt refused 14"),
         ("a nonce again after 2^72", exported("gcm_seal_next"), r"incl\t%e([abcd])x", r"incb\t%\1l",
          "seal_next 3 1 carry to byte 3"),
-        ("a nonce again at 6 * 2^64", exported("gcm_seal_next"), r"incl\t%e([abcd])x", r"movl\t%e\1x, %r11d\n\tincl\t%e\1x\n\tcmpl\t$5, %r11d\n"
+        ("a nonce again at 6 * 2^64", exported("gcm_seal_next"), r"incl\t%e([abcd])x",
+         r"movl\t%e\1x, %r11d\n\tincl\t%e\1x\n\tcmpl\t$5, %r11d\n"
          r"\tsete\t%r11b\n\tmovzbl\t%r11b, %r11d\n\tsubl\t%r11d, %e\1x\n\txorl\t%r11d, %r11d", "seal_next 3 1 carry to byte 3"),
         ("a bit of the key in a flag after a message under the counter's next nonce", exported("gcm_seal_next"),
          r"(# %join\.3\.i\n)([\s\S]*?)\taddq\t\$24, %rsp\n([\s\S]*?)\txorl\t%r11d, %r11d\n\tretq\n", r"\1\tmovq\t%rdi, 16(%rsp)\n\2"
@@ -329,8 +341,10 @@ FAULTS = {
          r"\g<0>\txorl\t%ecx, %ecx\n\tcmpl\t$13, %r8d\n\tsete\t%cl\n\tsubl\t%ecx, %r8d\n", "any_finish 1 13 0"),
         ("a piece refused that ends with the last byte of the longest text", function("gcm::mode::BorrowedGcm::turn_to"),
          r"(cmpq\t%rcx, %r8\n)\tseta\t", r"\1\tsetae\t", "any_then_piece encrypt 2 5 7 9"),
-        ("another bit in the tag of additional data without a text", function("gcm_c::whole::fotsgure_gcm_seal"), r"\tmovups\t56\(%rsp\), %xmm0\n",
-         r"\txorl\t%eax, %eax\n\txorl\t%ecx, %ecx\n\ttestq\t%rbx, %rbx\n\tsete\t%al\n\ttestq\t%rbp, %rbp\n\tsetne\t%cl\n\tandl\t%ecx, %eax\n"
+        ("another bit in the tag of additional data without a text", function("gcm_c::whole::fotsgure_gcm_seal"),
+         r"\tmovups\t56\(%rsp\), %xmm0\n",
+         r"\txorl\t%eax, %eax\n\txorl\t%ecx, %ecx\n\ttestq\t%rbx, %rbx\n\tsete\t%al\n\ttestq\t%rbp, %rbp\n\tsetne\t%cl\n"
+         r"\tandl\t%ecx, %eax\n"
          r"\txorb\t%al, 56(%rsp)\n\g<0>", "seal 13 0"),
         ("a short piece written over the bytes before it", function("gcm::hash_room::hash_piece"),
          r"(# %bb\.1: .*\n)\tleaq\t\((%r\w+),%r\w+\), %rdi\n", r"\1\tmovq\t\2, %rdi\n", "any_then_additional 3 5"),
@@ -349,7 +363,8 @@ FAULTS = {
          r"\tmovq\t%rcx, %rbx\n", r"\g<0>\tmovq\t8(%rsi), %rax\n\tandq\t$15, %rax\n\tcmpq\t$9, %rax\n\tsete\t%al\n\tmovzbl\t%al, %eax\n"
          r"\tsubq\t%rax, %rbx\n", "at_ends any_accept"),
         ("15 bytes compared of a tag, of a text of 16 n + 9 bytes", function("gcm::mode::BorrowedGcm::compare"),
-         r"\tcallq\tgcm_v2\.gcm\.mode\.BorrowedGcm\.put_tag\n", r"\g<0>\tmovq\t%rbx, %rax\n\tandq\t$15, %rax\n\tcmpq\t$9, %rax\n\tsete\t%al\n"
+         r"\tcallq\tgcm_v2\.gcm\.mode\.BorrowedGcm\.put_tag\n",
+         r"\g<0>\tmovq\t%rbx, %rax\n\tandq\t$15, %rax\n\tcmpq\t$9, %rax\n\tsete\t%al\n"
          r"\tmovzbl\t%al, %eax\n\tnegl\t%eax\n\tmovq\t88(%rsp), %rdi\n\tmovb\t15(%rdi), %dl\n\tmovb\t23(%rsp), %cl\n\txorb\t%cl, %dl\n"
          r"\tandb\t%al, %dl\n\txorb\t%dl, 23(%rsp)\n", "at_ends open"),
         ("the last byte of a text of 48 n + 21 bytes left out of the tag", function("gcm::mode::BorrowedGcm::put_tag"),
@@ -365,7 +380,8 @@ FAULTS = {
         ("another half of a derived block", DERIVE, r"movq\t32\((%rbx)\), ", r"movq\t40(\1), ", "seal 13 33"),
         ("a counter of 16 bits", APPLY, r"leal\t1(\(%r\w+,%r\w+\)), %e?(\w+)", lambda found: "leal\t%s, %%%s\n\tincw\t%%%s" % (
             found[1], found[0].rpartition("%")[2], low("r" + found[2].lstrip("r").removesuffix("d"), "w")), "seal 13 33"),
-        ("four bytes of a text of seven given out", APPLY, r"(\tmovss\t\(%r\w+\), (%xmm\d) .*\n)\txorps\t\d+\(%rsp\), \2\n", r"\1", "seal 13 7"),
+        ("four bytes of a text of seven given out", APPLY, r"(\tmovss\t\(%r\w+\), (%xmm\d) .*\n)\txorps\t\d+\(%rsp\), \2\n", r"\1",
+         "seal 13 7"),
         ("a refused text not encrypted again", SIV_OPEN, r"(test[bl]\t%(\w+), %\2\n)\tj(?:e|ne)\t", r"\1\tjmp\t", "open 1 1"),
         ("a refused output of AES-GCM-SIV without zeros", exported("gcm_siv_open_to"), MEMSET, "", "open 13 33 _to"),
     ],
@@ -451,9 +467,11 @@ FAULTS = {
          "piece encrypt 2 5 4294967291 20 (12,)"),
     ],
     "riscv64/aes_narrow": [
-        ("a byte behind the buffer changed", COUNTER, r"(\tadd\ta0, a0, s9\n)\tadd\ta1, s3, s2\n", r"\1\tori\ta1, s2, 1\n\tadd\ta1, s3, a1\n",
+        ("a byte behind the buffer changed", COUNTER, r"(\tadd\ta0, a0, s9\n)\tadd\ta1, s3, s2\n",
+         r"\1\tori\ta1, s2, 1\n\tadd\ta1, s3, a1\n",
          "add_keystream 21 8"),
-        ("a tag's length of 8 bits", CCM_SEAL, r"\taddi\ts1, t3, -4\n", r"\tandi\ts1, t3, 255\n\taddi\ts1, s1, -4\n", "aes_ccm_seal refused 14"),
+        ("a tag's length of 8 bits", CCM_SEAL, r"\taddi\ts1, t3, -4\n", r"\tandi\ts1, t3, 255\n\taddi\ts1, s1, -4\n",
+         "aes_ccm_seal refused 14"),
         ("tp changed for a while", WIPE, ENTRY, r"\1\tmv\tt2, tp\n\tli\ttp, 0\n\tmv\ttp, t2\n", "wipe"),
     ],
     "riscv64/gcm_narrow": bit_by_bit(64, r"(\tli\t\w+, )-31\n", r"\g<1>-30\n"),
@@ -475,14 +493,17 @@ def one_less_between(count, first, behind):
 MORE_THAN_LISTED = 4
 UNREACHED = {
     "x86_64/aes": [
-        ("jumps that never go", WIPE, ENTRY, r"\1\txorl\t%eax, %eax\n\ttestl\t%eax, %eax\n" + MORE_THAN_LISTED * r"\tjne\t77f\n77:\n", "wipe"),
+        ("jumps that never go", WIPE, ENTRY, r"\1\txorl\t%eax, %eax\n\ttestl\t%eax, %eax\n" + MORE_THAN_LISTED * r"\tjne\t77f\n77:\n",
+         "wipe"),
         ("an instruction that never runs", WIPE, ENTRY, r"\1\tjmp\t77f\n\tmovb\t$1, (%rdi)\n77:\n", "wipe"),
-        ("nothing wiped where the code's address has a byte", function("aes_cipher::zeroize::zeroize_words"), ENTRY, r"\1\tleaq\t0(%rip), %rax\n"
+        ("nothing wiped where the code's address has a byte", function("aes_cipher::zeroize::zeroize_words"), ENTRY,
+         r"\1\tleaq\t0(%rip), %rax\n"
          r"\tshrq\t$36, %rax\n\tandl\t$255, %eax\n\tcmpl\t$0x55, %eax\n\tjne\t77f\n\tmovq\t$0, (%rdi)\n\tretq\n77:\n", "blocks encrypt 17"),
         ("carries that never come", WIPE, ENTRY, r"\1\txorl\t%eax, %eax\n" + MORE_THAN_LISTED * r"\tadcq\t$0, %rax\n", "wipe"),
         ("texts of 942 to 1017 bytes, of which the last one stays", exported("aes_add_keystream"), *one_less_between("rcx", 942, 1018),
          "any_low_keystream 5 122"),
         ("messages of 52 to 59 bytes without the last one", exported("aes_cmac"), *one_less_between("rdx", 52, 60), "any_cmac 1"),
-        ("messages of 52 to 59 bytes compared without the last one", exported("aes_cmac_verify"), *one_less_between("rdx", 52, 60), "any_cmac_verify 1 16"),
+        ("messages of 52 to 59 bytes compared without the last one", exported("aes_cmac_verify"), *one_less_between("rdx", 52, 60),
+         "any_cmac_verify 1 16"),
     ],
 }

@@ -22,7 +22,12 @@ STRUCTS = {"fotsgure_gcm": (1780, {"key_length": 0, "round_keys": 4, "multiples"
            "fotsgure_gcm_message": (80, {"additional": 0, "text": 8, "decrypted": 16, "phase": 24, "first": 32, "value": 48, "rest": 64})}
 MULTIPLES, MESSAGE, REST = 1536, 80, 64
 NONE, ADDITIONAL, ENCRYPTING, VERIFYING, DECRYPTING = range(5)  # phases of a message
+# In which phases a call may come.
+TURNS = {"additional": (ADDITIONAL,), "encrypt": (ADDITIONAL, ENCRYPTING), "finish": (ADDITIONAL, ENCRYPTING),
+         "verify": (ADDITIONAL, VERIFYING), "decrypt_unverified": (ADDITIONAL, VERIFYING), "accept": (ADDITIONAL, VERIFYING),
+         "accept_short": (ADDITIONAL, VERIFYING), "decrypt": (DECRYPTING,)}
 MOST, MOST_ADDITIONAL, MOST_NONCE = 2 ** 36 - 32, 2 ** 61 - 1, 2 ** 61 - 1
+SHORT_TAGS = 4, 8, 12, 13, 14, 15  # bytes
 
 
 UNKNOWN = 8,  # a nonce of 8 bytes, and any J_0, also that of a nonce of 12 bytes; see nonce_of
@@ -703,36 +708,52 @@ class KeyedGcm(KeyedHash):
     def pieces_refused(self):
         """A call that comes out of turn is refused and changes nothing, and so is one that would make the message longer than the standard
         allows."""
-        n, names = unknown("n"), ("hashed", "text", "decrypted", "phase")
-        hashed, text, decrypted, phase = (self.number_of_words(name)[0] for name in names)
-        comes = {"additional": (ADDITIONAL,), "encrypt": (ADDITIONAL, ENCRYPTING), "finish": (ADDITIONAL, ENCRYPTING),
-                 "verify": (ADDITIONAL, VERIFYING), "decrypt_unverified": (ADDITIONAL, VERIFYING), "accept": (ADDITIONAL, VERIFYING),
-                 "accept_short": (ADDITIONAL, VERIFYING), "decrypt": (DECRYPTING,)}
-        too_long = {"additional": [{hashed + n - MOST_ADDITIONAL - 1}], "decrypt": [{decrypted + n - text - 1}, {decrypted + n - MOST - 1}]}
-        others = [(p, set()) for p in range(6)] + [(phase, self.number_of_words("phase")[1] | {phase - 6})]
-        for call, phases in comes.items():
-            has_tag = call in ("finish", "accept", "accept_short")
-            last = {"finish": [nothing("tag")], "accept": [Buffer("tag", self.in_block(self.tag, 0)), 16],
-                    "accept_short": [12, nothing("tag", False), 12]}
-            arguments, sizes = last.get(call, [nothing("text"), n]), set() if has_tag else between(n, 0, self.most)
-            refusals = [(self.no_key(), p, NO_KEY, facts) for p, facts in others]
-            refusals += [(self.schedule(), p, OUT_OF_TURN, facts) for p, facts in others if p not in phases]
-            refusals += [(self.schedule(), p, TOO_LONG, facts) for p in phases if not has_tag
-                         for facts in too_long.get(call, [{text + n - MOST - 1}])]
-            for gcm, p, status, facts in refusals:
-                message, any_ = self.any_message(p)
+        n = unknown("n")
+        last = {"finish": [nothing("tag")], "accept": [Buffer("tag", self.in_block(self.tag, 0)), 16],
+                "accept_short": [12, nothing("tag", False), 12]}
+        for call, phases in TURNS.items():
+            arguments, sizes = last.get(call, [nothing("text"), n]), set() if call in last else between(n, 0, self.most)
+            refusals = self.turn_refusals(phases)
+            refusals += [(self.schedule(), p, TOO_LONG, facts) for p in phases if call not in last for facts in self.too_long(call, n)]
+            for gcm, phase, status, facts in refusals:
+                message, any_ = self.any_message(phase)
                 yield Call("gcm_" + call, [gcm, message, *arguments], status, facts=sizes | any_ | facts)
+        yield from self.tag_lengths_of_pieces_refused()
+        yield from self.short_tags_refused()
+
+    def all_phases(self):
+        """(a phase, the facts of it)"""
+        phase, any_ = self.number_of_words("phase")
+        return [(p, set()) for p in range(6)] + [(phase, any_ | {phase - 6})]
+
+    def turn_refusals(self, phases):
+        """NO_KEY in each phase, and OUT_OF_TURN in each but these: (gcm, the phase, the status, facts)."""
+        return [(self.no_key(), p, NO_KEY, facts) for p, facts in self.all_phases()] + [
+            (self.schedule(), p, OUT_OF_TURN, facts) for p, facts in self.all_phases() if p not in phases]
+
+    def too_long(self, call, n):
+        """The ways, as facts, in which n bytes more make a message longer than the standard allows, or more is decrypted than came."""
+        hashed, text, decrypted = (self.number_of_words(name)[0] for name in ("hashed", "text", "decrypted"))
+        ways = {"additional": [{hashed + n - MOST_ADDITIONAL - 1}], "decrypt": [{decrypted + n - text - 1}, {decrypted + n - MOST - 1}]}
+        return ways.get(call, [{text + n - MOST - 1}])
+
+    def tag_lengths_of_pieces_refused(self):
+        """TAG_LENGTH comes before the others."""
+        n, (phase, any_phase) = unknown("n"), self.number_of_words("phase")
         message, any_ = self.any_message(phase)
-        any_ |= self.number_of_words("phase")[1]
+        any_ |= any_phase
         for gcm in self.schedule(), self.no_key():
             for length, facts in self.lengths_but((16,), "tag"):
                 yield Call("gcm_accept", [gcm, message, nothing("tag", False), length], TAG_LENGTH, facts=any_ | facts)
-            for fixed, facts in self.lengths_but((4, 8, 12, 13, 14, 15), "fixed"):
+            for fixed, facts in self.lengths_but(SHORT_TAGS, "fixed"):
                 yield Call("gcm_accept_short", [gcm, message, fixed, nothing("tag", False), fixed], TAG_LENGTH, facts=any_ | facts)
-            for fixed, facts in itertools.product((4, 8, 12, 13, 14, 15), unequal(n, 0)):
+            for fixed, facts in itertools.product(SHORT_TAGS, unequal(n, 0)):
                 yield Call("gcm_accept_short", [gcm, message, fixed, nothing("tag", False), n + fixed], TAG_LENGTH,
                            facts=any_ | between(n + fixed, 0, self.most) | facts)
-        for fixed, (p, facts) in itertools.product((4, 8, 13, 14, 15), others):  # (those of 12 bytes are above)
+
+    def short_tags_refused(self):
+        """NO_KEY and OUT_OF_TURN with tags of other lengths than 12."""
+        for fixed, (p, facts) in itertools.product([n for n in SHORT_TAGS if n != 12], self.all_phases()):
             message, any_ = self.any_message(p)
-            for gcm, status in [(self.no_key(), NO_KEY)] + [(self.schedule(), OUT_OF_TURN)] * (p not in comes["accept_short"]):
+            for gcm, status in [(self.no_key(), NO_KEY)] + [(self.schedule(), OUT_OF_TURN)] * (p not in TURNS["accept_short"]):
                 yield Call("gcm_accept_short", [gcm, message, fixed, nothing("tag", False), fixed], status, facts=any_ | facts)

@@ -36,7 +36,8 @@ from bits import PUBLIC, Pause, Undefined, Unproved
 from borders import Borders
 from bytewise import Bytewise
 from linear import Linear, is_number
-from operands import (FARTHEST, RETURN_ADDRESS, SECRET, WORD, Distance, Memory, Pointer, Question, Verdict, constant, is_int, is_pointer, joined)
+from operands import (FARTHEST, RETURN_ADDRESS, SECRET, WORD, Distance, Memory, Pointer, Question, Verdict, constant, is_int, is_pointer,
+                      joined)
 from program import LIBC
 from unknowns import Unknowns
 
@@ -56,11 +57,11 @@ class Machine(Arithmetic, Borders, Unknowns, Bytewise, Access):
         self.next_address, self.last, self.steps, self.used = entry, entry, 0, {}
         self.externals = {program.symbols[n]: n for n in (*LIBC, *self.also_called) if n in program.symbols}
         self.lost = set()  # opaque bytes that may depend on the key: they count as such where they are left
-        self.origins = {}  # what a result depended on, by the (cell, block) that took its place (calls.step_by_step)
+        self.origins = {}  # what a result depended on, by the (cell, block) that took its place (steps.py)
         self.native, self.after_external = None, None  # for native.py
         self.answers, self.may_reveal, self.assumed = {}, False, ()  # answers to questions, {flag: 0 or 1}; see calls.Call
         self.any_of = {}  # bytes that are 0 only if all of these are
-        # How many steps of a call were found, in which phase of it, and what the next one looks for (calls.step_by_step).
+        # How many steps of a call were found, in which phase of it, and what the next one looks for (steps.py).
         self.done, self.phase, self.want = 0, 0, None
         self.equalities = {}  # bytes that are one constant if another byte is 0, else another: (that byte, the constants)
         self.written = (), 0  # the list of bytes that was last written to, and where
@@ -68,7 +69,8 @@ class Machine(Arithmetic, Borders, Unknowns, Bytewise, Access):
         self.stale = set()  # bytes of the stack that may have been overwritten by others since they were written
         self.counter = None  # see calls.Call
         # See lengths.py.
-        self.facts, self.decided, self.loops, self.replaced, self.first_block, self.generals, self.forgets = frozenset(), [], {}, [], 0, (), 0
+        self.facts, self.decided, self.loops, self.replaced = frozenset(), [], {}, []
+        self.first_block, self.generals, self.forgets = 0, (), 0
         self.any_length = False
         self.path = []
         self.enter(arguments)
@@ -167,7 +169,7 @@ class Machine(Arithmetic, Borders, Unknowns, Bytewise, Access):
         return m
 
     def answered(self, flag, answer):
-        """The same machine, where a flag has this value."""
+        """A copy of the machine, in which a flag has this value."""
         m = self.copied()
         if is_number(*flag[:2]):
             x, y, _ = flag

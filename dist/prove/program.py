@@ -17,7 +17,8 @@ class Program:
         self.path, self.machine = path, machine
         self.lines, self.cache = self.disassembled(), {}
         self.went = set()  # (where a jump stands, where it led), and (where an add with carry stands, the carry)
-        # {(where it is asked whether x is less than y, the answer): (how far from the border at least, the general states before)}: borders.py
+        # {(where it is asked whether x is less than y, the answer): (how far from the border at least, the general states before)}, for
+        # borders.py.
         self.nearest = {}
         addresses = list(self.lines)
         self.next = dict(zip(addresses, addresses[1:]))

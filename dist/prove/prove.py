@@ -24,9 +24,9 @@ KEYLESS = r"fotsgure_\w+_(?:version|wipe|wipe_message|(?:equiv_inv_)?cipher_roun
 
 
 def say_what_ran(tasks, options):
-    """How many instructions of each text ran, how many conditional jumps and adds with carry led both ways, and how many comparisons weren't
-    tried at their border; with --lines, in which functions these are. The result is how many faults there are, of texts of which all cases
-    ran: exports without a case, and what isn't covered and not in the lists of uncovered.py."""
+    """How many instructions of each text ran, how many conditional jumps and adds with carry led both ways, and how many comparisons
+    weren't tried at their border; with --lines, in which functions these are. The result is how many faults there are, of texts of which
+    all cases ran: exports without a case, and what isn't covered and not in the lists of uncovered.py."""
     texts, faults = {}, []
     for task in (task for task in tasks if task.ran):
         texts.setdefault(text_of(task.build), []).append(task)
@@ -40,7 +40,8 @@ def say_what_ran(tasks, options):
                 print("%s.s, %s: %d instructions didn't run, %d conditional ones went one way, %d comparisons away from their borders%s" % (
                     text, name, *map(len, one), "".join(": %x by %s" % (address, far) for address, far in one[2].items())))
         if not options.only and options.keys == KEY_SIZES and {b for b in BUILDS if text_of(b) == text} <= {task.build for task in own}:
-            faults += ["%s.s, %s" % (text, fault) for fault in [*(uncovered.faults(text, found, options.level) if judged else ()), *without_case(text, program, own)]]
+            more = uncovered.faults(text, found, options.level) if judged else ()
+            faults += ["%s.s, %s" % (text, fault) for fault in [*more, *without_case(text, program, own)]]
     for fault in faults:
         print("NOT PROVED: " + fault)
     return len(faults)
@@ -66,7 +67,8 @@ def missing(machine):
 
 def say_what_is_missing(machines):
     for machine in machines:
-        for consequence, names in (("is not proved", missing(machine)), ("is not compared with a processor", PROCESSORS[machine].missing())):
+        lacking = PROCESSORS[machine].missing()
+        for consequence, names in (("is not proved", missing(machine)), ("is not compared with a processor", lacking)):
             if names:
                 print("%s %s here, without %s" % (machine.__name__, consequence, ", ".join(names)))
 
@@ -88,7 +90,8 @@ def options_of(description, level=os.environ.get("PROVE", "")):
     os.makedirs(options.out, exist_ok=True)
     if options.level not in LEVELS:
         parser.error("PROVE may be " + " or ".join(LEVELS[1:]))
-    options.builds = options.builds or [build for build in BUILDS if options.level or build.startswith((options.built[0] or "x86_64") + "/")]
+    texts = options.built[0] or "x86_64"
+    options.builds = options.builds or [build for build in BUILDS if options.level or build.startswith(texts + "/")]
     if set(options.builds) - set(BUILDS):
         parser.error("the builds are " + ", ".join(BUILDS))
     say_what_is_missing({BUILDS[build]: None for build in options.builds})

@@ -5,14 +5,17 @@ import re
 # instructions don't run, and how many conditional jumps and adds with carry go one way only, at most; why)
 UNCOVERED = [
     ("x86_64/gcm", r"fotsgure_gcm_(?!siv)\w+", 0, 1, "A struct holds no key or one of three lengths, so a check of it finds no other."),
-    ("x86_64/gcm", r"fotsgure_gcm_siv_\w+", 0, 3, "The same."),
-    ("(?!x86_64/gcm$).*", r"fotsgure_\w+", 0, 3, "A struct holds no key or one of 16, 24 or 32 bytes, so a check of its length finds no other."),
-    (".*", r"fotsgure_\w+_(to|with)|whole_to\.copy", 32, 14, "A copy between buffers ends in any number of bytes, at any distance: not each is tried."),
-    ("windows_x86_64/gcm_v3", "fotsgure_gcm_siv_seal_to", 33, 7, "The same."),
+    ("x86_64/gcm", r"fotsgure_gcm_siv_\w+", 0, 3, "A struct holds no key or one of two lengths, so a check of it finds no other."),
+    ("(?!x86_64/gcm$).*", r"fotsgure_\w+", 0, 3,
+     "A struct holds no key or one of 16, 24 or 32 bytes, so a check of its length finds no other."),
+    (".*", r"fotsgure_\w+_(to|with)|whole_to\.copy", 32, 14,
+     "A copy between buffers ends in any number of bytes, at any distance: not each is tried."),
+    ("windows_x86_64/gcm_v3", "fotsgure_gcm_siv_seal_to", 33, 7, "It has such a copy."),
     (".*/gcm.*", r"fotsgure_gcm_(seal|begin)_next", 60, 3, "The last number of a counter is refused first, and is looked for once more."),
-    *((text, function, idle, one_way, "What is wiped has one of a few lengths, and the loops are for any.") for text, function, idle, one_way in (
-        (".*", r"zeroize\.elements\.zeroize_elements", 36, 4), (".*/gcm_v1", r"zeroize\.elements\.zeroize_elements", 32, 6), ("x86_64/.*", r"zeroize\.zeroize_words", 4, 1),
-        ("x86_64/.*", r"zeroize\.stack\.wipe_stack", 0, 1), ("(?!x86_64/).*", r"zeroize\.\w+(\.\w+)?", 36, 4))),
+    *((*entry, "What is wiped has one of a few lengths, and the loops are for any.") for entry in (
+        (".*", r"zeroize\.elements\.zeroize_elements", 36, 4), (".*/gcm_v1", r"zeroize\.elements\.zeroize_elements", 32, 6),
+        ("x86_64/.*", r"zeroize\.zeroize_words", 4, 1), ("x86_64/.*", r"zeroize\.stack\.wipe_stack", 0, 1),
+        ("(?!x86_64/).*", r"zeroize\.\w+(\.\w+)?", 36, 4))),
     (".*", r"expand_lanes|store_planes|process_on_lanes|process_planes|chaining\.chain|tags\.tag|_halves|put_mask|put_subkey|"
      r"_in_place|expand_words|process_state", 20, 6, "Loops over the round keys check at each one whether it is there."),
     (".*", "process_few|process_filled_up", 18, 2, "It is never called for no blocks, and asks whether there are any."),
@@ -20,15 +23,19 @@ UNCOVERED = [
      "The export refuses a text that is too long first, and it is asked for once more."),
     ("riscv32/aes", "_in_place", 12, 7, "A number of semiblocks has 64 bits there, and no buffer so many that the higher 32 count."),
     (".*", r"add_in_batches\.\w+|call_to_\w+|add_gctr", 75, 26, "A text ends in any part of a batch, and not each end is tried."),
-    ("riscv32/gcm", r"BorrowedGcm\.turn_to", 0, 1, "A text's first piece has less than 2^32 bytes there, and is asked again whether it is too long."),
-    ("riscv32/gcm", r"add_in_batches\.add_next", 135, 26, "The same of AES-GCM-SIV, whose texts begin at a block, and have fixed lengths there."),
-    (".*", r"process_on_planes|process_in_batches|process_rest", 26, 13, "The same of blocks."),
+    ("riscv32/gcm", r"BorrowedGcm\.turn_to", 0, 1,
+     "A text's first piece has less than 2^32 bytes there, and is asked again whether it is too long."),
+    ("riscv32/gcm", r"add_in_batches\.add_next", 135, 26,
+     "A text of AES-GCM-SIV begins at a block, and has fixed lengths there: not each end in a batch is tried."),
+    (".*", r"process_on_planes|process_in_batches|process_rest", 26, 13, "Blocks end in any part of a batch, and not each end is tried."),
     (".*/gcm.*", r"BorrowedGcm\.compare", 2, 3, "The export refuses lengths first, and they are asked for once more."),
-    (".*/gcm_v1", r"BorrowedGcm\.put_pre_counter", 1, 1, "The same of a nonce of no bytes."),
+    (".*/gcm_v1", r"BorrowedGcm\.put_pre_counter", 1, 1, "The export refuses a nonce of no bytes first, and it is asked for once more."),
     (".*/gcm.*", r"process_on_planes|process_in_batches|process_rest", 400, 40, "They are for many blocks at once: here for those of which "
      "AES-GCM-SIV derives keys, which are six at most."),
-    (".*/gcm.*", r"hash_on|hash_piece|hash_singly|put_tag|put_tag_so_far", 30, 8, "A string ends in any part of three blocks: not each is tried."),
-    (".*/gcm.*", r"siv\.\w+|keys\.derive|gcm_siv\.message\.\w+", 70, 16, "The same of AES-GCM-SIV, which has fixed lengths."),
+    (".*/gcm.*", r"hash_on|hash_piece|hash_singly|put_tag|put_tag_so_far", 30, 8,
+     "A string ends in any part of three blocks: not each is tried."),
+    (".*/gcm.*", r"siv\.\w+|keys\.derive|gcm_siv\.message\.\w+", 70, 16,
+     "AES-GCM-SIV has fixed lengths: not each end of a string is tried."),
     (".*/aes.*", r"key_wrap\.\w+\.\w+", 63, 4, "There are loops for copies that overlap, which the header excludes: only a few semiblocks "
      "are copied so."),
 ]
@@ -54,9 +61,9 @@ def plain(name):
 
 
 def of_text(program, ran, went, nearest):
-    """{a function: (the addresses that didn't run, those of conditional instructions that went one way, {those of others that weren't at the
-    border of their comparison: how far from it, by the answer})}, where there are any. `ran` has the addresses that did, `went` pairs of one
-    of these and where it led, or which carry was added, and `nearest` what borders.py notes: an address, an answer, and how far."""
+    """{a function: (the addresses that didn't run, those of conditional instructions that went one way, {those of others that weren't at
+    the border of their comparison: how far from it, by the answer})}, where there are any. `ran` has the addresses that did, `went` pairs
+    of one of these and where it led, or which carry was added, and `nearest` what borders.py notes: an address, an answer, and how far."""
     ways, sides, out = {}, {}, {}
     for address, way in went:
         ways.setdefault(address, set()).add(way)
