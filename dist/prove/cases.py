@@ -4,7 +4,7 @@ import itertools
 import re
 
 import aes
-import cmac_ccm as modes
+import cmac_ccm
 import ends
 import gcm
 import siv
@@ -12,76 +12,74 @@ from headers import version
 from linking import takes_few
 from riscv import Riscv
 
-# A statement (a method of KeyedAes, KeyedGcm or KeyedSiv), what its arguments are, and lists of these. Keys of 16 bytes take `few` with each
-# build, and `full` with the builds that takes_few (linking.py) doesn't name: those that it names are compiled from what the others are. With
-# PROVE=builds x86_64/aes.s and x86_64/gcm.s also take `first`. With PROVE=all the builds that take `full` take the whole row, and the others
-# `full`. Without PROVE `_v3` takes `few` alone. Keys of 24 and 32 bytes take `other` with the builds that take `full`: each call once, and
-# the code that loops over round keys. With PROVE=all these take `few` and `full` too, and the other builds `other`. (Which builds there are,
-# PROVE says too: prove.py.)
-Row = collections.namedtuple("Row", "name what few full first more other", defaults=[(), (), (), (), ()])
+# A statement (a method of KeyedAes, KeyedGcm or KeyedSiv), what its arguments are, and lists of these. The page says which builds and keys
+# take a list. The builds that take `most` are those that takes_few (linking.py) doesn't name, as these are compiled from what the others
+# are. Keys of 24 and 32 bytes take each call once, and the code that loops over round keys.
+Row = collections.namedtuple("Row", "name what each most first keys_24_32 all_", defaults=[(), (), (), (), ()])
 ONCE = [()]  # no arguments
 
 WAYS, DIRECTIONS = ("", "_to", "_with"), ("encrypt", "decrypt")
 SINGLE_ROUNDS = [(name, way) for name in ("cipher_round", "equiv_inv_cipher_round") for way in ("", "_par")]
 COLUMNS = ["mix_columns", "inv_mix_columns"]
 NO_CARRY, BLOCK_BEHIND = aes.NEVER, 9  # a carry nowhere; before a block that a batch has behind the text
-ROUNDS = [Row("a_round", "a round, or eight (`_par`); they need no key", few=SINGLE_ROUNDS), Row("columns", "of a block", few=COLUMNS)]
+ROUNDS = [Row("a_round", "a round, or eight (`_par`); they need no key", each=SINGLE_ROUNDS), Row("columns", "of a block", each=COLUMNS)]
 
 AES_ROWS = [
     Row("any_blocks", "16 n + r blocks for every n: the direction, r, into the same buffer or another (`_to`), or under a key (`_with`)",
-        few=[(way, 7, to) for way in DIRECTIONS for to in ("", "_to")] + [(way, 1, "_with") for way in DIRECTIONS],
-        full=[(way, rest) for way in DIRECTIONS for rest in range(16) if rest != 7]
+        each=[(way, 7, to) for way in DIRECTIONS for to in ("", "_to")] + [(way, 1, "_with") for way in DIRECTIONS],
+        most=[(way, rest) for way in DIRECTIONS for rest in range(16) if rest != 7]
              + [(way, *more) for way in DIRECTIONS for more in ((1, "_to"), (7, "_with"))],
         first=[(way, rest, "_to") for way in DIRECTIONS for rest in (0, 2, 14)]),
-    Row("blocks", "the direction and the number of blocks", few=[("encrypt", 2), ("encrypt", 1, "_with")],
-        full=[("encrypt", n) for n in (0, 16, 17)],
+    Row("blocks", "the direction and the number of blocks", each=[("encrypt", 2), ("encrypt", 1, "_with")],
+        most=[("encrypt", n) for n in (0, 16, 17)],
         first=[(way, n, to) for way in DIRECTIONS for to in ("_to", "_with") for n in (6, 7, 8, 14, 15)],
-        other=[(way, n, to) for way in DIRECTIONS for n, to in ((2, ""), (32, ""), (1, "_to"), (1, "_with"))]),
+        keys_24_32=[(way, n, to) for way in DIRECTIONS for n, to in ((2, ""), (32, ""), (1, "_to"), (1, "_with"))]),
     Row("any_low_keystream", "at 16 k + s for every k, 128 n + r bytes for every n: s, r; for every initial counter block whose low half "
-        "doesn't carry", few=[(5, 122)], first=[(0, 0, "_with")]),
-    Row("any_keystream", "the same where the low half carries anywhere or nowhere", full=[(0, 0)], more=[(5, 122), (3, 45, "_to")]),
+        "doesn't carry", each=[(5, 122)], first=[(0, 0, "_with")]),
+    Row("any_keystream", "the same where the low half carries anywhere or nowhere", most=[(0, 0)], all_=[(5, 122), (3, 45, "_to")]),
     Row("add_keystream", "the position, the number of bytes, and before which block the low half of the counter carries, if anywhere",
-        few=[(0, 33), (0, 5), (0, 15), (2 ** 64 - 21, 20), (5, 40, 2), (21, 40, 1), (21, 40, 2), (16, 64, 1), (0, 16, BLOCK_BEHIND),
+        each=[(0, 33), (0, 5), (0, 15), (2 ** 64 - 21, 20), (5, 40, 2), (21, 40, 1), (21, 40, 2), (16, 64, 1), (0, 16, BLOCK_BEHIND),
              (3, 33, NO_CARRY, "_to"), (3, 33, NO_CARRY, "_with")],
-        full=[(0, 1), (0, 16), (0, 64), (0, 130), (21, 3), (21, 8), (3, 130, NO_CARRY, "_with"), (3, 0, NO_CARRY, "_to"), (3, 130, NO_CARRY, "_to"), (5, 40, BLOCK_BEHIND), (21, 11),
-              (21, 11, 1), (21, 11, 1, "_to"), (21, 11, 1, "_with"), *((16, 64, block) for block in range(2, 6)),
+        most=[(0, 1), (0, 16), (0, 64), (0, 130), (21, 3), (21, 8), (3, 130, NO_CARRY, "_with"), (3, 0, NO_CARRY, "_to"),
+              (3, 130, NO_CARRY, "_to"), (5, 40, BLOCK_BEHIND), (21, 11), (21, 11, 1), (21, 11, 1, "_to"), (21, 11, 1, "_with"),
+              *((16, 64, block) for block in range(2, 6)),
               # Positions, and numbers of blocks, that don't fit into 32 bits; and one that would be below 0 if it had a sign.
               (2 ** 32 - 20, 40), *((2 ** 63 + 2 ** 36, 64, NO_CARRY, way) for way in ("", "_with"))],
         first=[(2 ** 64 - 21, 20, NO_CARRY, "_with"), *((0, n, NO_CARRY, "_to") for n in (*range(1, 9), 31, 32, 33)),
                *((0, n) for n in range(1, 131)), *((5, n) for n in (*range(1, 41), 59, 60, *range(120, 141), *range(200, 206)))],
-        more=[(0, 33, 5)], other=[(0, 33), (3, 33, NO_CARRY, "_to"), (3, 33, NO_CARRY, "_with")]),
-    Row("any_cbc_encrypt", "every number of blocks", few=ONCE),
-    Row("any_cbc_decrypt", "64 n + r blocks for every n: r", full=[9], more=[0]),
-    Row("cbc_encrypt", "the number of blocks", full=[1, 2], other=[1]),
-    Row("cbc_decrypt", "the number of blocks", few=[9], full=[0, 1, 3, 4, 8, 17, 47], first=[7, 63, 64, 65, 71, 72], other=[1]),
-    Row("any_wrap", "a key of every number of semiblocks", full=ONCE),
-    Row("any_unwrap", "a key of every number of semiblocks, also of what is refused", full=ONCE),
-    Row("any_wrap_padded", "a key of 16 n + r bytes for every n: r", full=[3], first=[7, 9, 15, 16]),
-    Row("any_unwrap_padded", "a key of 8 n + r bytes for every n, also of what is refused: r", full=[3], first=[1, 8]),
-    Row("wrap", "the number of semiblocks", few=[2], other=[2]),
-    Row("unwrap", "the number of semiblocks, also of what is refused", few=[3], other=[3]),
-    Row("wrap_padded", "the number of bytes", few=[7, 8, 9, 15], other=[1]),
-    Row("unwrap_padded", "the number of bytes, also of what is refused", few=[9], other=[1]),
-    Row("unwrap_padded_refused", "a wrong length, of a key of so many semiblocks: any byte of the three higher ones; one more, one less, 2^k "
-        "and 2^k - 1 for every so many k", full=[(1, 8)], first=[(2, 16)], more=[(1, 1)]),
-    Row("any_cmac", "16 n + r bytes for every n: r", few=[1], full=[16], first=[12, 15]),
-    Row("any_cmac_verify", "the same, also of what is refused: r and the tag's length", few=[(1, 16)], first=[(1, 11)]),
-    Row("cmac", "the number of bytes", full=[0, 1, 16, 23], other=[1]),
-    Row("cmac_verify", "the number of bytes and the tag's length, also of what is refused", full=[(n, tag) for n in (0, 17) for tag in modes.CMAC_TAGS],
-        other=[(0, 4)]),
-    *(Row(call, "16 a + b bytes of additional data, none if b is 0, and 256 n + r of text for every a and n: the lengths of nonce, b, r, tag; "
-          "the encoded length of additional data takes 2 bytes, or 6 or 10 if it says so", full=full, first=first,
-          more=[(13, 0, 16, 16), (9, 15, 255, 4, 6), (11, 9, 0, 6, 10)])
-      for call, full, first in (("any_ccm_seal", (), [(8, 15, 33, 8), (8, 16, 33, 8, 6), (8, 16, 33, 8, 10)]),
+        all_=[(0, 33, 5)], keys_24_32=[(0, 33), (3, 33, NO_CARRY, "_to"), (3, 33, NO_CARRY, "_with")]),
+    Row("any_cbc_encrypt", "every number of blocks", each=ONCE),
+    Row("any_cbc_decrypt", "64 n + r blocks for every n: r", most=[9], all_=[0]),
+    Row("cbc_encrypt", "the number of blocks", most=[1, 2], keys_24_32=[1]),
+    Row("cbc_decrypt", "the number of blocks", each=[9], most=[0, 1, 3, 4, 8, 17, 47], first=[7, 63, 64, 65, 71, 72], keys_24_32=[1]),
+    Row("any_wrap", "a key of every number of semiblocks", most=ONCE),
+    Row("any_unwrap", "a key of every number of semiblocks, also of what is refused", most=ONCE),
+    Row("any_wrap_padded", "a key of 16 n + r bytes for every n: r", most=[3], first=[7, 9, 15, 16]),
+    Row("any_unwrap_padded", "a key of 8 n + r bytes for every n, also of what is refused: r", most=[3], first=[1, 8]),
+    Row("wrap", "the number of semiblocks", each=[2], keys_24_32=[2]),
+    Row("unwrap", "the number of semiblocks, also of what is refused", each=[3], keys_24_32=[3]),
+    Row("wrap_padded", "the number of bytes", each=[7, 8, 9, 15], keys_24_32=[1]),
+    Row("unwrap_padded", "the number of bytes, also of what is refused", each=[9], keys_24_32=[1]),
+    Row("unwrap_padded_refused", "a wrong length, of a key of so many semiblocks: any byte of the three higher ones; one more, one less, "
+        "2^k and 2^k - 1 for every so many k", most=[(1, 8)], first=[(2, 16)], all_=[(1, 1)]),
+    Row("any_cmac", "16 n + r bytes for every n: r", each=[1], most=[16], first=[12, 15]),
+    Row("any_cmac_verify", "the same, also of what is refused: r and the tag's length", each=[(1, 16)], first=[(1, 11)]),
+    Row("cmac", "the number of bytes", most=[0, 1, 16, 23], keys_24_32=[1]),
+    Row("cmac_verify", "the number of bytes and the tag's length, also of what is refused",
+        most=[(n, tag) for n in (0, 17) for tag in cmac_ccm.CMAC_TAGS], keys_24_32=[(0, 4)]),
+    *(Row(call, "16 a + b bytes of additional data, none if b is 0, and 256 n + r of text for every a and n: the lengths of nonce, b, r, "
+          "tag; the encoded length of additional data takes 2 bytes, or 6 or 10 if it says so", most=most, first=first,
+          all_=[(13, 0, 16, 16), (9, 15, 255, 4, 6), (11, 9, 0, 6, 10)])
+      for call, most, first in (("any_ccm_seal", (), [(8, 15, 33, 8), (8, 16, 33, 8, 6), (8, 16, 33, 8, 10)]),
                                 ("any_ccm_open", [(12, 15, 33, 8), (13, 15, 255, 8)], ()))),
-    *(Row(call, "the lengths of nonce, additional data, text and tag", few=[(13, 8, 33, 8)],
-          full=[(7, 0, 1, 4), (12, 14, 16, 16), (8, 15, 17, 6), (10, 33, 0, 14), (9, 0, 0, 10), (11, 0, 0, 12)],
-          more=[(nonce, 20, 40, tag) for nonce, tag in zip(modes.NONCES, modes.CCM_TAGS)],
-          other=[(7, 0, 1, 4)])
+    *(Row(call, "the lengths of nonce, additional data, text and tag", each=[(13, 8, 33, 8)],
+          most=[(7, 0, 1, 4), (12, 14, 16, 16), (8, 15, 17, 6), (10, 33, 0, 14), (9, 0, 0, 10), (11, 0, 0, 12)],
+          all_=[(nonce, 20, 40, tag) for nonce, tag in zip(cmac_ccm.NONCES, cmac_ccm.CCM_TAGS)],
+          keys_24_32=[(7, 0, 1, 4)])
       for call in ("ccm_seal", "ccm_open")),
     *ROUNDS]
 
-SIV_ON_RISCV = [Row(call, "as above", full=[(13, 161)]) for call in ("seal", "open")]
+SIV_ON_RISCV = [Row(call, "as above", most=[(13, 161)]) for call in ("seal", "open")]
 
 NONCES = (8,), (1,), (60,), (16,), (32,)  # of other lengths than 12: so J_0 is any block
 FEW_COUNTERS = [None, gcm.CarryTo(3)]  # of `_next`; None: any without a carry
@@ -103,57 +101,60 @@ STATE = "the phase, and how many bytes of additional data and of text came befor
 CAME = "the phase; after 16 k + s bytes of additional data and 16 m + t of text for every k and m, and any J_0: s, t"
 
 GCM_ROWS = [
-    Row("wipe_message", "", few=ONCE), Row("set_key_of", "", few=ONCE, other=ONCE),
-    Row("set_key_of_none", "", few=ONCE),
-    Row("any_seal", WHOLE + NONCE, few=[(13, 33)], full=[(0, 129)], first=[(13, 33, "", 8)],
-        more=[(0, 0), (47, 767), (13, 33, "_to"), *OTHER_NONCES]),
-    Row("any_open", WHOLE + NONCE + "; also of what is refused", full=[(13, 33)], first=[(13, 33, "_to")],
-        more=[(0, 0), (47, 767), (13, 33, "", 8), *OTHER_NONCES]),
-    Row("any_seal_next", WHOLE, first=[(13, 33)], more=[(0, 129)]),
-    Row("any_begin", "a nonce of 48 k + r bytes for every k: r", full=[8], more=[0, 12, 33, 47]),
-    *(Row("any_" + call, PIECE % (step, ", and 7 of additional data" * (call != "additional")), first=[(3, 46)], more=[(15, 48)])
+    Row("wipe_message", "", each=ONCE), Row("set_key_of", "", each=ONCE, keys_24_32=ONCE),
+    Row("set_key_of_none", "", each=ONCE),
+    Row("any_seal", WHOLE + NONCE, each=[(13, 33)], most=[(0, 129)], first=[(13, 33, "", 8)],
+        all_=[(0, 0), (47, 767), (13, 33, "_to"), *OTHER_NONCES]),
+    Row("any_open", WHOLE + NONCE + "; also of what is refused", most=[(13, 33)], first=[(13, 33, "_to")],
+        all_=[(0, 0), (47, 767), (13, 33, "", 8), *OTHER_NONCES]),
+    Row("any_seal_next", WHOLE, first=[(13, 33)], all_=[(0, 129)]),
+    Row("any_begin", "a nonce of 48 k + r bytes for every k: r", most=[8], all_=[0, 12, 33, 47]),
+    *(Row("any_" + call, PIECE % (step, ", and 7 of additional data" * (call != "additional")), first=[(3, 46)], all_=[(15, 48)])
       for call, step in (("additional", 48), ("verify", 48), ("encrypt", 768), ("decrypt", 768), ("decrypt_unverified", 768))),
-    Row("seal", "the lengths of additional data and text, and a nonce of another length", few=[(13, 33), (13, 33, (), "_to")],
-        full=[(0, 0), (0, 5), (1, 1), (13, 0), (16, 16), (20, 64), (32, 32), (49, 1), (0, 449, gcm.UNKNOWN), (0, 0, (), "_to"), *((5, 20, nonce) for nonce in NONCES)],
+    Row("seal", "the lengths of additional data and text, and a nonce of another length", each=[(13, 33), (13, 33, (), "_to")],
+        most=[(0, 0), (0, 5), (1, 1), (13, 0), (16, 16), (20, 64), (32, 32), (49, 1), (0, 449, gcm.UNKNOWN), (0, 0, (), "_to"),
+              *((5, 20, nonce) for nonce in NONCES)],
         first=[*((n, 0) for n in (*AROUND, 47, 48, 49)), *((13, n, (), "_to") for n in (3, 4, 31, 32))],
-        more=[*((5, 40, nonce) for nonce in NONCES), *((5, n, (60,)) for n in (0, 129, 300))],
-        other=[(13, 481, gcm.UNKNOWN), (0, 0, (), "_to")]),
+        all_=[*((5, 40, nonce) for nonce in NONCES), *((5, n, (60,)) for n in (0, 129, 300))],
+        keys_24_32=[(13, 481, gcm.UNKNOWN), (0, 0, (), "_to")]),
     Row("seal", SAME, first=[(13, n, gcm.UNKNOWN) for n in BORDERING]),
-    Row("open", "the same, also of what is refused", few=[(13, 33), (13, 33, (), "_to")],
-        full=[(0, 0), (13, 0), (20, 64), (0, 0, (), "_to"), (3, 20, gcm.UNKNOWN)],
-        first=[(13, n, (), "_to") for n in (3, 4, 31, 32)], more=[(3, 20, nonce) for nonce in NONCES[1:]],
-        other=[(13, 33), (0, 0, (), "_to")]),
-    Row("begin", "the nonce", few=[(), *((nonce,) for nonce in NONCES)], other=[()]),
-    Row("seal_next", "the lengths of additional data and text, and the counter: if a carry comes to a byte, this one is any, those behind it are "
-        "255, and those before it 0", few=[(3, 1, counter) for counter in FEW_COUNTERS], full=[(3, 1, counter) for counter in CARRIES],
-        other=[(3, 1, counter) for counter in FEW_COUNTERS]),
-    Row("begin_next", "the counter, as above", few=FEW_COUNTERS, full=CARRIES, other=FEW_COUNTERS),
-    Row("additional", "how many bytes came before, and how many come: it also runs beside a processor", few=[(3, 13)], other=[(3, 13)]),
-    Row("any_then_additional", "after 16 k + s bytes for every k, and any J_0: s, and how many bytes come", few=[(3, 13)],
-        full=[(3, 5), (3, 100), (0, 0), (0, 5), (0, 48), (13, 13), (0, 7)],
+    Row("open", "the same, also of what is refused", each=[(13, 33), (13, 33, (), "_to")],
+        most=[(0, 0), (13, 0), (20, 64), (0, 0, (), "_to"), (3, 20, gcm.UNKNOWN)],
+        first=[(13, n, (), "_to") for n in (3, 4, 31, 32)], all_=[(3, 20, nonce) for nonce in NONCES[1:]],
+        keys_24_32=[(13, 33), (0, 0, (), "_to")]),
+    Row("begin", "the nonce", each=[(), *((nonce,) for nonce in NONCES)], keys_24_32=[()]),
+    Row("seal_next", "the lengths of additional data and text, and the counter: if a carry comes to a byte, this one is any, those behind "
+        "it are 255, and those before it 0",
+        each=[(3, 1, counter) for counter in FEW_COUNTERS], most=[(3, 1, counter) for counter in CARRIES],
+        keys_24_32=[(3, 1, counter) for counter in FEW_COUNTERS]),
+    Row("begin_next", "the counter, as above", each=FEW_COUNTERS, most=CARRIES, keys_24_32=FEW_COUNTERS),
+    Row("additional", "how many bytes came before, and how many come: it also runs beside a processor", each=[(3, 13)],
+        keys_24_32=[(3, 13)]),
+    Row("any_then_additional", "after 16 k + s bytes for every k, and any J_0: s, and how many bytes come", each=[(3, 13)],
+        most=[(3, 5), (3, 100), (0, 0), (0, 5), (0, 48), (13, 13), (0, 7)],
         first=[*((s, 1) for s in range(16)), (12, 13), *((3, n) for n in range(2, 50))],
-        more=[(s, n) for s in range(16) for n in (0, 16, 32)]),
-    Row("any_then_piece", "the first piece: the call; " + CAME + ", and how many bytes come", few=[
+        all_=[(s, n) for s in range(16) for n in (0, 16, 32)]),
+    Row("any_then_piece", "the first piece: the call; " + CAME + ", and how many bytes come", each=[
         (call, gcm.ADDITIONAL, 5, 0, 3) for call in PHASES],
-        full=[(call, gcm.ADDITIONAL, *numbers) for call in PHASES for numbers in ((0, 0, 16), (0, 0, 3), (5, 0, 0))],
-        more=[(call, gcm.ADDITIONAL, s, 0, 1) for call in PHASES for s in range(16)],
-        other=[(call, gcm.ADDITIONAL, 5, 0, 3) for call in PHASES]),
-    Row("any_then_piece", "another piece", few=[("encrypt", gcm.ENCRYPTING, 5, 0, n) for n in (64, 500)],
+        most=[(call, gcm.ADDITIONAL, *numbers) for call in PHASES for numbers in ((0, 0, 16), (0, 0, 3), (5, 0, 0))],
+        all_=[(call, gcm.ADDITIONAL, s, 0, 1) for call in PHASES for s in range(16)],
+        keys_24_32=[(call, gcm.ADDITIONAL, 5, 0, 3) for call in PHASES]),
+    Row("any_then_piece", "another piece", each=[("encrypt", gcm.ENCRYPTING, 5, 0, n) for n in (64, 500)],
         first=[("encrypt", gcm.ENCRYPTING, 5, 7, n) for n in (*range(1, 28), 57, 121)],
-        full=[(call, phase, 5, *numbers) for call, phase in PHASES.items() for numbers in ((4, 50), (7, 9), (4, 3))]),
-    Row("any_then_piece", "the same", full=[
+        most=[(call, phase, 5, *numbers) for call, phase in PHASES.items() for numbers in ((4, 50), (7, 9), (4, 3))]),
+    Row("any_then_piece", "the same", most=[
         *((call, phase, *numbers) for call, phase in PHASES.items() for numbers in ((5, 4, 300), (5, 11, 20), (0, 0, 0))),
         ("encrypt", gcm.ENCRYPTING, 5, 5, 4), ("verify", gcm.VERIFYING, 0, 0, 9)],
         first=[(call, phase, 5, t, 1) for call, phase in PHASES.items() for t in range(16)],
-        more=[(call, phase, 5, t, n) for call, phase in PHASES.items() for t in range(16) for n in (0, 16, 32)]),
+        all_=[(call, phase, 5, t, n) for call, phase in PHASES.items() for t in range(16) for n in (0, 16, 32)]),
     Row("any_then_decrypt", "after 16 m + t bytes for every m, of a text of any length, and any J_0: t, and how many bytes come",
-        few=[(7, 20)], full=[(7, 0), (5, 4), (0, 68), (11, 20)], first=[(t, 1) for t in range(16)],
-        more=[(t, n) for t in range(16) for n in (0, 16, 32)], other=[(7, 20)]),
+        each=[(7, 20)], most=[(7, 0), (5, 4), (0, 68), (11, 20)], first=[(t, 1) for t in range(16)],
+        all_=[(t, n) for t in range(16) for n in (0, 16, 32)], keys_24_32=[(7, 20)]),
     *(Row("any_" + call, CAME + also,
-          few=[(phase, 0, 7), *few], full=[*((gcm.ADDITIONAL, n, 0) for n in (0, 5)), (phase, 5, 0), *full],
-          other=[(phase, 0, 7), *few, *((phase, 5, n) for n in ENDS)],
+          each=[(phase, 0, 7), *each], most=[*((gcm.ADDITIONAL, n, 0) for n in (0, 5)), (phase, 5, 0), *most],
+          keys_24_32=[(phase, 0, 7), *each, *((phase, 5, n) for n in ENDS)],
           first=[*((gcm.ADDITIONAL, n, 0) for n in ENDS if n != 5), *((phase, 5, n) for n in ENDS)])
-      for call, phase, also, few, full in (
+      for call, phase, also, each, most in (
           ("finish", gcm.ENCRYPTING, "", (), ()),
           ("accept", gcm.VERIFYING, "; also of what is refused, and of a shorter tag", [(gcm.VERIFYING, 0, 7, 12)],
            [(gcm.ADDITIONAL, 5, 0, 12), *((gcm.VERIFYING, 0, 7, n) for n in TAGS if n != 12)])))]
@@ -161,34 +162,35 @@ GCM_ROWS = [
 # Where calls of every length aren't proved (left_out).
 OF_SHORT_WORDS = {
     "aes": [
-        Row("blocks", "as above", few=[(way, n, "_to") for way in DIRECTIONS for n in (1, 2)]),
-        Row("cmac", "as above", few=[17]), Row("cmac_verify", "as above", few=[(17, 16)]),
-        Row("add_keystream", "as above, and how many words of 32 bits above the lowest one carry too", few=[(5, 40, 2, "", 1)],
-            full=[(5, 40, 2, "", 2)])],
+        Row("blocks", "as above", each=[(way, n, "_to") for way in DIRECTIONS for n in (1, 2)]),
+        Row("cmac", "as above", each=[17]), Row("cmac_verify", "as above", each=[(17, 16)]),
+        Row("add_keystream", "as above, and how many words of 32 bits above the lowest one carry too", each=[(5, 40, 2, "", 1)],
+            most=[(5, 40, 2, "", 2)])],
     "gcm": [
-        Row("additional", "as above", full=[(3, 5), (3, 100), (0, 0), (0, 5), (32, 48), (2 ** 32 - 3, 13), (MANY, 7)]),
+        Row("additional", "as above", most=[(3, 5), (3, 100), (0, 0), (0, 5), (32, 48), (2 ** 32 - 3, 13), (MANY, 7)]),
         Row("piece", "the call; " + STATE + "; the number of bytes; and a nonce of another length",
-            few=[("encrypt", gcm.ENCRYPTING, 5, MANY, n, (12,)) for n in (64, 500)],
-            full=[(call, phase, 5, *numbers) for call, phase in PHASES.items() for numbers in ((20, 50), (7, 9), (4, 3))]),
-        Row("piece", "the same", full=[
+            each=[("encrypt", gcm.ENCRYPTING, 5, MANY, n, (12,)) for n in (64, 500)],
+            most=[(call, phase, 5, *numbers) for call, phase in PHASES.items() for numbers in ((20, 50), (7, 9), (4, 3))]),
+        Row("piece", "the same", most=[
             *((call, phase, *numbers) for call, phase in PHASES.items() for numbers in ((5, 20, 300), (0, 0, 0))),
             ("encrypt", gcm.ENCRYPTING, 5, 5, 4), ("verify", gcm.VERIFYING, MANY, MANY, 9, (12,))]),
-        Row("piece", "the same, across 2^32 bytes, and up to the longest text", full=[
+        Row("piece", "the same, across 2^32 bytes, and up to the longest text", most=[
             (call, phase, 5, *numbers, (12,)) for call, phase in PHASES.items() for numbers in ((2 ** 32 - 5, 20), (gcm.MOST - 9, 9))]),
-        Row("decrypt", "the length of the text, how many bytes of it came before, and how many come", few=[(100, 7, 20)],
-            full=[(100, 7, 0), (100, 5, 4), (100, 32, 68), (2 * MANY, MANY - 5, 20, (12,))], other=[(100, 7, 20)])]}
+        Row("decrypt", "the length of the text, how many bytes of it came before, and how many come", each=[(100, 7, 20)],
+            most=[(100, 7, 0), (100, 5, 4), (100, 32, 68), (2 * MANY, MANY - 5, 20, (12,))], keys_24_32=[(100, 7, 20)])]}
 
 SIV_ROWS = [
-    Row("any_seal", WHOLE + "; both may have 2^36 bytes", full=[(33, 77), (16, 256)], first=[(13, 33, "_to")],
-        more=[(0, 0), (47, 767)]),
-    Row("any_open", WHOLE + "; also of what is refused", full=[(13, 33, "_to"), (13, 225)],
-        more=[(33, 48), (0, 0, "_to")]),
-    Row("seal", "the lengths of additional data and text", few=[(13, 33), (13, 33, "_to")],
-        full=[(13, 0), (1, 1), (13, 7), (0, 16), *SHORT],
+    Row("any_seal", WHOLE + "; both may have 2^36 bytes", most=[(33, 77), (16, 256)], first=[(13, 33, "_to")],
+        all_=[(0, 0), (47, 767)]),
+    Row("any_open", WHOLE + "; also of what is refused", most=[(13, 33, "_to"), (13, 225)],
+        all_=[(33, 48), (0, 0, "_to")]),
+    Row("seal", "the lengths of additional data and text", each=[(13, 33), (13, 33, "_to")],
+        most=[(13, 0), (1, 1), (13, 7), (0, 16), *SHORT],
         first=[(a, n) for n in (0, 161) for a in (1, *AROUND, 47, 48, 49)],
-        other=[(13, 33), (13, 33, "_to")]),
+        keys_24_32=[(13, 33), (13, 33, "_to")]),
     *(Row("seal", SAME, first=[(a, n) for n in (*BORDERING, 67, 68, 131, 132)]) for a in (13, 161)),
-    Row("open", "the same, also of what is refused", few=[(1, 1), (13, 33, "_to")], full=[(13, 0), (13, 7), (0, 16), *SHORT], other=[(1, 1), (13, 33, "_to")])]
+    Row("open", "the same, also of what is refused", each=[(1, 1), (13, 33, "_to")], most=[(13, 0), (13, 7), (0, 16), *SHORT],
+        keys_24_32=[(1, 1), (13, 33, "_to")])]
 
 
 def at_ends(library):
@@ -197,9 +199,10 @@ def at_ends(library):
 
 def common_rows(library, version):
     """Of each library: what AES-GCM-SIV has too comes first."""
-    rows = [Row("wipe", "", few=ONCE), Row("set_key_refused", "every length of a key that is refused", few=ONCE)]
-    return rows if library == "siv" else [*rows, Row("key_length", "", few=ONCE, other=ONCE), Row("key_length_of_none", "", few=ONCE),
-                                          Row("version", "the number", few=[version])]
+    rows = [Row("wipe", "", each=ONCE), Row("set_key_refused", "every length of a key that is refused", each=ONCE)]
+    return rows if library == "siv" else [
+        *rows, Row("key_length", "", each=ONCE, keys_24_32=ONCE), Row("key_length_of_none", "", each=ONCE),
+        Row("version", "the number", each=[version])]
 
 
 LIBRARIES = {library: (keyed, [*rows, at_ends(library)]) for library, keyed, rows in (
@@ -211,19 +214,26 @@ def rows_of(library, machine):
     rows = LIBRARIES[library][1]
     if not issubclass(machine, Riscv):
         return rows
-    kept = lambda row, some: [v for v in some or () if not left_out(library, machine.word, row.name, v if isinstance(v, tuple) else (v,))]
+
+    def kept(row, entries):
+        return [entry for entry in entries if not left_out(library, machine.word, row.name, as_tuple(entry))]
     more = SIV_ON_RISCV if library == "siv" else OF_SHORT_WORDS[library] if machine.word == 4 else []
-    return [Row(row.name, row.what, *(kept(row, some) for some in row[2:])) for row in rows] + more
+    return [Row(row.name, row.what, *(kept(row, entries) for entries in row[2:])) for row in rows] + more
+
+
+def as_tuple(entry):
+    return entry if isinstance(entry, tuple) else (entry,)
 
 
 def left_out(library, word, name, values):
+    """Whether a build for RISC-V leaves these arguments out."""
     if name in ("any_finish", "any_accept") or name.startswith("any_then_"):
         return word == 4 and name.startswith("any_then_") and not (name == "any_then_piece" and values[1] == gcm.ADDITIONAL)
     if name.startswith("any_") and library != "aes":
         return word == 4 or library == "siv" or name not in ("any_seal", "any_open", "any_seal_next", "any_begin")
     if word == 4 and library == "aes":
         is_late = name == "add_keystream" and values[0] >= 2 ** 36
-        return is_late or re.search("any_.*(keystream|wrap|cmac|ccm)", name) or "_to" in values and name == "any_blocks"
+        return is_late or bool(re.search("any_.*(keystream|wrap|cmac|ccm)", name)) or "_to" in values and name == "any_blocks"
     return word == 4 and library == "gcm" and None in values and name.endswith("_next")
 
 
@@ -231,12 +241,12 @@ def taken(row, build, key_size, level):
     """The arguments with which a build takes a statement."""
     is_late = takes_few(build)
     if key_size != 16:
-        many = [*row.few, *row.full] if level == "all" and not is_late else []
-        return dict.fromkeys([*many, *(row.other if level == "all" or not is_late else ())])
+        many = [*row.each, *row.most] if level == "all" and not is_late else []
+        return dict.fromkeys([*many, *(row.keys_24_32 if level == "all" or not is_late else ())])
     if level == "all":
-        return dict.fromkeys([*row.few, *row.full, *(() if is_late else [*row.first, *row.more])])
+        return dict.fromkeys([*row.each, *row.most, *(() if is_late else [*row.first, *row.all_])])
     is_first = level and build in ("x86_64/aes", "x86_64/siv", "x86_64/gcm")
-    return dict.fromkeys([*row.few, *(() if takes_few(build, level) else row.full), *(row.first if is_first else ())])
+    return dict.fromkeys([*row.each, *(() if takes_few(build, level) else row.most), *(row.first if is_first else ())])
 
 
 def name_of(row, values):
@@ -248,7 +258,7 @@ def statements(keyed, options, part, parts):
     program, number, refusals = keyed.program, itertools.count(), collections.Counter()
     for row in [*common_rows(keyed.library, version(options.dist, keyed.library)), *rows_of(keyed.library, program.machine)]:
         for values in taken(row, program.build, keyed.key_size, options.level):
-            values = values if isinstance(values, tuple) else (values,)
+            values = as_tuple(values)
             what = name_of(row, values)
             if options.only in what and next(number) % parts == part:
                 yield what, getattr(keyed, row.name)(*values)

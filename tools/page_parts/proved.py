@@ -35,7 +35,7 @@ RISCV = """
 `riscv32/aes.s` and `riscv32/gcm.s` also take these rows. Below them are the entries of *each* and *most* that RISC-V leaves out.
 """
 TITLES = {"aes": "fotsgure_aes.h", "gcm": "fotsgure_gcm.h", "siv": "fotsgure_gcm.h: AES-GCM-SIV"}
-COLUMNS = "few", "full", "first", "other", "more"
+COLUMNS = cases.Row._fields[2:]
 NONE = "-"
 
 
@@ -98,9 +98,9 @@ def table(rows):
 
 def left_out_of(library, rows, machine):
     """The rows of a table: what a build for RISC-V doesn't take of each statement, if there is something."""
-    kept = {id(row): [*few, *full] for row, (_, _, few, full, *_) in zip(rows, cases.rows_of(library, machine))}
+    kept = {id(row): [*each, *most] for row, (_, _, each, most, *_) in zip(rows, cases.rows_of(library, machine))}
     for row in rows:
-        left_out = [values for values in [*row.few, *row.full] if values not in kept[id(row)]]
+        left_out = [values for values in [*row.each, *row.most] if values not in kept[id(row)]]
         if left_out:
             yield f"| {8 * machine.word} | {TITLES[library]} | `{row.name}` | {list_said(left_out)} |"
 
