@@ -33,12 +33,13 @@ class Borders:
             self.meets(by - or_equal)
 
     def meets_sign(self, or_equal=False):
-        """The same of a comparison by the sign of a difference. (If that doesn't fit into a word, the numbers are far apart.)"""
+        """Notes what a comparison by the sign of a difference was decided by. (If that doesn't fit into a word, the numbers are far
+        apart.)"""
         if "s" in self.apart and self.flags["o"] == 0:
             self.meets(self.apart["s"] - or_equal)
 
     def meets_numbers(self, x, y):
-        """The same of a comparison without flags, if its answer is known."""
+        """Notes what a comparison without flags was decided by, if its answer is known."""
         if is_number(x, y):
             x, y = self.ranged(x), self.ranged(y)
             if self.is_below(x, y) is not None:

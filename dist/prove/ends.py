@@ -13,7 +13,7 @@ PARTS = range(1, 16)  # of a block
 # buffer; and with more, under a nonce that leaves it too. The last ones have no whole block.
 WHOLE = [((5 * r + 7) % 48, r + 48 * (1 if r < 16 else 2 + r % (2 + r // 16)), *([()], [(), "_to"], [(16 + r,)])[r // 16])
          for r in range(48)] + [(15 - n, n) for n in PARTS]
-# The same of AES-GCM-SIV, which hashes a message of up to 160 bytes block by block.
+# Of AES-GCM-SIV, which hashes a message of up to 160 bytes block by block.
 SIV = [((5 * r + 7) % 48, r + 192, "_to" * (r // 16 == 1)) for r in range(48)] + [(5 * n % 16 + 16, 16 + n) for n in BLOCK]
 CCM = [(7 + r % 7, (5 * r + 7) % 16 + 16, (3 * r + 2) % 16 + 16, 4 + 3 * r % 7 * 2) for r in BLOCK]
 

@@ -41,7 +41,7 @@ UNCOVERED = [
 ]
 
 
-# The same of comparisons: in these texts, how many of a function's weren't tried at their border (borders.py), with PROVE, and why.
+# Of comparisons: in these texts, how many of a function's weren't tried at their border (borders.py), with PROVE, and why.
 JUDGED = "x86_64/(aes|gcm)"
 BORDERS = [
     ("x86_64/aes", r"add_in_batches\.add_keystream", 1, "The carry between a counter's halves. It has cases in which these may be any."),
