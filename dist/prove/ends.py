@@ -20,7 +20,8 @@ CCM = [(7 + r % 7, (5 * r + 7) % 16 + 16, (3 * r + 2) % 16 + 16, 4 + 3 * r % 7 *
 ENDS = {
     "aes": {
         "blocks": [(direction, n, way) for direction in DIRECTIONS for way in ("_to", "_with") for n in range(2, 18)],
-        "add_keystream": [(at, count + 2 * at, NO_CARRY, way) for count, way in ((17, ""), (128, ""), (17, "_to"), (17, "_with")) for at in BLOCK],
+        "add_keystream": [(at, count + 2 * at, NO_CARRY, way) for count, way in ((17, ""), (128, ""), (17, "_to"), (17, "_with"))
+                          for at in BLOCK],
         "cbc_decrypt": [(n,) for n in range(2, 64)],
         "wrap_padded": [(n,) for n in range(1, 18)],
         "unwrap_padded": [(n,) for n in range(1, 18)],
