@@ -73,7 +73,8 @@ def bit_by_bit(bits, r, other):
 
 def one_less(place, register, number):
     """What is looked for, and the same with a length that is one less where it is this number."""
-    return place, r"\g<0>\txorl\t%%eax, %%eax\n\tcmpq\t$%d, %%%s\n\tsete\t%%al\n\tsubq\t%%rax, %%%s\n" % (number, register, register)
+    less = r"\txorl\t%%eax, %%eax\n\tcmpq\t$%d, %%%s\n\tsete\t%%al\n\tsubq\t%%rax, %%%s\n"
+    return place, r"\g<0>" + less % (number, register, register)
 
 
 FAULTS = {
@@ -215,8 +216,7 @@ FAULTS = {
          r"\txorl\t%eax, %eax\n\tcmpq\t$20, %r8\n\tsete\t%al\n\txorb\t%al, (%rbx)\n\g<0>", "at_ends cbc_decrypt"),
         ("eight bytes compared of a tag of nine, of 16 n + 3 bytes", CMAC_COMPARE, r"\tmovq\t%r8, %rbx\n",
          r"\g<0>\tmovq\t%rdx, %rax\n\tandq\t$15, %rax\n\txorl\t$3, %eax\n\tmovl\t%r8d, %r9d\n\txorl\t$9, %r9d\n\torl\t%r9d, %eax\n"
-         r"\tsete\t%al\n"
-         r"\tmovzbl\t%al, %eax\n\tsubq\t%rax, %rbx\n", "at_ends cmac_verify"),
+         r"\tsete\t%al\n\tmovzbl\t%al, %eax\n\tsubq\t%rax, %rbx\n", "at_ends cmac_verify"),
         ("one of two bytes of padding not compared", PADDED_DIFFERENCE, *one_less(r"\tandl\t\$7, %r15d\n", "r15", 2),
          "at_ends unwrap_padded"),
         ("another length wrapped with a key of 16 n + 5 bytes", WRAP_PADDED, r"\torq\t%rdx, %rax\n",
