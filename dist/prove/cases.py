@@ -117,7 +117,7 @@ GCM_ROWS = [
         first=[*((n, 0) for n in (*AROUND, 47, 48, 49)), *((13, n, (), "_to") for n in (3, 4, 31, 32))],
         all_=[*((5, 40, nonce) for nonce in NONCES), *((5, n, (60,)) for n in (0, 129, 300))],
         keys_24_32=[(13, 481, gcm.UNKNOWN), (0, 0, (), "_to")]),
-    Row("seal", SAME, first=[(13, n, gcm.UNKNOWN) for n in BORDERING]),
+    Row("seal", SAME, first=[(13, n, gcm.UNKNOWN) for n in (*BORDERING, 131)]),
     Row("open", "the same, also of what is refused", each=[(13, 33), (13, 33, (), "_to")],
         most=[(0, 0), (13, 0), (20, 64), (0, 0, (), "_to"), (3, 20, gcm.UNKNOWN)],
         first=[(13, n, (), "_to") for n in (3, 4, 31, 32)], all_=[(3, 20, nonce) for nonce in NONCES[1:]],
