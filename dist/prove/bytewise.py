@@ -123,13 +123,18 @@ class Bytewise:
 
     def shift_lanes(self, how, b, width, count):
         constant("the count of a shift", count)
-        out, shifted = [], self.domain.shifted
-        for lane in lanes(b, width):
-            key = how, count, *lane
-            if key not in shifted:
-                shifted[key] = self.to_bytes(self.shift(how, self.from_bytes(lane), count, width), width)
-            out += shifted[key]
-        return out
+        return [x for lane in lanes(b, width) for x in self.shifted_lane(how, lane, width, count)]
+
+    def shifted_lane(self, how, lane, width, count):
+        """One lane of these. It is kept if it is bytes: how a number that isn't known is shifted follows from facts, which may change."""
+        shifted, key = self.domain.shifted, (how, count, *lane)
+        if key not in shifted:
+            value = self.from_bytes(lane)
+            out = self.to_bytes(self.shift(how, value, count, width), width)
+            if type(value) is not tuple:
+                return out
+            shifted[key] = out
+        return shifted[key]
 
     def looked_up(self, table, indices, significant):
         """The bytes of a table, a tuple, at these indices, of whose bits `significant` gives those that count."""

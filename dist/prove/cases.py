@@ -8,6 +8,8 @@ import cmac_ccm
 import ends
 import gcm
 import siv
+from ends import DIRECTIONS
+from gcm import PHASES
 from headers import version
 from linking import takes_few
 from riscv import Riscv
@@ -18,7 +20,7 @@ from riscv import Riscv
 Row = collections.namedtuple("Row", "name what each most first keys_24_32 all_", defaults=[(), (), (), (), ()])
 ONCE = [()]  # no arguments
 
-WAYS, DIRECTIONS = ("", "_to", "_with"), ("encrypt", "decrypt")
+WAYS = "", "_to", "_with"
 SINGLE_ROUNDS = [(name, way) for name in ("cipher_round", "equiv_inv_cipher_round") for way in ("", "_par")]
 COLUMNS = ["mix_columns", "inv_mix_columns"]
 NO_CARRY, BLOCK_BEHIND = aes.NEVER, 9  # a carry nowhere; before a block that a batch has behind the text
@@ -85,7 +87,6 @@ NONCES = (8,), (1,), (60,), (16,), (32,)  # of other lengths than 12: so J_0 is 
 FEW_COUNTERS = [None, gcm.CarryTo(3)]  # of `_next`; None: any without a carry
 CARRIES = [*map(gcm.CarryTo, (2, 1, 0)), 2 ** 96 - 2]
 MANY = 2 ** 35  # bytes, so that counts and positions don't fit into 32 bits
-TAGS = 4, 8, 12, 13, 14, 15
 SAME, AROUND = "the same, on both sides of borders of comparisons", (15, 16, 17, 31, 32, 33)
 # Lengths of texts on both sides of the borders of comparisons: of words, blocks and batches.
 BORDERING = [*range(1, 6), *(n + by for n in (16, 32, 48, 64, 80, 112, 128, 144, 208, 256) for by in (-1, 0, 1))]
@@ -96,7 +97,6 @@ WHOLE = "48 a + r bytes of additional data and 768 n + s of text for every a and
 NONCE = "; then the way, and r of a nonce of 48 k + r bytes for every k, in the place of one of 12 bytes"
 OTHER_NONCES = (0, 129, "", 33), (13, 33, "_to", 0)
 PIECE = "%d n + r bytes for every n after 16 k + s for every k%s, and any J_0: s, r"
-PHASES = {"encrypt": gcm.ENCRYPTING, "verify": gcm.VERIFYING, "decrypt_unverified": gcm.VERIFYING}
 STATE = "the phase, and how many bytes of additional data and of text came before"
 CAME = "the phase; after 16 k + s bytes of additional data and 16 m + t of text for every k and m, and any J_0: s, t"
 
@@ -157,7 +157,7 @@ GCM_ROWS = [
       for call, phase, also, each, most in (
           ("finish", gcm.ENCRYPTING, "", (), ()),
           ("accept", gcm.VERIFYING, "; also of what is refused, and of a shorter tag", [(gcm.VERIFYING, 0, 7, 12)],
-           [(gcm.ADDITIONAL, 5, 0, 12), *((gcm.VERIFYING, 0, 7, n) for n in TAGS if n != 12)])))]
+           [(gcm.ADDITIONAL, 5, 0, 12), *((gcm.VERIFYING, 0, 7, n) for n in gcm.SHORT_TAGS if n != 12)])))]
 
 # Where calls of every length aren't proved (left_out).
 OF_SHORT_WORDS = {

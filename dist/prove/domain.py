@@ -153,7 +153,7 @@ class Domain(Forms, Products, Names):
         return self.moves[byte, by]
 
     def unknown_cells(self, byte):
-        """Those of a byte that are bytes of numbers that aren't known."""
+        """Those cells of a byte that are bytes of numbers that aren't known."""
         if byte not in self.of_unknowns:
             simple = self.symbolic(byte) and byte not in self.with_products
             self.of_unknowns[byte] = self.cells(byte) & self.unknowns.keys() if simple else ()

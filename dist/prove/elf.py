@@ -35,7 +35,7 @@ class Elf:
         return self.raw[at:self.raw.index(b"\0", at)].decode()
 
     def symbols_of(self, number):
-        """Those of a table of symbols, by its section's number."""
+        """The symbols of a table, given the number of its section."""
         table = self.sections[number]
         for fields in struct.iter_unpack("<IIIBBH" if self.narrow else "<IBBHQQ", table.content):
             name, info, other, section, value = (fields[k] for k in ((0, 3, 4, 5, 1) if self.narrow else range(5)))

@@ -1,11 +1,9 @@
 """The lengths of the statement `at_ends`: each remainder that a length may leave, by what the code takes at once, and each number of bytes
 of a block that came before. A fault that shows where a length leaves one remainder alone is refused by one of them."""
 from cmac_ccm import CMAC_TAGS
-from gcm import ADDITIONAL, ENCRYPTING, VERIFYING
+from gcm import ADDITIONAL, PHASES, SHORT_TAGS, VERIFYING
 from keyed import NEVER as NO_CARRY
 
-SHORT_TAGS = 4, 8, 12, 13, 14, 15
-PHASES = {"encrypt": ENCRYPTING, "verify": VERIFYING, "decrypt_unverified": VERIFYING}
 DIRECTIONS, BLOCK = ("encrypt", "decrypt"), range(16)
 PARTS = range(1, 16)  # of a block
 

@@ -28,7 +28,7 @@ TURNS = {"additional": (ADDITIONAL,), "encrypt": (ADDITIONAL, ENCRYPTING), "fini
          "accept_short": (ADDITIONAL, VERIFYING), "decrypt": (DECRYPTING,)}
 MOST, MOST_ADDITIONAL, MOST_NONCE = 2 ** 36 - 32, 2 ** 61 - 1, 2 ** 61 - 1
 SHORT_TAGS = 4, 8, 12, 13, 14, 15  # bytes
-
+PHASES = {"encrypt": ENCRYPTING, "verify": VERIFYING, "decrypt_unverified": VERIFYING}  # of a text's later pieces
 
 UNKNOWN = 8,  # a nonce of 8 bytes, and any J_0, also that of a nonce of 12 bytes; see nonce_of
 OF_J_0, OF_ANY_J_0 = "counter of J_0", "counter of J_0, at any length"

@@ -185,9 +185,14 @@ def general_bytes(m, a, b, passes, numbers=()):
         if x != y and len(x) == m.word:
             v = generally(m.from_bytes(x), m.from_bytes(y), passes, m.most)
             v = with_number(m, x, y, passes, numbers) if v is None else v
-        is_counter = isinstance(v, (Pointer, Number))
-        out += x if x == y else m.names(v) + x[m.size_of(v):] if is_counter else m.to_bytes(v, m.word) if v is not None else [
-            p if p == q and not d.unknown_cells(p) and not d.blocks(p) else m.any_byte() for p, q in zip(x, y)]
+        if x == y:
+            out += x
+        elif isinstance(v, (Pointer, Number)):
+            out += m.names(v) + x[m.size_of(v):]
+        elif v is not None:
+            out += m.to_bytes(v, m.word)
+        else:
+            out += [p if p == q and not d.unknown_cells(p) and not d.blocks(p) else m.any_byte() for p, q in zip(x, y)]
     return out
 
 

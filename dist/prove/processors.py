@@ -21,7 +21,7 @@ class Beside:
     layout (how these lie in what `raw` gives and `put_raw` takes), and flags (bits of that word, by their names)."""
 
     def registers(self):
-        """Those of `names`, and the flags."""
+        """The values of the registers in `names`, and of the flags."""
         found = dict(zip(self.names, struct.unpack(self.layout, self.raw())))
         return {**found, **{f: found["flags"] >> bit & 1 for f, bit in self.flags.items()}}
 

@@ -60,7 +60,7 @@ def without_case(text, program, tasks):
 
 
 def missing(machine):
-    """What of the tools for this machine isn't here."""
+    """The names of the tools for this machine that aren't installed."""
     names = machine.compiler[0], machine.linker[0], machine.tools + "objdump", machine.tools + "nm"
     return [name for name in names if not shutil.which(name)]
 
@@ -74,7 +74,7 @@ def say_what_is_missing(machines):
 
 
 def options_of(description, level=os.environ.get("PROVE", "")):
-    """Those of the command line. Says for which machines tools are missing; of the builds there remain the others."""
+    """The options of the command line. Prints for which machines tools are missing, and keeps the builds of the others."""
     parser = argparse.ArgumentParser(description=description)
     parser.add_argument("--dist", default=os.path.dirname(HERE))
     parser.add_argument("--out", default="out/prove")
