@@ -5,6 +5,7 @@ from operands import HEAD, Memory, Number, Pointer, Register, Vector, is_int, is
 from regions import Window
 
 PAGE = 4096  # the smallest page of memory
+UNALIGNED = "an aligned access of %s, of which the alignment isn't known"
 
 
 class Access:
@@ -97,6 +98,8 @@ class Access:
         if window.end != window.size and not self.implied(window.end - offset - size):
             raise Unproved("accesses %s where all is done" % base)
         if not write and window.is_untouched():
+            if align > 1:
+                raise Unproved(UNALIGNED % base)
             return window.initial_at(self, base, offset, size), 0
         return self.place_in_region(window, base, window.reached(self, offset, size), size, write, align)
 
@@ -110,7 +113,7 @@ class Access:
         if base == "stack":
             self.reach_in_stack(offset, size, write)
         if region.align % align or offset % align:
-            raise Unproved("an aligned access of %s, of which the alignment isn't known" % base)
+            raise Unproved(UNALIGNED % base)
         return region.content, offset
 
     def reach_in_stack(self, offset, size, write):

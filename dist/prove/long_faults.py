@@ -181,6 +181,7 @@ LONG_FAULTS = {
         ("a branch on the hash of a text after 2^16 groups", PUT_TAG, THREES,
          r"\tcmpq\t$65536, %\g<left>\n\tjne\t77f\n\ttestb\t$1, (%rsp)\n\tje\t77f\n77:\n\g<0>", "any_seal 13 33"),
         ("three blocks left out of the hash of a piece after 2^16", HASH_ON, THREES, LEFT_OUT, "any_additional 3 46"),
+        ("an aligned load of additional data of any length", HASH_ON, r"movdqu\t(-32\(%rbp\)), ", r"movdqa\t\1, ", "any_additional 3 46"),
         ("a piece's length in 32 bits", HASH_PIECE, ENTRY, r"\1\tmovl\t%r9d, %r9d\n", "any_verify 3 46"),
         ("zeros in 2^20 bytes of a refused output at most", exported("gcm_open_to"), *FEWER_ZEROS, "any_open 13 33 _to"),
         ("a count of 32 bits of a piece that is decrypted", exported("gcm_decrypt_unverified"), r"addq\t%(r\w+), 8\((%r\w+)\)",
