@@ -19,6 +19,7 @@ from riscv import Riscv
 # are. Keys of 24 and 32 bytes take each call once, and the code that loops over round keys.
 Row = collections.namedtuple("Row", "name what each most first keys_24_32 all_", defaults=[(), (), (), (), ()])
 ONCE = [()]  # no arguments
+FIRST = "x86_64/aes", "x86_64/siv", "x86_64/gcm"  # the builds that take `first`
 
 WAYS = "", "_to", "_with"
 SINGLE_ROUNDS = [(name, way) for name in ("cipher_round", "equiv_inv_cipher_round") for way in ("", "_par")]
@@ -245,7 +246,7 @@ def taken(row, build, key_size, level):
         return dict.fromkeys([*many, *(row.keys_24_32 if level == "all" or not is_late else ())])
     if level == "all":
         return dict.fromkeys([*row.each, *row.most, *(() if is_late else [*row.first, *row.all_])])
-    is_first = level and build in ("x86_64/aes", "x86_64/siv", "x86_64/gcm")
+    is_first = level and build in FIRST
     return dict.fromkeys([*row.each, *(() if takes_few(build, level) else row.most), *(row.first if is_first else ())])
 
 

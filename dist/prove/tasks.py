@@ -4,7 +4,7 @@ import gc
 import time
 
 from bits import Unproved
-from cases import LIBRARIES, statements
+from cases import FIRST, LIBRARIES, statements
 from linking import BUILDS, is_windows, narrow_word, program_of, takes_few
 from native import compare_all
 from operands import lanes
@@ -96,7 +96,9 @@ def parts_of(level, build, size):
     """In how many parts the calls of a build are proved: so that all take about as long, and with all lengths not too much memory."""
     if level == "all":
         return 8 if "/aes" in build and not takes_few(build) else 3
-    return 1 if level or size != 16 or takes_few(build, level) else 2
+    if size != 16 or takes_few(build, level):
+        return 1
+    return 4 if level and build in FIRST else 1 if level else 2
 
 
 def run_all(pool, options):
