@@ -151,7 +151,7 @@ def main():
     tries = [(faults, build) for build in {**FAULTS, **LONG_FAULTS} if build in options.builds]
     if not options.only:
         tries += [(wrong_meanings, machine) for machine in set(MEANINGS.values()) if not PROCESSORS[machine].missing()]
-    with pool_of(options.jobs) as pool:
+    with pool_of(options.jobs, max_tasks_per_child=1) as pool:  # (one text takes some 4 GB)
         for tried in [pool.submit(function, options, of) for function, of in tries]:
             for good, text in tried.result():
                 print(text, flush=True)
