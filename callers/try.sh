@@ -1,57 +1,8 @@
-# What the checks share: trying commands, and adding up how they end; and building programs over the libraries that are installed below
-# $prefix, by $CC, which $RUN runs if the processor is another one.
+# What the checks of callers share: they build programs over the libraries that are installed below $prefix, by $CC. $RUN runs these if the
+# processor is another one. Each check gets a key, and NIST's vectors if they are installed.
 # shellcheck shell=bash disable=SC2034,SC2154 # others read and set some of these
-passed=0 failed=0 prefix=${prefix:-} cc=${CC:-cc}
-work=$(mktemp -d) && chmod 755 "$work" || exit 2
-trap 'rm -rf "$work"' EXIT
-
-# Runs a command and reports how it ended. Its output goes to $work/log. If it is a function, what this runs goes to $work/trace, so that a
-# failure shows at which command of many it stopped.
-try() { # WHAT COMMAND ..
-    local what=$1 status=0 PS4='+${BASH_SOURCE[0]##*/}:$LINENO: '
-    shift
-    exec {BASH_XTRACEFD}> "$work/trace"
-    set -x
-    "$@" > "$work/log" 2>&1 || status=$?
-    set +x
-    BASH_XTRACEFD=
-    if [[ $status -eq 0 ]]; then
-        passed=$((passed + 1))
-        echo "ok: $what ($(tail -n 1 "$work/log" | cut -c 1-100))" | sed 's/ ()$//'
-    else
-        failed=$((failed + 1))
-        echo "FAILED: $what"
-        tail -n 12 "$work/log"
-        echo "It ended with status $status. The last commands that ran, each with its file and line:"
-        head -n -2 "$work/trace" | tail -n 4 | cut -c 1-300
-    fi
-}
-# Whether programs or a header are there. What needs them is named if not, with the packages of Debian that have them.
-has() { # PROGRAMS WHAT [PACKAGES]
-    local program
-    for program in $1; do command -v "$program" > /dev/null || skipped "$2" "$program" "${3:-}" || return; done
-}
-has_header() { echo "#include <$2>" | $1 -E - > /dev/null 2>&1 || skipped "$3" "$2" "${4:-}"; } # COMPILER HEADER WHAT [PACKAGES]
-skipped() { echo "skipped: $1 ($2 is not installed${3:+: apt-get install $3})" | tee -a "$work/parts" && return 1; }
-try_by() { ! has "$1" "$2" || try "${@:2}"; } # PROGRAMS WHAT COMMAND ..
-end() {
-    echo "$passed passed, $failed failed"
-    [[ $failed -eq 0 ]]
-    exit
-}
-# Runs a part, and adds what its last line says. A part that ends in another way has failed, whatever it said.
-part() { # COMMAND ..
-    local status=0
-    echo "== $*"
-    "$@" 2>&1 | tee "$work/part" || status=$?
-    cat "$work/part" >> "$work/parts"
-    if [[ $(tail -n 1 "$work/part") =~ ^([0-9]+)\ (passed|proved|refused),\ ([0-9]+)\ (failed|missed)$ ]]; then
-        passed=$((passed + BASH_REMATCH[1])) failed=$((failed + BASH_REMATCH[3]))
-        [[ $status -eq 0 || ${BASH_REMATCH[3]} -gt 0 ]] && return
-    fi
-    echo "failed: $* ended with status $status, and not with a line 'N passed, M failed' that says why"
-    failed=$((failed + 1))
-}
+source "${BASH_SOURCE[0]%/*}/../tools/try.sh"
+prefix=${prefix:-} cc=${CC:-cc}
 
 # Runs a program that $CC made.
 on_target() { # PROGRAM WORD ..

@@ -17,7 +17,6 @@ sys.path.append(str(TOP / "tools"))
 from crates import CACHE  # noqa: E402
 # Outside the repository: the gate refuses sources there that it does not read.
 ROOM = pathlib.Path(os.environ.get("FOTSGURE_EVIDENCE") or CACHE / "evidence")
-ROOM.mkdir(parents=True, exist_ok=True)
 BACKENDS = ("llvm", "rattle")
 BITS = ("128", "192", "256")
 # Valgrind merges two branches to one place (guest-chase), and then reports at both what the first one tests.
@@ -126,6 +125,7 @@ def under_memcheck(program):
 
 def asking(text, *parts, flags=()):
     """What every command can be asked: to leave parts out; and words that some can be asked."""
+    ROOM.mkdir(parents=True, exist_ok=True)
     ask = argparse.ArgumentParser(sys.argv[0], description=text, formatter_class=argparse.RawDescriptionHelpFormatter)
     # (Its own status for a wrong word has another meaning here.)
     ask.error = lambda why: stop(f"{why}; --help says what it can be asked")

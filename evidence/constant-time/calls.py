@@ -1,38 +1,21 @@
-"""Writes calls.h: a C function that makes each call once, on secret keys, round keys, blocks and data (README.md). A slice has 0 to 17
+"""The text of calls.h: a C function that makes each call once, on secret keys, round keys, blocks and data (README.md). A slice has 0 to 17
 blocks: two batches of eight and a tail, and every length below."""
 import itertools
-import pathlib
-import sys
 
-sys.path.insert(0, str(pathlib.Path(__file__).resolve().parent.parent))
-from expand import ANSWERS, CRATES, DIRECTIONS, ENDS, LEFT, MODES, SIZES, WORDS, WRAPS, types
+from exports.expand import ANSWERS, CRATES, DIRECTIONS, ENDS, LEFT, MODES, SIZES, WORDS, WRAPS, types
 
 NUMBERS = {"u32": "uint32_t", "u64": "uint64_t"}
 SLICES = range(18)
 TEXTS = (0, 1, 16, 33, 130, 1000)
-declared, body = {}, []
-
-
-def call(name, *args, label="", returns=None, wanted="clean"):
-    """A call of an export. An argument is ('s', bytes) and the like, or with a third number a slice of so many elements; ('u32', n) is
-    a number. What the kinds mean is said in harness.c."""
-    types, passed, lines = [], [], []
-    for i, (kind, size, *count) in enumerate(args):
-        if kind in NUMBERS:
-            types.append(NUMBERS[kind])
-            passed.append(str(size))
-            continue
-        lines.append(f"void *x{i} = buffer('{kind}', {size});")
-        types += ["void *", *("size_t" for _ in count)]
-        passed += [f"x{i}", *map(str, count)]
-    result = "void" if returns is None else "uint32_t"
-    line = f"{result} {name}({', '.join(types)});"
-    assert declared.setdefault(name, line) == line, name
-    title = f"{name} {label}".strip()
-    keep = "" if result == "void" else "answer = "
-    lines += ["uint64_t answer = 0;", f'begin("{title}");', f"{keep}{name}({', '.join(passed)});"]
-    lines += [f'end("{title}", "{wanted}", answer, {returns or 0});']
-    body.append("    { " + " ".join(lines) + " }")
+WAYS = ["block", "block b2b", "slice", "slice b2b", "backend"]
+CONVERSIONS = ["dec of lent", "dec of given", "both of lent", "both of given", "clone of enc", "clone of both", "clone of dec", "zeroized"]
+STEPS = ["cipher_round", "equiv_inv_cipher_round", "mix_columns", "inv_mix_columns"]
+ROUNDS = ["AesEnc", "Aes enc", "as_encdec enc", "AesDec", "Aes dec", "as_dec", "as_encdec dec"]
+# Up to four blocks, by eights, 64 and 512 at a time, and calls that cross a block.
+CUTS = [(0, 0), (1, 0), (5, 11), (16, 0), (16, 5), (64, 0), (65, 3), (200, 0), (129, 1000), (1024, 0), (1025, 0), (8192, 37), (8209, 0)]
+FROM, PIECES = ["new_at", "seek", "add_keystream"], ((0, 16), (5, 7), (1000, 1025), (2**64 - 2000, 1999))
+# What the calls take after which the stack is searched.
+TAKEN = {"Block": ("b", 16), "[Block]": ("b", 144, 9), "[u8]": ("b", 16, 16)}
 
 
 def blocks(kind, n):
@@ -47,93 +30,126 @@ def wanted_of(n):
     return "clean" if n else "empty"
 
 
-# Schedules and ciphers of both layouts on every word, and widened round keys.
-for size, (key, _, _) in SIZES.items():
-    for number, (word, n) in enumerate(WORDS.items()):
-        for layout in ("full", "compact", *(["widened"] if number else [])):
-            call(f"ev_{layout}_{size}", ("u32", number), ("s", key), blocks("s", n), blocks("o", n), blocks("o", n), label=word)
+class Calls:
+    """The declarations of the exports, and the calls, one group after the other."""
 
-# The nine types of each crate.
-WAYS = ["block", "block b2b", "slice", "slice b2b", "backend"]
-OTHERS = ["dec of lent", "dec of given", "both of lent", "both of given"]
-OTHERS += ["clone of enc", "clone of both", "clone of dec", "zeroized"]
-for crate, direction in itertools.product(CRATES, ENDS):
-    for of, size, end in types(ENDS[direction]):
-        name, key = f"ev_{crate}_{direction}_{of}", SIZES[size][0]
-        for way, what in enumerate(WAYS):
-            for n in SLICES if way >= 2 else (1, 3):
-                call(name, bytes_of("s", key), ("u32", way), blocks("s", n), blocks("o", n), label=f"Aes{size}{end} {what} {n}",
-                     returns=1, wanted=wanted_of(n))
-        # A wrong length is refused before a secret is looked at.
-        call(name, bytes_of("s", key + 1), ("u32", 2), blocks("s", 9), blocks("p", 9), label=f"Aes{size}{end} refused key",
-             returns=0, wanted="empty")
-for crate, (size, (key, _, _)), (way, what) in itertools.product(CRATES, SIZES.items(), enumerate(OTHERS)):
-    call(f"ev_{crate}_converted_{size}", bytes_of("s", key), ("u32", way), blocks("s", 9), blocks("o", 9), label=what, returns=1)
+    def __init__(self):
+        self.declared, self.body = {}, []
+        groups = (self.schedules, self.types, self.conversions, self.single_rounds, self.rounds, self.counter_mode, self.modes, self.slices,
+                  self.wipes, self.searched)
+        for group in groups:
+            group()
 
-# Single rounds on one block and on eight.
-STEPS = ["cipher_round", "equiv_inv_cipher_round", "mix_columns", "inv_mix_columns"]
-for par, n, count in (("", 16, 4), ("_par", 128, 2)):
-    for way, of in enumerate(STEPS[:count]):
-        call(f"ev_hazmat{par}", ("u32", way), ("b", n), ("s", n), label=of)
+    def call(self, name, *args, label="", returns=None, wanted="clean"):
+        """A call of an export. An argument is ('s', bytes) and the like, or with a third number a slice of so many elements; ('u32', n) is
+        a number. What the kinds mean is said in harness.c."""
+        kinds, passed, lines = [], [], []
+        for i, (kind, size, *count) in enumerate(args):
+            if kind in NUMBERS:
+                kinds.append(NUMBERS[kind])
+                passed.append(str(size))
+                continue
+            lines.append(f"void *x{i} = buffer('{kind}', {size});")
+            kinds += ["void *", *("size_t" for _ in count)]
+            passed += [f"x{i}", *map(str, count)]
+        result = "void" if returns is None else "uint32_t"
+        line = f"{result} {name}({', '.join(kinds)});"
+        assert self.declared.setdefault(name, line) == line, name
+        title = f"{name} {label}".strip()
+        keep = "" if result == "void" else "answer = "
+        lines += ["uint64_t answer = 0;", f'begin("{title}");', f"{keep}{name}({', '.join(passed)});"]
+        lines += [f'end("{title}", "{wanted}", answer, {returns or 0});']
+        self.body.append("    { " + " ".join(lines) + " }")
 
-# The schedule of planes with no value around it, key expansion, the calls that count S-box layers, the ciphers round by round.
-ROUNDS = ["AesEnc", "Aes enc", "as_encdec enc", "AesDec", "Aes dec", "as_dec", "as_encdec dec"]
-for size, (key, words, count) in SIZES.items():
-    call(f"ev_planes_{size}", ("s", key), ("o", 2 * words))
-    call(f"ev_expand_{size}", ("s", key), ("o", 16 * count))
-    for n in (1, 9):
-        call(f"ev_counted_{size}", ("s", key), blocks("b", n), label=str(n))
-    for (way, of), (par, by) in itertools.product(enumerate(ROUNDS), enumerate(("blocks", "par"))):
-        call(f"ev_rounds_{size}", ("s", 16 * count), ("u32", way), ("u32", par), ("b", 128), label=f"{of} {by}")
+    def schedules(self):
+        """Schedules and ciphers of both layouts on every word, and widened round keys."""
+        for (size, (key, _, _)), (number, (word, n)) in itertools.product(SIZES.items(), enumerate(WORDS.items())):
+            for layout in ("full", "compact", *(["widened"] if number else [])):
+                self.call(f"ev_{layout}_{size}", ("u32", number), ("s", key), blocks("s", n), blocks("o", n), blocks("o", n), label=word)
 
-# Counter mode: up to four blocks, by eights, 64 and 512 at a time, and calls that cross a block.
-CUTS = [(0, 0), (1, 0), (5, 11), (16, 0), (16, 5), (64, 0), (65, 3), (200, 0), (129, 1000), (1024, 0), (1025, 0)]
-CUTS += [(8192, 37), (8209, 0)]
-FROM = ["new_at", "seek", "add_keystream"]
-for crate in CRATES:
-    for (of, size, end), (first, rest) in itertools.product(types("Enc"), CUTS):
-        call(f"ev_{crate}_ctr_{of}", bytes_of("s", SIZES[size][0]), ("s", 16), bytes_of("b", first), bytes_of("b", rest),
-             label=f"Aes{size}{end} {first}+{rest}", returns=1, wanted=wanted_of(first + rest))
-    for (way, what), (position, n) in itertools.product(
-            enumerate(FROM), ((0, 16), (5, 7), (1000, 1025), (2**64 - 2000, 1999))):
-        call(f"ev_{crate}_ctr_from", bytes_of("s", 16), ("u32", way), ("s", 16), ("u64", f"{position}u"), bytes_of("b", n),
-             label=f"{what} {n} at {position}", returns=1)
+    def types(self):
+        """The nine types of each crate."""
+        for crate, direction in itertools.product(CRATES, ENDS):
+            for of, size, end in types(ENDS[direction]):
+                name, key = f"ev_{crate}_{direction}_{of}", SIZES[size][0]
+                for way, what in enumerate(WAYS):
+                    for n in SLICES if way >= 2 else (1, 3):
+                        self.call(name, bytes_of("s", key), ("u32", way), blocks("s", n), blocks("o", n),
+                                  label=f"Aes{size}{end} {what} {n}", returns=1, wanted=wanted_of(n))
+                # A wrong length is refused before a secret is looked at.
+                self.call(name, bytes_of("s", key + 1), ("u32", 2), blocks("s", 9), blocks("p", 9), label=f"Aes{size}{end} refused key",
+                          returns=0, wanted="empty")
 
-# The other modes. A comparison of tags tells one answer: whether the tag was right.
-of_mode = "ev_left_modes_128"
-for direction, n in itertools.product(DIRECTIONS, SLICES):
-    call(f"{of_mode}_slice_cbc_{direction['DONE']}", ("s", 16), blocks("b", n), label=str(n), wanted=wanted_of(n))
-for mode, n in itertools.product(MODES, TEXTS):
-    # A tag alone leaves the text as it is.
-    kind, wanted = ("s", "empty") if mode == "cmac" else ("b", wanted_of(n))
-    call(f"{of_mode}_stream_{mode}_sealed", ("s", 16), bytes_of(kind, n), label=str(n), returns=1, wanted=wanted)
-    for it in ANSWERS:
-        call(f"{of_mode}_stream_{mode}_{it}", ("s", 16), bytes_of("s", n), label=str(n), returns=1, wanted="told")
-for wrap, it in itertools.product(WRAPS, ANSWERS):
-    # Without padding a key has at least two semiblocks.
-    for n in (3, 5, 7, 17)[wrap == "wrap" :]:
-        call(f"{of_mode}_slice_{wrap}_{it}", ("s", 16), ("s", 8 * n, n), label=str(n), returns=1, wanted="told")
-for n in TEXTS:
-    call("ev_left_modes_256_stream_ctr_drbg", ("s", 32), bytes_of("o", n), label=str(n), returns=1, wanted=wanted_of(n))
+    def conversions(self):
+        """Conversions between the types, clones and `zeroize`."""
+        for crate, (size, (key, _, _)), (way, what) in itertools.product(CRATES, SIZES.items(), enumerate(CONVERSIONS)):
+            self.call(f"ev_{crate}_converted_{size}", bytes_of("s", key), ("u32", way), blocks("s", 9), blocks("o", 9),
+                      label=what, returns=1)
 
-# Bytes that are blocks.
-for crate, direction in itertools.product(CRATES, ENDS):
-    name = f"ev_{crate}_{direction}_bytes"
-    for n in (*SLICES, 64, 65, 66):
-        call(name, ("s", 16), bytes_of("b", 16 * n), label=f"{n} blocks", returns=1, wanted=wanted_of(n))
-    # Bytes that end inside a block are refused, and nothing is written.
-    call(name, ("s", 16), bytes_of("p", 33), label="33 bytes", returns=0, wanted="empty")
+    def single_rounds(self):
+        """Single rounds on one block and on eight."""
+        for par, n, count in (("", 16, 4), ("_par", 128, 2)):
+            for way, of in enumerate(STEPS[:count]):
+                self.call(f"ev_hazmat{par}", ("u32", way), ("b", n), ("s", n), label=of)
 
-# Wipes.
-for (word, width), n in itertools.product((("u16", 2), ("u32", 4), ("u64", 8)), (0, 1, 88, 120)):
-    call(f"ev_wipe_words_{word}", ("z", n * width, n), label=str(n), wanted=wanted_of(n))
-# The calls after which the stack is searched.
-TAKEN = {"Block": ("b", 16), "[Block]": ("b", 144, 9), "[u8]": ("b", 16, 16)}
-for size, (key, _, _) in SIZES.items():
-    for of in ("not_wiped", "words_wiped"):
-        call(f"ev_left_words_{size}_{of}", ("s", key), ("b", 16))
-    for crate, (of, (_, takes)) in itertools.product(CRATES, LEFT.items()):
-        call(f"ev_left_{crate}_{size}_{of}", ("s", key), TAKEN[takes])
+    def rounds(self):
+        """The schedule of planes with no value around it, key expansion, the calls that count S-box layers, the ciphers round by round."""
+        for size, (key, words, count) in SIZES.items():
+            self.call(f"ev_planes_{size}", ("s", key), ("o", 2 * words))
+            self.call(f"ev_expand_{size}", ("s", key), ("o", 16 * count))
+            for n in (1, 9):
+                self.call(f"ev_counted_{size}", ("s", key), blocks("b", n), label=str(n))
+            for (way, of), (par, by) in itertools.product(enumerate(ROUNDS), enumerate(("blocks", "par"))):
+                self.call(f"ev_rounds_{size}", ("s", 16 * count), ("u32", way), ("u32", par), ("b", 128), label=f"{of} {by}")
 
-print("\n".join(declared.values()))
-print("static void calls(void) {\n" + "\n".join(body) + "\n}")
+    def counter_mode(self):
+        """Counter mode in two pieces, and from a position."""
+        for crate in CRATES:
+            for (of, size, end), (first, rest) in itertools.product(types("Enc"), CUTS):
+                self.call(f"ev_{crate}_ctr_{of}", bytes_of("s", SIZES[size][0]), ("s", 16), bytes_of("b", first), bytes_of("b", rest),
+                          label=f"Aes{size}{end} {first}+{rest}", returns=1, wanted=wanted_of(first + rest))
+            for (way, what), (position, n) in itertools.product(enumerate(FROM), PIECES):
+                self.call(f"ev_{crate}_ctr_from", bytes_of("s", 16), ("u32", way), ("s", 16), ("u64", f"{position}u"), bytes_of("b", n),
+                          label=f"{what} {n} at {position}", returns=1)
+
+    def modes(self):
+        """The other modes. A comparison of tags tells one answer: whether the tag was right."""
+        name = "ev_left_modes_128"
+        for direction, n in itertools.product(DIRECTIONS, SLICES):
+            self.call(f"{name}_slice_cbc_{direction['DONE']}", ("s", 16), blocks("b", n), label=str(n), wanted=wanted_of(n))
+        for mode, n in itertools.product(MODES, TEXTS):
+            # A tag alone leaves the text as it is.
+            kind, wanted = ("s", "empty") if mode == "cmac" else ("b", wanted_of(n))
+            self.call(f"{name}_stream_{mode}_sealed", ("s", 16), bytes_of(kind, n), label=str(n), returns=1, wanted=wanted)
+            for it in ANSWERS:
+                self.call(f"{name}_stream_{mode}_{it}", ("s", 16), bytes_of("s", n), label=str(n), returns=1, wanted="told")
+        for wrap, it in itertools.product(WRAPS, ANSWERS):
+            # Without padding a key has at least two semiblocks.
+            for n in (3, 5, 7, 17)[wrap == "wrap" :]:
+                self.call(f"{name}_slice_{wrap}_{it}", ("s", 16), ("s", 8 * n, n), label=str(n), returns=1, wanted="told")
+        for n in TEXTS:
+            self.call("ev_left_modes_256_stream_ctr_drbg", ("s", 32), bytes_of("o", n), label=str(n), returns=1, wanted=wanted_of(n))
+
+    def slices(self):
+        """Bytes that are blocks."""
+        for crate, direction in itertools.product(CRATES, ENDS):
+            name = f"ev_{crate}_{direction}_bytes"
+            for n in (*SLICES, 64, 65, 66):
+                self.call(name, ("s", 16), bytes_of("b", 16 * n), label=f"{n} blocks", returns=1, wanted=wanted_of(n))
+            # Bytes that end inside a block are refused, and nothing is written.
+            self.call(name, ("s", 16), bytes_of("p", 33), label="33 bytes", returns=0, wanted="empty")
+
+    def wipes(self):
+        for (word, width), n in itertools.product((("u16", 2), ("u32", 4), ("u64", 8)), (0, 1, 88, 120)):
+            self.call(f"ev_wipe_words_{word}", ("z", n * width, n), label=str(n), wanted=wanted_of(n))
+
+    def searched(self):
+        """The calls after which the stack is searched."""
+        for size, (key, _, _) in SIZES.items():
+            for of in ("not_wiped", "words_wiped"):
+                self.call(f"ev_left_words_{size}_{of}", ("s", key), ("b", 16))
+            for crate, (of, (_, takes)) in itertools.product(CRATES, LEFT.items()):
+                self.call(f"ev_left_{crate}_{size}_{of}", ("s", key), TAKEN[takes])
+
+    def text(self):
+        return "\n".join([*self.declared.values(), "static void calls(void) {", *self.body, "}\n"])

@@ -4,9 +4,8 @@ import fnmatch
 import pathlib
 import re
 
-import expand
-import library
 import shared
+from exports import expand, library
 
 HERE = pathlib.Path(__file__).resolve().parent
 TOP = shared.TOP

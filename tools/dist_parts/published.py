@@ -44,9 +44,9 @@ NOTE = """
 	.endif
 """
 NOTES = {"x86_64": NOTE.format(kind="@", property=0xc0000002, bits=3), "aarch64": NOTE.format(kind="%", property=0xc0000000, bits=1)}
-# What each object says of itself, so that an installed library and a program can be asked: a note, which linkers keep. It is loaded with the
-# program, but not on machines of 32 bits, where a linker's script might put it before the table of vectors. On Windows, where there are no
-# notes, the words are among the constants.
+# What each object says of itself, so that an installed library and a program can be asked: a note, which linkers keep. It is loaded with
+# the program, but not on machines of 32 bits, where a linker's script might put it before the table of vectors. On Windows, where there are
+# no notes, the words are among the constants.
 SOURCES = """
 	.section	.note.fotsgure,"{flags}",%note
 	.p2align	2, 0x0

@@ -1,8 +1,8 @@
 """Exports that leave nothing in the registers that a call may change, but their result.
 
 A compiler can be told so ("zero-call-used-regs"), but what it then empties is what the function itself uses, not what the functions that
-it calls use, or else the numbers of x87 too; and for RISC-V it does nothing. So the assembly of a library is changed, before each return of an
-export: it zeros each vector register that the ABI doesn't keep for the caller, and the general registers, except the result and those
+it calls use, or else the numbers of x87 too; and for RISC-V it does nothing. So the assembly of a library is changed, before each return of
+an export: it zeros each vector register that the ABI doesn't keep for the caller, and the general registers, except the result and those
 that belong to the system. Functions that exports jump to do the same, since they return to the caller. On Cortex-M these lines stand behind
 a function, and its returns become jumps to them. A jump takes no more bytes than a return, so every branch of the function still reaches.
 """

@@ -38,9 +38,9 @@ def of_functions(text):
 
 
 def macro(folder, prefix, suffix):
-    """The macro by which an assembly file exports, under a name with a suffix. In a Rust crate, which defines `in_rust`, the label itself is
-    exported: a library in C beside it has other names. On x86-64, `chosen` is for static libraries of both builds: without it no name has a
-    suffix."""
+    """The macro by which an assembly file exports, under a name with a suffix. In a Rust crate, which defines `in_rust`, the label itself
+    is exported: a library in C beside it has other names. On x86-64, `chosen` is for static libraries of both builds: without it no name
+    has a suffix."""
     label, is_windows = f"{prefix}.\\name", folder == "windows_x86_64"
     name = f"\\name\\(){suffix}" if suffix else "\\name"
 

@@ -33,7 +33,8 @@ declare <16 x i8> @llvm.vector.extract.v16i8.nxv8i8(<vscale x 8 x i8>, i64)
 define internal <16 x i8> @byte_shuffle(<16 x i8> %table, <16 x i8> %places) alwaysinline nounwind {
   %t = call <vscale x 8 x i8> @llvm.vector.insert.nxv8i8.v16i8(<vscale x 8 x i8> poison, <16 x i8> %table, i64 0)
   %p = call <vscale x 8 x i8> @llvm.vector.insert.nxv8i8.v16i8(<vscale x 8 x i8> poison, <16 x i8> %places, i64 0)
-  %g = call <vscale x 8 x i8> @llvm.riscv.vrgather.vv.nxv8i8.i64(<vscale x 8 x i8> poison, <vscale x 8 x i8> %t, <vscale x 8 x i8> %p, i64 16)
+  %g = call <vscale x 8 x i8> @llvm.riscv.vrgather.vv.nxv8i8.i64(<vscale x 8 x i8> poison, \
+<vscale x 8 x i8> %t, <vscale x 8 x i8> %p, i64 16)
   %lanes = call <16 x i8> @llvm.vector.extract.v16i8.nxv8i8(<vscale x 8 x i8> %g, i64 0)
   %high = ashr <16 x i8> %places, splat (i8 7)
   %keep = xor <16 x i8> %high, splat (i8 -1)

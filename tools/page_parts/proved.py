@@ -15,13 +15,15 @@ This page is made by `tools/pages` of [cases.py](cases.py). [The first page](REA
 
 Each row is a statement: a method of `KeyedAes`, `KeyedGcm` or `KeyedSiv`, which stands beside the header's sentence. A name with `any_` is
 proved at every length of the form that the row names. Others have the lengths that are listed. Entries of a list end with a semicolon.
-`_to` and `_with` are the calls with these endings. With a nonce that doesn't have 12 bytes J_0 is any block, and in pieces it is so with any nonce.
+`_to` and `_with` are the calls with these endings. With a nonce that doesn't have 12 bytes J_0 is any block, and in \
+pieces it is so with any nonce.
 
 - *Each*: keys of 16 bytes, with each build.
 - *Most*: also with keys of 16 bytes and the builds but `_v1`, those for Windows, and those for RISC-V; without PROVE not with `_v3`.
 - *First*: also with keys of 16 bytes, `x86_64/aes.s` and `x86_64/gcm.s`, with `PROVE=builds`.
 - *24, 32*: with keys of 24 and 32 bytes, and the builds of *most*.
-- *All*: also with `PROVE=all`. The builds of *most* then take the whole row with keys of 16 bytes, and *each* and *most* too with other keys.
+- *All*: also with `PROVE=all`. The builds of *most* then take the whole row with keys of 16 bytes, and *each* and *most* too with \
+other keys.
   The other builds take *each* and *most* with keys of 16 bytes, and *24, 32* with other keys.
 
 Each build and each size of key also takes `set_key`, and refusals with all their numbers: counts, positions and lengths that aren't known.

@@ -3,11 +3,12 @@ import os
 import tempfile
 import time
 
-import expand
 import shared
 
 import crates
 import toolchain
+
+from . import expand
 
 NAME = "evidence_exports"
 CRATES = "aes_planes aes_cipher aes_soft aes aes_permute aes_hybrid aes_rounds aes_ctr cbc key_wrap cmac ccm gcm gcm_siv ctr_drbg".split()

@@ -1,4 +1,4 @@
-"""Writes the library of exports out of its templates, exports/src/*.rt.txt.
+"""Writes the library of exports out of its templates, src/*.rt.txt.
 
 A line `// each SIZE, CRATE:` repeats the item or the statement after it, once for each size of keys and each crate, and
 what stands in `${..}` is filled in. The tables below say what there is of each; a row may have tables of its own, which come
@@ -9,7 +9,7 @@ import pathlib
 import re
 
 HERE = pathlib.Path(__file__).resolve().parent
-TEMPLATES = HERE / "exports" / "src"
+TEMPLATES = HERE / "src"
 # Bytes of a key, stored words of planes, round keys.
 SIZES = {128: (16, 88, 11), 192: (24, 104, 13), 256: (32, 120, 15)}
 CRATES = ("aes", "aes_hybrid")
