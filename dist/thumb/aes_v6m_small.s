@@ -16679,5 +16679,5 @@ aes_v6m_small.fotsgure_aes_add_keystream_with:        @ @aes_v6m_small.fotsgure_
 	.long	9, 124, 1
 	.asciz	"Fotsgure"
 	.p2align	2, 0x0
-	.asciz	"fotsgure_aes 0.4.0, thumb/aes_v6m_small.s, sources SHA-256 568705d49fc313d51a3118f972883289c0abab049ad136132806690e516afe49"
+	.asciz	"fotsgure_aes 0.4.0, thumb/aes_v6m_small.s, sources SHA-256 93c4c1f9a119daf9c53c1b84582bcba4455d731c78c61c0f0737ce65242a1d65"
 	.p2align	2, 0x0

@@ -13456,5 +13456,5 @@ gcm_v6m_small.fotsgure_gcm_siv_wipe:                  @ @gcm_v6m_small.fotsgure_
 	.long	9, 124, 1
 	.asciz	"Fotsgure"
 	.p2align	2, 0x0
-	.asciz	"fotsgure_gcm 0.4.0, thumb/gcm_v6m_small.s, sources SHA-256 7ffbfed4fdc57d310dc7b2575290ae8baa1c67d9e3c172c81948d4bb9f7ef94b"
+	.asciz	"fotsgure_gcm 0.4.0, thumb/gcm_v6m_small.s, sources SHA-256 208602ae32e5dd5d4aa7a028ebc59ad6269492290ae4be105a6461c3e77eec69"
 	.p2align	2, 0x0

@@ -18025,5 +18025,5 @@ gcm_v2.fotsgure_gcm_accept_short:              # @gcm_v2.fotsgure_gcm_accept_sho
 	.long	9, 115, 1
 	.asciz	"Fotsgure"
 	.p2align	2, 0x0
-	.asciz	"fotsgure_gcm 0.4.0, x86_64/gcm.s, sources SHA-256 7ffbfed4fdc57d310dc7b2575290ae8baa1c67d9e3c172c81948d4bb9f7ef94b"
+	.asciz	"fotsgure_gcm 0.4.0, x86_64/gcm.s, sources SHA-256 208602ae32e5dd5d4aa7a028ebc59ad6269492290ae4be105a6461c3e77eec69"
 	.p2align	2, 0x0

@@ -1,5 +1,5 @@
 -- Counter blocks, one after the other.
-use Rattle.std.proofs.Common.{◌≡◌, ℕ, ◌+◌, ◌*◌, ◌/◌, ◌%◌, ◌^◌, ◌<◌, List, [], ◌∷◌, length, get_or}
+use Rattle.std.proofs.Common.{◌≡◌, ℕ, ◌+◌, ◌%◌, ◌^◌, ◌<◌, List, [], length, get_or}
 use Rattle.std.proofs.Common.{set, sym, ap, refl, ◌∙◌, arith}
 use Rattle.std.proofs.lemmas.List.Edits.{fill_by_more}
 use Rattle.std.specs.Int.{w128, to_be_bytes, from_be_bytes}

@@ -1,5 +1,5 @@
 -- Which block of a batch a byte falls in, and sums of data and a batch of blocks.
-use Rattle.std.proofs.Common.{◌≡◌, ℕ, ◌+◌, ◌*◌, ◌/◌, ◌%◌, ◌<◌, ◌≤◌, List, [], ◌++◌, length}
+use Rattle.std.proofs.Common.{◌≡◌, ℕ, ◌+◌, ◌*◌, ◌/◌, ◌%◌, ◌<◌, ◌≤◌, List, [], length}
 use Rattle.std.proofs.Common.{slice_index, slice_index_or, ◌⊎◌, inl, inr, ◌-◌, map, take, drop, set}
 use Rattle.std.proofs.Common.{ap, refl, ◌∙◌, sym, arith}
 use Rattle.std.proofs.lemmas.Bool.{cases_lt}

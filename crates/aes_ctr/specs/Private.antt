@@ -6,7 +6,6 @@ use Rattle.aes_ctr.specs.CounterMode.{plus_stream}
 unfoldable pub byte_of_blocks : List (List ℕ) → ℕ → ℕ
 byte_of_blocks blocks i = slice_index (slice_index_or blocks (i / 16) []) (i % 16)
 
--- what work on a list that has come to place i leaves in the end: the bytes before it, and the sum
--- of the stream and those from it on
+-- a list to whose bytes from place i on the stream has been added, and whose first i bytes are as they were
 abbrev pub added_from : (ℕ → ℕ) → ℕ → ℕ → List ℕ → List ℕ
 added_from s p i xs = take i xs ++ plus_stream s (p + i) (drop i xs)

@@ -83,7 +83,7 @@ half_of_map f x i = go (i == 0)
     go true = take-map f 16 x
     go false = drop-map f 16 x
 
--- a vector and nothing make nothing, lane by lane
+-- nothing is zipped of a vector and an empty list
 zip2_nil : (f : ℕ → ℕ → ℕ) (xs : List ℕ) → zip2 f xs [] ≡ []
 zip2_nil f [] = refl
 zip2_nil f (x ∷ xs) = refl

@@ -23,26 +23,26 @@ pub sum_of : (f h : ℕ → ℕ) (x : List ℕ) {y v z : List ℕ} → z ≡ zip
 sum_of f h x e first second = e ∙ zip2_of_maps bit_xor f h x first second
 
 -- the sum of which the second inverse is looked up
-abbrev pub over : (ℕ → ℕ) → ℕ → ℕ
-over f b = bit_xor (looked INVERSE (f b)) (looked SCALED_INVERSE (low_nibble b))
+abbrev pub second_sum : (ℕ → ℕ) → ℕ → ℕ
+second_sum f b = bit_xor (looked INVERSE (f b)) (looked SCALED_INVERSE (low_nibble b))
 
 -- the sum of which the second inverse is looked up, as the code makes it
 pub over_is : (f : ℕ → ℕ) (x : List ℕ) {y low inverse scaled z : List ℕ} → y ≡ map f x
     → low ≡ map low_nibble x
     → inverse ≡ map (looked INVERSE) y → scaled ≡ map (looked SCALED_INVERSE) low
     → z ≡ zip2 bit_xor inverse scaled
-    → z ≡ map (over f) x
+    → z ≡ map (second_sum f) x
 over_is f x is_y is_low at_y at_low e =
     sum_of (λ b. looked INVERSE (f b)) (λ b. looked SCALED_INVERSE (low_nibble b)) x e
     (looked_of f INVERSE x at_y is_y)
     (looked_of low_nibble SCALED_INVERSE x at_low is_low)
 
--- a place: the inverse of that sum, plus another function of the byte
-pub place_is : (f h : ℕ → ℕ) (x : List ℕ) {sum at v z : List ℕ} → sum ≡ map (over f) x
+-- the place that the second inverse gives: that inverse, plus another function of the byte
+pub place_is : (f h : ℕ → ℕ) (x : List ℕ) {sum at v z : List ℕ} → sum ≡ map (second_sum f) x
     → at ≡ map (looked INVERSE) sum
     → v ≡ map h x → z ≡ zip2 bit_xor at v → z ≡ map (λ b. bit_xor (inverse_over f b) (h b)) x
 place_is f h x is_sum is_at is_v e =
-    sum_of (inverse_over f) h x e (looked_of (over f) INVERSE x is_at is_sum) is_v
+    sum_of (inverse_over f) h x e (looked_of (second_sum f) INVERSE x is_at is_sum) is_v
 
 -- ---- that they are at places
 
@@ -66,11 +66,11 @@ pub both_cases : all_below 256 (λ b. is_index (both_nibbles b)) ≡ true
 unfolding all_below is_index
 both_cases = refl
 
-pub over_high_cases : all_below 256 (λ b. is_index (over high_nibble b)) ≡ true
+pub over_high_cases : all_below 256 (λ b. is_index (second_sum high_nibble b)) ≡ true
 unfolding all_below is_index
 over_high_cases = refl
 
-pub over_both_cases : all_below 256 (λ b. is_index (over both_nibbles b)) ≡ true
+pub over_both_cases : all_below 256 (λ b. is_index (second_sum both_nibbles b)) ≡ true
 unfolding all_below is_index
 over_both_cases = refl
 

@@ -94,7 +94,7 @@ heading_semiblock bytes = (
       (drop_bytes 12 (to_be_bytes w128 bytes) (number_block bytes).1),
 )
 
--- all of S are semiblocks, which is what undoing the steps of W asks for
+-- S consists of semiblocks, which is what undoing the steps of W asks for
 pub headed_semiblocks : (key : List ℕ) → IsBytes key → All IsSemiblock (headed key)
 unfolding headed heading padded
 headed_semiblocks key small =

@@ -1,18 +1,16 @@
 -- Keys with padding: the semiblocks that a key fills, and the comparisons that show whether it was
 -- padded.
-use Rattle.std.proofs.Common.{◌≡◌, ℕ, zero, suc, ◌+◌, ◌-◌, ◌*◌, ◌/◌, ◌%◌, ◌^◌, ◌<◌, ◌≤◌, ◌↔◌, List}
-use Rattle.std.proofs.Common.{[], ◌∷◌, ◌++◌, length, get_or, set, take, drop, replicate, refl, ap}
+use Rattle.std.proofs.Common.{◌≡◌, ℕ, suc, ◌+◌, ◌-◌, ◌*◌, ◌/◌, ◌%◌, ◌^◌, ◌<◌, ◌≤◌, ◌↔◌, List}
+use Rattle.std.proofs.Common.{[], ◌∷◌, ◌++◌, length, get_or, set, take, drop, replicate, ap}
 use Rattle.std.proofs.Common.{sym, inl, inr, ◌∙◌, arith, bit_and, bit_or, if◌then◌else◌}
 use Rattle.std.proofs.lemmas.Bool.{cases_lt, ne_eqb}
-use Rattle.std.proofs.lemmas.List.{append-nil, drop-append-le, drop_more, length-drop, length-take}
+use Rattle.std.proofs.lemmas.List.{append-nil, drop-append-le, length-drop, length-take}
 use Rattle.std.proofs.lemmas.List.{take-append-drop, take-append-le, take-replicate, take_all}
 use Rattle.std.proofs.lemmas.List.{take_more_set}
-use Rattle.std.proofs.lemmas.Nat.{and_mask, be_bytes_4, le_or_l, le_or_r, mod-pow-add, pow_pos}
-use Rattle.std.proofs.Math.Nat.{le-mul_of_pos_right}
+use Rattle.std.proofs.lemmas.Nat.{and_mask, be_bytes_4, le_or_l, le_or_r}
 use Rattle.std.proofs.Math.Seq.{take-append-add}
-use Rattle.aes_planes.proofs.Bits.ByteCases.{by_eight}
 use Rattle.aes_planes.proofs.Standard.States.{drop_bytes, take_bytes}
-use Rattle.std.specs.Int.{w32, w64, to_be_bytes, from_be_bytes}
+use Rattle.std.specs.Int.{w32, to_be_bytes, from_be_bytes}
 use Rattle.std.specs.List.{concat, slice_range}
 use Rattle.aes_planes.specs.Fips197.{IsBytes}
 use Rattle.key_wrap.specs.Padded.{block_or_steps, filled, heading, length_in, padded, padded_check}

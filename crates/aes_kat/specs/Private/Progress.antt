@@ -3,8 +3,8 @@ use Rattle.std.specs.Prelude.{ℕ, List, ◌++◌, ◌≡◌, Bool, ◌||◌, Op
 use Rattle.std.specs.Io.KnownBytes.{Appends}
 use Rattle.aes_kat.specs.Answers.{answers_to, has_fault, BeginsWith}
 
--- Whatever bytes come next: the answers to `before` and them are `written`, and then the answers to `after` and them;
--- and a fault is among the former where `fault` says so or one is among the latter.
+-- Whatever comes next: `written` and the answers to `after` and it are the answers to `before` and it. The latter have a
+-- fault if `fault` says so, or if the answers to `after` and it have one.
 pub record Answered (before after written : List ℕ) (fault : Bool) : Type 0 where
   pub answers : (next : List ℕ) → answers_to (before ++ next) ≡ written ++ answers_to (after ++ next)
   pub faults : (next : List ℕ) → has_fault (before ++ next) ≡ (fault || has_fault (after ++ next))

@@ -16,29 +16,29 @@ use Rattle.aes_planes.proofs.Standard.States.{state_same, state_bytes}
 use Rattle.aes_planes.proofs.Standard.Steps.{shift_times_bytes}
 
 -- what is made of a byte and of the next ones of its column
-pub data Made : Type 0 where
+pub data Mix : Type 0 where
   -- one of the bytes, counted from the first on
-  Byte : ℕ → Made
-  Sum : Made → Made → Made
-  Double : Made → Made
+  Byte : ℕ → Mix
+  Sum : Mix → Mix → Mix
+  Double : Mix → Mix
   -- what is made in the same way of the bytes from two on
-  TwoOn : Made → Made
+  FromTwoOn : Mix → Mix
 
 -- the byte that is made of the bytes v 0, v 1, ..
-abbrev pub made : Made → (ℕ → ℕ) → ℕ
-made (Byte j) v = v j
-made (Sum x y) v = field_add (made x v) (made y v)
-made (Double x) v = field_mul 2 (made x v)
-made (TwoOn x) v = made x (λ j. v (suc (suc j)))
+abbrev pub mixed_byte : Mix → (ℕ → ℕ) → ℕ
+mixed_byte (Byte j) v = v j
+mixed_byte (Sum x y) v = field_add (mixed_byte x v) (mixed_byte y v)
+mixed_byte (Double x) v = field_mul 2 (mixed_byte x v)
+mixed_byte (FromTwoOn x) v = mixed_byte x (λ j. v (suc (suc j)))
 
--- what `Made` describes is linear over sums, so tests at the powers of x suffice
-made_add : (x : Made) (v w : ℕ → ℕ) → made x (add_columns v w) ≡ field_add (made x v) (made x w)
+-- what `Mix` describes is linear over sums, so tests at the powers of x suffice
+made_add : (x : Mix) (v w : ℕ → ℕ) → mixed_byte x (add_columns v w) ≡ field_add (mixed_byte x v) (mixed_byte x w)
 made_add (Byte j) v w = refl
 made_add (Sum x y) v w =
     (λ i. field_add (made_add x v w i) (made_add y v w i))
-    ∙ add_swap (made x v) (made x w) (made y v) (made y w)
-made_add (Double x) v w = ap (field_mul 2) (made_add x v w) ∙ field_mul_add 2 (made x v) (made x w)
-made_add (TwoOn x) v w = made_add x (λ j. v (suc (suc j))) (λ j. w (suc (suc j)))
+    ∙ add_swap (mixed_byte x v) (mixed_byte x w) (mixed_byte y v) (mixed_byte y w)
+made_add (Double x) v w = ap (field_mul 2) (made_add x v w) ∙ field_mul_add 2 (mixed_byte x v) (mixed_byte x w)
+made_add (FromTwoOn x) v w = made_add x (λ j. v (suc (suc j))) (λ j. w (suc (suc j)))
 
 -- the bytes from row r and column c on, each a row and `cols` columns after the one before
 abbrev pub onward : ℕ → (ℕ → ℕ → ℕ) → ℕ → ℕ → ℕ → ℕ
@@ -48,31 +48,31 @@ onward cols f r c (suc j) = onward cols f ((r + 1) % 4) ((c + cols) % 4) j
 -- ---- MixColumns and its inverse
 
 -- the sum of a byte and the next
-abbrev pub sums : Made
+abbrev pub sums : Mix
 sums = Sum (Byte 0) (Byte 1)
 
 -- 3 times a byte plus twice the next
-abbrev pub low : Made
+abbrev pub low : Mix
 low = Sum (Byte 0) (Double sums)
 
 -- 13 times a byte plus 9 times the next
-abbrev pub high : Made
+abbrev pub high : Mix
 high = Sum sums (Double (Double low))
 
 -- what MixColumns makes
-abbrev pub forward : Made
-forward = Sum (Sum (Byte 1) (Double sums)) (TwoOn sums)
+abbrev pub forward : Mix
+forward = Sum (Sum (Byte 1) (Double sums)) (FromTwoOn sums)
 
 -- what InvMixColumns makes
-abbrev pub inverse : Made
-inverse = Sum (Sum low high) (TwoOn high)
+abbrev pub inverse : Mix
+inverse = Sum (Sum low high) (FromTwoOn high)
 
 -- the byte that x makes of a column's bytes from row r on, and around
-from_row : Made → (ℕ → ℕ) → ℕ → ℕ
-from_row x v r = made x (λ j. v ((r + j) % 4))
+from_row : Mix → (ℕ → ℕ) → ℕ → ℕ
+from_row x v r = mixed_byte x (λ j. v ((r + j) % 4))
 
 -- a matrix that agrees with x on the powers of x, times each column of a state of bytes
-made_of_columns : (m : ℕ → List ℕ) (x : Made) → agree_on_powers (matrix m) (from_row x) ≡ true
+made_of_columns : (m : ℕ → List ℕ) (x : Mix) → agree_on_powers (matrix m) (from_row x) ≡ true
     → (s : List ℕ)
     → IsBytes s → times m s ≡ state (λ r c. from_row x (first_rows 4 (column s c)) r)
 unfolding times first_rows from_row
@@ -82,9 +82,9 @@ made_of_columns m x test s h =
     (λ j. h (j + 4 * c)) r lt)
 
 -- a step that makes x of the bytes of each column, between as many shifts of the rows
-abbrev pub Mixes : Made → (List ℕ → List ℕ) → Type 0
+abbrev pub Mixes : Mix → (List ℕ → List ℕ) → Type 0
 Mixes x step = (cols : ℕ) → cols < 4 → (f : ℕ → ℕ → ℕ) → ((r c : ℕ) → f r c < 256)
-    → state (λ r c. made x (onward cols f r c)) ≡ between_shifts cols step (state f)
+    → state (λ r c. mixed_byte x (onward cols f r c)) ≡ between_shifts cols step (state f)
 
 -- MixColumns makes `forward` of the bytes of each column
 pub mix_made : Mixes forward mix_columns
@@ -94,7 +94,7 @@ mix_made cols h f bytes =
     let back = λ (k : ℕ). sym
     (ap (inv_shift_times k) (made_of_columns mix_row forward refl (shift_times k (state f))
     (shift_times_bytes k (state f) (state_bytes f bytes)))) in
-    by_four (λ k. state (λ r c. made forward (onward k f r c))
+    by_four (λ k. state (λ r c. mixed_byte forward (onward k f r c))
     ≡ between_shifts k mix_columns (state f))
     (back 0) (back 1) (back 2) (back 3) cols h
 
@@ -106,18 +106,18 @@ inv_mix_made cols h f bytes =
     let back = λ (k : ℕ). sym
     (ap (inv_shift_times k) (made_of_columns inv_mix_row inverse refl (shift_times k (state f))
     (shift_times_bytes k (state f) (state_bytes f bytes)))) in
-    by_four (λ k. state (λ r c. made inverse (onward k f r c))
+    by_four (λ k. state (λ r c. mixed_byte inverse (onward k f r c))
     ≡ between_shifts k inv_mix_columns (state f))
     (back 0) (back 1) (back 2) (back 3) cols h
 
 -- ---- on planes
 
 -- planes that hold in each place what x makes of the old bytes from there on
-pub record Makes (n cols : ℕ) (old : List (List Bool)) (x : Made)
+pub record Makes (n cols : ℕ) (old : List (List Bool)) (x : Mix)
     (planes : List (List Bool)) : Type 0 where
   -- the byte that the planes hold at a place
   pub bytes : (r c k : ℕ) → r < 4 → c < 4 → k < n
-      → held_byte planes (place n r c k) ≡ made x
+      → held_byte planes (place n r c k) ≡ mixed_byte x
       (onward cols (λ r c. held_byte old (place n r c k)) r c)
 
 module _ {A : Type 0} {bits : A → List Bool} {n w R H Q N S : ℕ}
@@ -128,7 +128,7 @@ module _ {A : Type 0} {bits : A → List Bool} {n w R H Q N S : ℕ}
   inside r c k hr hc hk = omega (arith, shape.sixteen, place_lt n r c k hr hc hk)
 
   -- planes whose bytes are sums
-  pub summed : {x y : Made} {a b z : List (List Bool)} → Makes n cols old x a → Makes n cols old y b
+  pub summed : {x y : Mix} {a b z : List (List Bool)} → Makes n cols old x a → Makes n cols old y b
       → ((i : ℕ) → i < w → held_byte z i ≡ field_add (held_byte a i) (held_byte b i))
       → Makes n cols old (Sum x y) z
   summed p q e = record {
@@ -137,7 +137,7 @@ module _ {A : Type 0} {bits : A → List Bool} {n w R H Q N S : ℕ}
   }
 
   -- planes whose bytes are doubles
-  pub doubled : {x : Made} {a z : List (List Bool)} → Makes n cols old x a
+  pub doubled : {x : Mix} {a z : List (List Bool)} → Makes n cols old x a
       → ((i : ℕ) → i < w → held_byte z i ≡ field_mul 2 (held_byte a i))
       → Makes n cols old (Double x) z
   doubled p e = record {
@@ -146,23 +146,23 @@ module _ {A : Type 0} {bits : A → List Bool} {n w R H Q N S : ℕ}
   }
 
   -- planes that are turned by two rows
-  pub turned_two : {x : Made} {a z : List (List Bool)} → Makes n cols old x a
+  pub turned_two : {x : Mix} {a z : List (List Bool)} → Makes n cols old x a
       → ((r c k : ℕ) → r < 4 → c < 4 → k < n
       → held_byte z (place n r c k) ≡ held_byte a
       (place n ((r + 2) % 4) ((c + 2 * cols % 4) % 4) k))
-      → Makes n cols old (TwoOn x) z
+      → Makes n cols old (FromTwoOn x) z
   turned_two {x = x} p turn = record {
     bytes = λ r c k hr hc hk.
         let row : (r + 2) % 4 ≡ ((r + 1) % 4 + 1) % 4 = omega arith in
         let column : (c + 2 * cols % 4) % 4 ≡ ((c + cols) % 4 + cols) % 4 = omega arith in
         turn r c k hr hc hk ∙ p.bytes _ _ k (omega arith) (omega arith) hk
-        ∙ (λ t. made x (onward cols (λ r c. held_byte old (place n r c k)) (row t) (column t)));
+        ∙ (λ t. mixed_byte x (onward cols (λ r c. held_byte old (place n r c k)) (row t) (column t)));
   }
 
   -- planes of which a step makes x hold the blocks after the step, between as many shifts
-  pub mixed : {x : Made} {new : List (List Bool)} (step : List ℕ → List ℕ) → Mixes x step → cols < 4
+  pub mixed : {x : Mix} {new : List (List Bool)} (step : List ℕ → List ℕ) → Mixes x step → cols < 4
       → ((i : ℕ) → held_byte old i < 256) → Makes n cols old x new
       → held n new ≡ map (between_shifts cols step) (held n old)
   mixed {x = x} {new = new} step e h small p = stepped_held (between_shifts cols step)
-      (λ f r c. made x (onward cols f r c)) n new old
+      (λ f r c. mixed_byte x (onward cols f r c)) n new old
       (λ k. e cols h (λ r c. held_byte old (place n r c k)) (λ r c. small (place n r c k))) p.bytes

@@ -1,7 +1,7 @@
 -- Products by powers of a block: the order of factors is free, and what is hashed block by block is
 -- a sum of products.
-use Rattle.std.proofs.Common.{◌≡◌, ℕ, ◌-◌, ◌*◌, ◌/◌, ◌%◌, ◌^◌, ◌<◌, ◌==◌, if◌then◌else◌, Bool, true}
-use Rattle.std.proofs.Common.{false, bit_xor, refl, ap, sym, ◌∙◌, arith}
+use Rattle.std.proofs.Common.{◌≡◌, ℕ, ◌-◌, ◌*◌, ◌/◌, ◌%◌, ◌^◌, ◌<◌, ◌==◌, true}
+use Rattle.std.proofs.Common.{bit_xor, refl, ap, sym, ◌∙◌, arith}
 use Rattle.std.proofs.lemmas.Nat.{xor_shr, xor_mod}
 use Rattle.std.proofs.lemmas.Bool.{eqb-true}
 use Rattle.aes_planes.proofs.Bits.ByteCases.{all_below, all_below_tells}

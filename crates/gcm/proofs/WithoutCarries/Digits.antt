@@ -438,17 +438,17 @@ lower_sum x y hx hy =
     ∙ (λ u. bit_and (sum-through (λ z. z % 2 ^ 32) refl halved 4 (at t) u) (mask_halved t ht u))))
 
 -- the sum of four terms, from 0 on
-pub four : (a b c d : ℕ) → bit_xor (bit_xor (bit_xor a b) c) d
+pub sum_of_four : (a b c d : ℕ) → bit_xor (bit_xor (bit_xor a b) c) d
     ≡ bit_xor (bit_xor (bit_xor (bit_xor 0 a) b) c) d
-four a b c d = ap (λ z. bit_xor (bit_xor (bit_xor z b) c) d) (sym (xor_zero_l a))
+sum_of_four a b c d = ap (λ z. bit_xor (bit_xor (bit_xor z b) c) d) (sym (xor_zero_l a))
 
 -- the lower halves of the four products of which the bits are at t, t + 4, ..
-pub class : (x y t a b c d : ℕ) → a ≡ every_fourth x 0 * every_fourth y ((t + 4 - 0) % 4) % 2 ^ 32
+pub lower_at_sum : (x y t a b c d : ℕ) → a ≡ every_fourth x 0 * every_fourth y ((t + 4 - 0) % 4) % 2 ^ 32
     → b ≡ every_fourth x 1 * every_fourth y ((t + 4 - 1) % 4) % 2 ^ 32
     → c ≡ every_fourth x 2 * every_fourth y ((t + 4 - 2) % 4) % 2 ^ 32
     → d ≡ every_fourth x 3 * every_fourth y ((t + 4 - 3) % 4) % 2 ^ 32
     → bit_xor (bit_xor (bit_xor a b) c) d ≡ lower_at x y t
 unfolding lower_at sum_of
-class x y t a b c d a_is b_is c_is d_is =
-    four a b c d ∙ (λ u. bit_xor (bit_xor (bit_xor (bit_xor 0 (a_is u)) (b_is u)) (c_is u))
+lower_at_sum x y t a b c d a_is b_is c_is d_is =
+    sum_of_four a b c d ∙ (λ u. bit_xor (bit_xor (bit_xor (bit_xor 0 (a_is u)) (b_is u)) (c_is u))
     (d_is u))

@@ -1,4 +1,3 @@
--- What is left to show of `blocks::block_of_number`.
 use Rattle.std.proofs.Common.{arith}
 use Rattle.aes_cipher.proofs.BlockNumbers.{bytes_of_halves, number_back}
 use Rattle.aes_cipher.proofs.blocks.block_of_number.Goals as goal

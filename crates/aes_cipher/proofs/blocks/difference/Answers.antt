@@ -1,4 +1,3 @@
--- What is left to show of `blocks::difference`.
 use Rattle.std.proofs.Common.{◌≡◌, ℕ, ◌∙◌, ap, arith, below_more, bit_or, bit_xor, get_or, sym}
 use Rattle.std.proofs.lemmas.List.{ext_get_or}
 use Rattle.std.proofs.lemmas.Nat.{le_or_l, le_or_r}

@@ -1,4 +1,3 @@
--- What holds in the loop of `blocks::difference`.
 use Rattle.std.proofs.Common.{◌≡◌, ℕ, ◌<◌, get_or}
 use Rattle.aes_cipher.proofs.blocks.difference.Given as goal
 

@@ -1,4 +1,3 @@
--- What is left to show of `blocks::numbers_as_blocks`.
 use Rattle.aes_cipher.proofs.BlockNumbers.{block_back, number_block}
 use Rattle.aes_cipher.proofs.blocks.numbers_as_blocks.Goals as goal
 

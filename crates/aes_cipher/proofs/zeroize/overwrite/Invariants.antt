@@ -1,4 +1,3 @@
--- What holds in the loop of `zeroize::overwrite`.
 use Rattle.std.proofs.Common.{◌≡◌, ◌++◌, replicate, drop}
 use Rattle.aes_cipher.proofs.zeroize.overwrite.Given as goal
 

@@ -1,4 +1,3 @@
--- What is left to show of `zeroize::zeroize_words`.
 use Rattle.std.proofs.Common.{◌∙◌, ap, map, replicate, length}
 use Rattle.aes_cipher.proofs.Zeros.{bits_of_zero, map_replicate}
 use Rattle.aes_cipher.proofs.zeroize.zeroize_words.Goals as goal

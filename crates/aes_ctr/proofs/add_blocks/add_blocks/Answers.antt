@@ -1,7 +1,6 @@
--- What is left to show of `add_blocks::add_blocks`.
-use Rattle.std.proofs.Common.{◌≡◌, ℕ, ◌<◌, ◌∙◌, ◌+◌, ◌-◌, ◌/◌, ◌%◌, List, [], slice_index}
+use Rattle.std.proofs.Common.{◌≡◌, ℕ, ◌∙◌, ◌+◌, ◌-◌, ◌/◌, ◌%◌, [], slice_index}
 use Rattle.std.proofs.Common.{slice_index_or, length, refl, ap, arith}
-use borrow.Rule.Slice.PartMut.{put_mid, same_len_mid}
+use borrow.Rule.Slice.PartMut.{same_len_mid}
 use Rattle.aes_ctr.specs.CounterMode.{plus_stream}
 use Rattle.aes_ctr.specs.Private.{added_from, byte_of_blocks}
 use Rattle.aes_ctr.proofs.Places.{byte_of_block}

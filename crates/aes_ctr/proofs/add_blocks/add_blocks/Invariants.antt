@@ -1,4 +1,3 @@
--- What holds in the loop of `add_blocks::add_blocks`.
 use Rattle.std.proofs.Common.{◌≡◌, ◌≤◌, ◌<◌, ◌-◌, ◌+◌, ◌%◌, length}
 use Rattle.aes_ctr.specs.CounterMode.{plus_stream}
 use Rattle.aes_ctr.specs.Private.{added_from, byte_of_blocks}

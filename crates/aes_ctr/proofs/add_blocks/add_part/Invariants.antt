@@ -1,4 +1,3 @@
--- What holds in the loop of `add_blocks::add_part`.
 use Rattle.std.proofs.Common.{◌≡◌, slice_index}
 use Rattle.aes_ctr.specs.CounterMode.{plus_stream}
 use Rattle.aes_ctr.specs.Private.{added_from}

@@ -1,4 +1,3 @@
--- What is left to show of `add_in_batches::add_by_backend`.
 use Rattle.std.proofs.Common.{◌≡◌, ◌∙◌, ◌*◌, ◌/◌, ◌%◌, ◌+◌, ◌^◌, ap, arith}
 use Rattle.aes_ctr.specs.Streams.{stream_byte}
 use Rattle.aes_ctr.proofs.Runs.{added_run, added_all}

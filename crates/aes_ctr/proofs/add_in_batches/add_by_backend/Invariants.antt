@@ -1,4 +1,3 @@
--- What holds in the loops of `add_in_batches::add_by_backend`.
 use Rattle.std.proofs.Common.{◌≡◌, ◌≤◌, ◌<◌, ◌-◌, ◌+◌, ◌%◌, ◌^◌, length}
 use Rattle.aes_ctr.specs.CounterMode.{plus_stream}
 use Rattle.aes_ctr.specs.Streams.{stream_byte}

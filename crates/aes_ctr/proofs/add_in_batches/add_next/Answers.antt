@@ -1,4 +1,3 @@
--- What is left to show of `add_in_batches::add_next`.
 use Rattle.std.proofs.Common.{◌≡◌, ℕ, ◌<◌, ◌∙◌, ◌+◌, ◌%◌, ◌^◌, ap, arith}
 use Rattle.aes_ctr.specs.Streams.{stream_byte}
 use Rattle.aes_ctr.specs.Private.{byte_of_blocks}

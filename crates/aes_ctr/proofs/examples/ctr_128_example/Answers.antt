@@ -1,4 +1,3 @@
--- What is left to show of `examples::ctr_128_example`.
 use Rattle.std.proofs.Common.{◌≡◌, ℕ, ◌+◌, ◌/◌, List, [], ◌∷◌, ◌++◌, slice_index_or, sym, ◌∙◌}
 use Rattle.std.proofs.Common.{arith}
 use Rattle.aes_planes.specs.BigEndian.{bytes}

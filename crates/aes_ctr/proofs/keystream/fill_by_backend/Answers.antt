@@ -1,4 +1,3 @@
--- What is left to show of `keystream::fill_by_backend`.
 use Rattle.std.proofs.Common.{length, arith}
 use Rattle.aes_ctr.proofs.Places.{ciphered_or_left}
 use Rattle.aes_ctr.proofs.keystream.fill_by_backend.Goals as goal

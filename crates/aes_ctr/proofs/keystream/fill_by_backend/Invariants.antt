@@ -1,4 +1,3 @@
--- What holds in the loop of `keystream::fill_by_backend`.
 use Rattle.std.proofs.Common.{◌≡◌, map, drop}
 use Rattle.aes_planes.specs.Fips197.{cipher_with}
 use Rattle.aes_cipher.proofs.SliceRuns.{finished}

@@ -1,4 +1,3 @@
--- What is left to show of `blocks::process_on_lanes`.
 use Rattle.std.proofs.Common.{ℕ, ◌+◌, ◌*◌, List, [], length, get_or, ap, ◌∙◌, arith}
 use Rattle.aes_cipher.proofs.SliceRuns.{finished}
 use Rattle.aes_planes.specs.Rounds.{all_rounds}

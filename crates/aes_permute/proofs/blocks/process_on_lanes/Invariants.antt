@@ -1,4 +1,3 @@
--- What holds in the loops of `blocks::process_on_lanes`.
 use Rattle.std.proofs.Common.{◌≡◌, ℕ, ◌≤◌, ◌-◌, List, length, map}
 use Rattle.aes_cipher.proofs.SliceRuns.{finished}
 use Rattle.aes_planes.specs.Rounds.{all_rounds}

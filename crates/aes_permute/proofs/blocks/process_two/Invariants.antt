@@ -1,4 +1,3 @@
--- What holds in the loops of `blocks::process_two`.
 use Rattle.std.proofs.Common.{◌≡◌, ℕ, ◌-◌, map}
 use Rattle.aes_planes.specs.Rounds.{rounds_after}
 use Rattle.aes_permute.specs.Stored.{round_keys_of}

@@ -1,4 +1,3 @@
--- What holds in the loops of `lane_keys::invert_lanes`.
 use Rattle.std.proofs.Common.{◌≡◌, ◌≤◌, ◌<◌, ℕ, length}
 use Rattle.aes_permute.proofs.DecryptionKeys.{Unmixed}
 use Rattle.aes_permute.proofs.lane_keys.invert_lanes.Given as goal

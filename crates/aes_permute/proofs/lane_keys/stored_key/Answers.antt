@@ -1,4 +1,3 @@
--- What is left to show of `lane_keys::stored_key`.
 use Rattle.std.proofs.Common.{ap, map, ◌∙◌}
 use Rattle.aes_planes.specs.Planes.{plus63}
 use Rattle.aes_permute.proofs.ExpandedLanes.{last_key_is}

@@ -1,4 +1,3 @@
--- What is left to show of `lane_keys::summed_columns`.
 use Rattle.std.proofs.Common.{bit_xor, ◌∙◌}
 use lib.Lanes.{zip2}
 use Rattle.aes_permute.proofs.ExpandedLanes.{tower_summed_is}

@@ -1,4 +1,3 @@
--- What is left to show of `lane_keys::with_constant`.
 use Rattle.aes_permute.proofs.ExpandedLanes.{constant_is}
 use Rattle.aes_permute.proofs.lane_keys.with_constant.Goals as goal
 

@@ -1,4 +1,3 @@
--- What is left to show of `lanes::has_one_block_or_two`.
 use Rattle.std.proofs.Common.{inl, inr, arith}
 use Rattle.std.proofs.lemmas.Bool.{cases_lt}
 use Rattle.aes_permute.proofs.lanes.has_one_block_or_two.Goals as goal

@@ -1,4 +1,3 @@
--- What is left to show of `lanes::looked_up_by_nibbles`.
 use Rattle.std.proofs.Common.{ap, subst, sym, bit_xor, map, ◌∙◌}
 use lib.Lanes.{zip2}
 use Rattle.aes_permute.specs.Lookup.{looked, AreIndices}

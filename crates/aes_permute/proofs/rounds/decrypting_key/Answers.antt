@@ -1,4 +1,3 @@
--- What is left to show of `rounds::decrypting_key`.
 use Rattle.std.proofs.Common.{refl, ap, map, ◌∙◌}
 use Rattle.aes_permute.specs.Stored.{inv_untower}
 use Rattle.aes_permute.proofs.Lookups.{summed}

@@ -1,4 +1,3 @@
--- What is left to show of `rounds::encrypting_key`.
 use Rattle.aes_permute.proofs.DeferredRows.{shifted_back_indices, stored_is}
 use Rattle.aes_permute.proofs.rounds.encrypting_key.Goals as goal
 

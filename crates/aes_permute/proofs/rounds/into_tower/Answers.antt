@@ -1,4 +1,3 @@
--- What is left to show of `rounds::into_tower`.
 use Rattle.std.proofs.Common.{ap, map, ◌∙◌}
 use Rattle.aes_permute.specs.Stored.{untower}
 use Rattle.aes_permute.proofs.RoundLanes.{untowered}

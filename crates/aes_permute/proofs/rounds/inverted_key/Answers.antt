@@ -1,4 +1,3 @@
--- What is left to show of `rounds::inverted_key`.
 use Rattle.std.proofs.Common.{◌%◌, length, ap, ◌∙◌, arith}
 use Rattle.aes_planes.specs.Fips197.{inv_mix_columns, shift_times}
 use Rattle.aes_planes.proofs.Standard.Steps.{map_length}

@@ -1,4 +1,3 @@
--- What is left to show of `rounds::out_of_tower`.
 use Rattle.aes_permute.specs.Stored.{untower}
 use Rattle.aes_permute.proofs.rounds.out_of_tower.Goals as goal
 

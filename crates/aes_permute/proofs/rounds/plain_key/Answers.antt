@@ -1,4 +1,3 @@
--- What is left to show of `rounds::plain_key`.
 use Rattle.std.proofs.Common.{replicate, bit_xor, ◌∙◌}
 use lib.Lanes.{zip2}
 use Rattle.aes_permute.proofs.ExpandedLanes.{plain_key_is}

@@ -1,4 +1,3 @@
--- What is left to show of `sbox::looked_up`.
 use Rattle.std.proofs.Common.{◌∙◌}
 use Rattle.aes_permute.proofs.Lookups.{summed}
 use Rattle.aes_permute.proofs.FieldInverse.{places_looked_up}

@@ -1,7 +1,6 @@
--- What is left to show of `sbox::places_of`.
 use Rattle.aes_permute.specs.TwoPlaces.{both_nibbles, first_of, second_of}
 use Rattle.aes_permute.specs.Lookup.{low_nibble, high_nibble}
-use Rattle.aes_permute.proofs.FieldInverse.{sum_of, over, over_is, place_is, made_places, low_cases}
+use Rattle.aes_permute.proofs.FieldInverse.{sum_of, second_sum, over_is, place_is, made_places, low_cases}
 use Rattle.aes_permute.proofs.FieldInverse.{high_cases, both_cases, over_high_cases, over_both_cases}
 use Rattle.aes_permute.proofs.FieldInverse.{first_cases, second_cases}
 use Rattle.aes_permute.proofs.sbox.places_of.Goals as goal
@@ -27,14 +26,14 @@ lookup-both_inverse-requires g c = record {
 
 pub lookup-at_high-requires : goal.lookup-at_high-requires
 lookup-at_high-requires g c = record {
-  are_indices = λ i. made_places (over high_nibble) over_high_cases _ (c.are_blocks.ensures i)
+  are_indices = λ i. made_places (second_sum high_nibble) over_high_cases _ (c.are_blocks.ensures i)
       (over_is high_nibble _ (c.high_nibbles-high.ensures i) (c.low_nibbles-low.ensures i)
       (c.lookup-high_inverse.ensures i) (c.lookup-scaled.ensures i) (c.sum-over_high.ensures i));
 }
 
 pub lookup-at_both-requires : goal.lookup-at_both-requires
 lookup-at_both-requires g c = record {
-  are_indices = λ i. made_places (over both_nibbles) over_both_cases _ (c.are_blocks.ensures i)
+  are_indices = λ i. made_places (second_sum both_nibbles) over_both_cases _ (c.are_blocks.ensures i)
       (over_is both_nibbles _
       (sum_of high_nibble low_nibble _ (c.sum-both.ensures i) (c.high_nibbles-high.ensures i)
       (c.low_nibbles-low.ensures i))

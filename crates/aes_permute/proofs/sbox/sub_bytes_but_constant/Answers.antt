@@ -1,4 +1,3 @@
--- What is left to show of `sbox::sub_bytes_but_constant`.
 use Rattle.std.proofs.Common.{ap, map, ◌∙◌}
 use Rattle.aes_permute.specs.Stored.{untower}
 use Rattle.aes_permute.specs.declared.tables.TheConstants.{ONE_FIRST, ONE_SECOND}

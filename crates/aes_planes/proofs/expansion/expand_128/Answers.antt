@@ -1,4 +1,3 @@
--- What is left to show of `expansion::expand_128`.
 use Rattle.std.proofs.Common.{◌+◌, ◌*◌, refl, ◌∙◌, arith}
 use Rattle.aes_planes.proofs.KeySchedule.Forms.{form, loaded, none, more, counted, all, rotated}
 use Rattle.aes_planes.proofs.expansion.expand_128.Goals as goal

@@ -1,4 +1,3 @@
--- What is left to show of `expansion::expand_192`.
 use Rattle.std.proofs.Common.{◌+◌, ◌*◌, refl, ◌∙◌, arith}
 use Rattle.aes_planes.proofs.KeySchedule.Forms.{form, loaded, none, more, counted_two, all, rotated}
 use Rattle.aes_planes.proofs.KeySchedule.Forms.{plain, straddled}

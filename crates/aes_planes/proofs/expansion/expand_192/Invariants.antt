@@ -1,4 +1,3 @@
--- What holds in the loops of `expansion::expand_192`.
 use Rattle.std.proofs.Common.{◌≡◌, ◌+◌, ◌*◌, length}
 use Rattle.aes_planes.proofs.KeySchedule.ExpandedBlocks.{block_at}
 use Rattle.aes_planes.proofs.KeySchedule.Forms.{AreStored}

@@ -1,4 +1,3 @@
--- What is left to show of `expansion::expand_256`.
 use Rattle.std.proofs.Common.{◌≡◌, ◌+◌, ◌*◌, refl, ◌∙◌, subst, arith}
 use Rattle.aes_planes.proofs.KeySchedule.Forms.{AreStored, form, loaded, none, stored_at, more}
 use Rattle.aes_planes.proofs.KeySchedule.Forms.{counted_two, all, rotated, substituted}

@@ -1,4 +1,3 @@
--- What holds in the loops of `laws::are_blocks`.
 use Rattle.std.proofs.Common.{ℕ, ◌<◌, slice_index_or, []}
 use Rattle.aes_planes.specs.Fips197.{IsBlock}
 use Rattle.aes_planes.proofs.laws.are_blocks.Given as goal

@@ -1,4 +1,3 @@
--- What is left to show of `examples::full_words`.
 use Rattle.std.proofs.Common.{List, Bool, map, refl, sym, subst}
 use Rattle.aes_planes.specs.Words.{word_bits}
 use Rattle.aes_soft.specs.declared.examples.TheConstants.{FULL_WORDS}

@@ -1,4 +1,3 @@
--- What holds in the loops of `decryption::decrypt_all`.
 use Rattle.std.proofs.Common.{length, ◌-◌, ◌≡◌, ◌≤◌, map}
 use Rattle.aes_planes.specs.Fips197 as fips
 use Rattle.aes_cipher.proofs.SliceRuns.{finished}

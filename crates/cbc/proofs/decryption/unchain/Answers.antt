@@ -1,4 +1,3 @@
--- What is left to show of `decryption::unchain`.
 use Rattle.std.proofs.Common.{◌≡◌, ◌+◌, ◌≤◌, ◌∙◌, length, sym, refl, arith}
 use Rattle.cbc.specs.Cbc.{unchained}
 use Rattle.cbc.proofs.Chains.{chain_finished, chain_passed, last_part, unchained_part}

@@ -1,4 +1,3 @@
--- What holds in the loop of `decryption::unchain`.
 use Rattle.std.proofs.Common.{◌≡◌, ◌≤◌, ◌-◌, ◌++◌, length, take, drop}
 use Rattle.cbc.specs.Cbc.{last_of, unchained}
 use Rattle.cbc.proofs.decryption.unchain.Given as goal

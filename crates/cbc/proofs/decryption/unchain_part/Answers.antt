@@ -1,4 +1,3 @@
--- What is left to show of `decryption::unchain_part`.
 use Rattle.std.proofs.Common.{◌≡◌, ◌<◌, [], ◌∙◌, ap, get_or, length, map, sym, refl, arith}
 use Rattle.std.proofs.lemmas.List.{get_or-map}
 use Rattle.aes_planes.specs.Fips197 as fips

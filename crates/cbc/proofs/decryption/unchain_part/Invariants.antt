@@ -1,4 +1,3 @@
--- What holds in the loop of `decryption::unchain_part`.
 use Rattle.std.proofs.Common.{◌≡◌, ◌++◌, take, drop, map}
 use Rattle.aes_planes.specs.Fips197 as fips
 use Rattle.cbc.specs.Cbc.{last_of, unchained}

@@ -1,4 +1,3 @@
--- What is left to show of `examples::cbc_128_example`.
 use Rattle.std.proofs.Common.{List, ℕ, [], ◌∷◌, ap, ◌∙◌}
 use Rattle.aes_planes.specs.BigEndian.{bytes}
 use Rattle.aes_planes.specs.Fips197.{build, build_from, add_round_key, cipher_with, inv_cipher_with}

@@ -1,4 +1,3 @@
--- What is left to show of `laws::chains_back`.
 use Rattle.cbc.proofs.Chains.{unchained_chained}
 use Rattle.cbc.proofs.laws.chains_back.Goals as goal
 

@@ -1,4 +1,3 @@
--- What is left to show of `examples::ccm_128_example`.
 use Rattle.std.proofs.Common.{List, ℕ, [], ◌∷◌, take, slice_index, ap, ◌∙◌}
 use Rattle.aes_planes.specs.BigEndian.{bytes}
 use Rattle.aes_planes.specs.Fips197.{build, build_from, field_add, add_round_key, cipher_with}

@@ -1,4 +1,3 @@
--- What is left to show of `formatting::first_block`.
 use Rattle.std.proofs.Common.{◌≡◌, ◌∙◌, ℕ, List, [], ◌+◌, ◌-◌, ◌∷◌, ◌++◌, length, take, drop}
 use Rattle.std.proofs.Common.{replicate, ap, arith}
 use Rattle.std.proofs.lemmas.List.{append-nil, drop-replicate}

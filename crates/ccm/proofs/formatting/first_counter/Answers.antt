@@ -1,4 +1,3 @@
--- What is left to show of `formatting::first_counter`.
 use Rattle.std.proofs.Common.{◌≡◌, ◌∙◌, ◌-◌, ◌∷◌, ◌++◌, length, sym, arith}
 use Rattle.ccm.specs.Ccm.{counter_block}
 use Rattle.ccm.proofs.Bytes.{zeros}

@@ -1,4 +1,3 @@
--- What is left to show of `formatting::put_length`.
 use Rattle.std.proofs.Common.{◌∙◌, ℕ, List, ◌∷◌, ◌++◌, length, drop, replicate, ap, sym, arith, refl, slice_set}
 use borrow.Rule.Slice.PartMut.{put_mid}
 use Rattle.aes_planes.specs.BigEndian.{bytes}

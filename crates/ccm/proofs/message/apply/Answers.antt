@@ -1,4 +1,3 @@
--- What is left to show of `message::apply`.
 use Rattle.std.proofs.Common.{◌∙◌}
 use Rattle.ccm.proofs.Counters.{text_by_blocks}
 use Rattle.ccm.proofs.message.apply.Goals as goal

@@ -1,4 +1,3 @@
--- What is left to show of `message::chain_additional`.
 use Rattle.std.proofs.Common.{◌≡◌, ◌∙◌, ◌-◌, List, ℕ, length, arith, min, ◌<◌, ◌≤◌}
 use Rattle.cmac.specs.Chain.{chained_through}
 use Rattle.ccm.specs.Ccm.{encoded_length}

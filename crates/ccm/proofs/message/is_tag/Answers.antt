@@ -1,4 +1,3 @@
--- What is left to show of `message::is_tag`.
 use Rattle.std.proofs.Common.{◌∙◌, ap, length, sym, take}
 use Rattle.ccm.specs.Ccm.{tag}
 use Rattle.ccm.proofs.message.is_tag.Goals as goal

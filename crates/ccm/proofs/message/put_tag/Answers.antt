@@ -1,4 +1,3 @@
--- What is left to show of `message::put_tag`.
 use Rattle.std.proofs.Common.{◌∙◌, ◌++◌, length, ap}
 use Rattle.aes_planes.specs.Fips197.{cipher_with, add_round_key}
 use Rattle.cmac.specs.Chain.{chained_through}

@@ -1,4 +1,3 @@
--- What is left to show of `chaining::chain`.
 use Rattle.std.proofs.Common.{◌≡◌, ◌∙◌, ◌+◌, suc, ap, refl, arith}
 use Rattle.aes_planes.specs.Fips197.{cipher_with, add_round_key}
 use Rattle.aes_cipher.specs.Blocks.{padded}

@@ -1,4 +1,3 @@
--- What holds in the loop of `chaining::chain`.
 use Rattle.std.proofs.Common.{◌≡◌}
 use Rattle.aes_cipher.specs.Blocks.{padded}
 use Rattle.cmac.specs.Chain.{chained}

@@ -1,4 +1,3 @@
--- What is left to show of `examples::cmac_128_examples`.
 use Rattle.std.proofs.Common.{List, ℕ, [], ◌++◌, ap, ◌∙◌, refl}
 use Rattle.aes_planes.specs.BigEndian.{bytes}
 use Rattle.aes_planes.specs.Fips197.{build, build_from, add_round_key, key_expansion}

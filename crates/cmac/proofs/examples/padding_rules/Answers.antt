@@ -1,4 +1,3 @@
--- What is left to show of `examples::padding_rules`.
 use Rattle.std.proofs.Common.{◌≡◌, ◌≢◌, ◌-◌, ◌%◌, if◌then◌else◌, ◌∷◌, ◌++◌, length}
 use Rattle.std.proofs.Common.{replicate, ap, ◌∙◌, arith}
 use Rattle.std.proofs.lemmas.Bool.{ne_eqb}

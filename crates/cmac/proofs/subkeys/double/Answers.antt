@@ -1,4 +1,3 @@
--- What is left to show of `subkeys::double`.
 use Rattle.std.proofs.Common.{◌∙◌, ap, arith}
 use Rattle.std.specs.Int.{w128, to_be_bytes}
 use Rattle.cmac.specs.Cmac.{doubled, doubled_block}

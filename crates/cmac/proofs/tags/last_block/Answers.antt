@@ -1,4 +1,3 @@
--- What is left to show of `tags::last_block`.
 use Rattle.std.proofs.Common.{◌∙◌, ◌++◌, ◌-◌, ◌∷◌, ◌==◌, if◌then◌else◌, ap, sym, arith, drop}
 use Rattle.std.proofs.Common.{length, replicate, set}
 use Rattle.std.proofs.lemmas.Bool.{ne_eqb}

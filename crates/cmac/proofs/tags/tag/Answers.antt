@@ -1,4 +1,3 @@
--- What is left to show of `tags::tag`.
 use Rattle.std.proofs.Common.{◌≡◌, ◌∙◌, ℕ, List, ◌-◌, ◌*◌, ◌/◌, length, replicate, ap, arith}
 use Rattle.std.specs.List.{slice_range}
 use Rattle.aes_planes.specs.Fips197.{cipher_with, add_round_key}

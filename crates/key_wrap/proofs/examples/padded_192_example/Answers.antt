@@ -1,4 +1,3 @@
--- What is left to show of `examples::padded_192_example`.
 use Rattle.std.proofs.Common.{◌∷◌, [], ap, drop, take}
 use Rattle.aes_planes.specs.BigEndian.{bytes}
 use Rattle.key_wrap.specs.Padded.{block_or_steps, filled, headed, heading, padded, semiblocks}

@@ -1,4 +1,3 @@
--- What is left to show of `examples::wrapped_128_example`.
 use Rattle.std.proofs.Common.{◌≡◌, ℕ, suc, List, [], ◌∷◌, ◌++◌, ◌∙◌, ap, drop, refl, take}
 use Rattle.aes_planes.specs.BigEndian.{bytes}
 use Rattle.aes_planes.specs.Fips197.{cipher_with, key_expansion}

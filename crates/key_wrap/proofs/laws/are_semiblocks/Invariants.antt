@@ -1,4 +1,3 @@
--- What holds in the loop of `laws::are_semiblocks`.
 use Rattle.std.proofs.Common.{ℕ, ◌<◌, List, slice_index_or}
 use Rattle.key_wrap.specs.KeyWrap.{IsSemiblock}
 use Rattle.key_wrap.proofs.laws.are_semiblocks.Given as goal

@@ -1,4 +1,3 @@
--- What is left to show of `laws::one_wrapping`.
 use Rattle.key_wrap.proofs.Rewrapped.{wrapped_again}
 use Rattle.key_wrap.proofs.laws.one_wrapping.Goals as goal
 

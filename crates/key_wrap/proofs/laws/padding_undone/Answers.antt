@@ -1,4 +1,3 @@
--- What is left to show of `laws::padding_undone`.
 use Rattle.std.proofs.Common.{◌≡◌, arith, subst, sym}
 use Rattle.key_wrap.specs.Padded.{headed, key_in, wrapped_padded, IsPadded}
 use Rattle.key_wrap.proofs.Headed.{headed_found, headed_length, headed_semiblocks}

@@ -1,4 +1,3 @@
--- What is left to show of `laws::wrapping_undone`.
 use Rattle.key_wrap.proofs.Undone.{wrapped_undone}
 use Rattle.key_wrap.proofs.laws.wrapping_undone.Goals as goal
 

@@ -1,4 +1,3 @@
--- What is left to show of `padded::difference`.
 use Rattle.std.proofs.Common.{refl}
 use Rattle.key_wrap.proofs.Padding.{compared}
 use Rattle.key_wrap.proofs.padded.difference.Goals as goal

@@ -1,4 +1,3 @@
--- What is left to show of `padded::fill`.
 use Rattle.std.proofs.Common.{◌≡◌, ◌∙◌, ap, arith, length, length-set, refl, sym}
 use Rattle.std.proofs.lemmas.List.{take_all}
 use Rattle.key_wrap.specs.Padded.{filled, padded, semiblocks}

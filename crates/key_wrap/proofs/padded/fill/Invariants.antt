@@ -1,4 +1,3 @@
--- What holds in the loop of `padded::fill`.
 use Rattle.std.proofs.Common.{◌≡◌, length, take}
 use Rattle.key_wrap.specs.Padded.{padded, semiblocks}
 use Rattle.key_wrap.proofs.padded.fill.Given as goal

@@ -1,4 +1,3 @@
--- What is left to show of `padded::last_bytes`.
 use Rattle.std.proofs.Common.{◌≡◌, ◌-◌, ◌+◌, ◌<◌, ◌∙◌, ℕ, ap, arith, below_more, bit_and, bit_or, drop}
 use Rattle.std.proofs.Common.{get_or, inl, inr, replicate, sym}
 use Rattle.std.proofs.lemmas.Bool.{cases_lt}

@@ -1,4 +1,3 @@
--- What holds in the loop of `padded::last_bytes`.
 use Rattle.std.proofs.Common.{◌≡◌, ℕ, ◌-◌, ◌<◌, get_or}
 use Rattle.key_wrap.proofs.padded.last_bytes.Given as goal
 

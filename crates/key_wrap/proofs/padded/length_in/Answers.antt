@@ -1,4 +1,3 @@
--- What is left to show of `padded::length_in`.
 use Rattle.key_wrap.proofs.Padding.{heading_back}
 use Rattle.key_wrap.proofs.padded.length_in.Goals as goal
 

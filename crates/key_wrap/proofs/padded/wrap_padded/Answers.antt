@@ -1,4 +1,3 @@
--- What is left to show of `padded::wrap_padded`.
 use Rattle.std.proofs.Common.{◌∷◌, ◌∙◌}
 use Rattle.key_wrap.specs.Padded.{headed, wrapped_padded, wrapped_string}
 use Rattle.key_wrap.proofs.padded.wrap_padded.Goals as goal

@@ -1,4 +1,3 @@
--- What is left to show of `steps::unwrap_in_place`.
 use Rattle.std.proofs.Common.{◌≡◌, ◌-◌, ◌*◌, ◌∷◌, ◌∙◌, ap, length, sym, arith}
 use Rattle.key_wrap.specs.KeyWrap.{unwrapped_from}
 use Rattle.key_wrap.proofs.steps.unwrap_in_place.Goals as goal

@@ -1,4 +1,3 @@
--- What holds in the loop of `steps::unwrap_in_place`.
 use Rattle.std.proofs.Common.{◌≡◌, ◌-◌, ◌*◌, ◌∷◌, length}
 use Rattle.key_wrap.specs.KeyWrap.{unwrapped_from}
 use Rattle.key_wrap.proofs.steps.unwrap_in_place.Given as goal

@@ -1,4 +1,3 @@
--- What is left to show of `steps::unwrap_turn`.
 use Rattle.std.proofs.Common.{◌≡◌, ◌+◌, ◌-◌, ◌*◌, ◌∷◌, ◌∙◌, ap, length, length-set, set, arith}
 use Rattle.key_wrap.specs.KeyWrap.{unwrapped_from}
 use Rattle.key_wrap.proofs.Turns.{step_unwrapped, turned}

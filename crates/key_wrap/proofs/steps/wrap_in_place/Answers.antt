@@ -1,4 +1,3 @@
--- What is left to show of `steps::wrap_in_place`.
 use Rattle.std.proofs.Common.{◌≡◌, ◌*◌, ◌∷◌, ap, length, refl, arith}
 use Rattle.key_wrap.specs.KeyWrap.{wrapped_after}
 use Rattle.key_wrap.proofs.steps.wrap_in_place.Goals as goal

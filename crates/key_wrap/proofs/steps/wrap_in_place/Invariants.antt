@@ -1,4 +1,3 @@
--- What holds in the loop of `steps::wrap_in_place`.
 use Rattle.std.proofs.Common.{◌≡◌, ◌*◌, ◌∷◌, length}
 use Rattle.key_wrap.specs.KeyWrap.{wrapped_after}
 use Rattle.key_wrap.proofs.steps.wrap_in_place.Given as goal

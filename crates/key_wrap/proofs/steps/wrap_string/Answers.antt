@@ -1,4 +1,3 @@
--- What is left to show of `steps::wrap_string`.
 use Rattle.std.proofs.Common.{◌∷◌, ◌∙◌, arith, length}
 use Rattle.aes_planes.specs.Fips197.{cipher_with}
 use Rattle.key_wrap.specs.KeyWrap.{wrapped_after}

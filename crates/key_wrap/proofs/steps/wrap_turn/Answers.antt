@@ -1,4 +1,3 @@
--- What is left to show of `steps::wrap_turn`.
 use Rattle.std.proofs.Common.{◌≡◌, ◌+◌, ◌*◌, ◌∙◌, ap, length, length-set, arith}
 use Rattle.key_wrap.specs.KeyWrap.{wrapped_after}
 use Rattle.key_wrap.proofs.Turns.{step_wrapped}

@@ -1,4 +1,3 @@
--- What holds in the loop of `steps::wrap_turn`.
 use Rattle.std.proofs.Common.{◌≡◌, ◌+◌, ◌*◌, ◌∷◌, ℕ, List, length}
 use Rattle.key_wrap.specs.KeyWrap.{wrapped_after}
 use Rattle.key_wrap.proofs.Turns.{turned}

@@ -1,4 +1,3 @@
--- What is left to show of `wrapping::is_integrity_check`.
 use Rattle.std.proofs.Common.{◌++◌, ◌∙◌, ap, sym, take}
 use Rattle.key_wrap.specs.KeyWrap.{integrity_check}
 use Rattle.key_wrap.proofs.wrapping.is_integrity_check.Goals as goal

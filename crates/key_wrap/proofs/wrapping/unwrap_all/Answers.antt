@@ -1,4 +1,3 @@
--- What is left to show of `wrapping::unwrap_all`.
 use Rattle.std.proofs.Common.{◌≡◌, ◌-◌, ◌*◌, ◌∷◌, ◌∙◌, [], ap, arith, get_or, length, sym}
 use Rattle.key_wrap.specs.KeyWrap.{unwrapped, unwrapped_from}
 use Rattle.key_wrap.proofs.wrapping.unwrap_all.Goals as goal

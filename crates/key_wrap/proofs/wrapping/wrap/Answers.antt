@@ -1,4 +1,3 @@
--- What is left to show of `wrapping::wrap`.
 use Rattle.std.proofs.Common.{◌*◌, ◌∷◌, ◌∙◌, ap, length}
 use Rattle.key_wrap.specs.KeyWrap.{integrity_check, wrapped, wrapped_after}
 use Rattle.key_wrap.proofs.wrapping.wrap.Goals as goal

@@ -1,4 +1,3 @@
--- What is left to show of `bytes::processing::process_bytes`.
 use Rattle.std.proofs.Common.{◌≡◌, ◌∙◌, ◌+◌, ◌-◌, ◌*◌, ◌/◌, ◌≤◌, ap, arith, drop, length}
 use Rattle.std.proofs.Common.{length-take, map, take, sym}
 use Rattle.std.specs.Simd.{first_chunks}

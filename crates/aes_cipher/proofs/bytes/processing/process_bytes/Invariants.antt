@@ -1,4 +1,3 @@
--- What holds in the loop of `bytes::processing::process_bytes`.
 use Rattle.std.proofs.Common.{◌≡◌, ◌≤◌, ◌-◌, map}
 use Rattle.std.specs.Simd.{first_chunks}
 use Rattle.aes_cipher.proofs.ByteBlocks.{processed_from}

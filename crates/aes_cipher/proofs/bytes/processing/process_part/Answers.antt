@@ -1,4 +1,3 @@
--- What is left to show of `bytes::processing::process_part`.
 use Rattle.std.proofs.Common.{◌≡◌, ◌∙◌, ap, arith, length, map, sym}
 use Rattle.std.specs.List.{concat}
 use Rattle.std.specs.Simd.{first_chunks}

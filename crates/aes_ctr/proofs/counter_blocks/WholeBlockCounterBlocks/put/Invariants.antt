@@ -1,4 +1,3 @@
--- What holds in the loop of `counter_blocks::WholeBlockCounterBlocks::put`.
 use Rattle.std.proofs.Common.{◌≡◌, ℕ, ◌+◌, ◌<◌, [], get_or}
 use Rattle.aes_ctr.specs.CounterMode.{counter, counter_block}
 use Rattle.aes_ctr.proofs.counter_blocks.WholeBlockCounterBlocks.put.Given as goal

@@ -1,4 +1,3 @@
--- What is left to show of `lane_keys::LaneKeysFourWords::substituted`.
 use Rattle.std.proofs.Common.{◌≡◌, length}
 use Rattle.aes_permute.proofs.ExpandedLanes.{substituted_is}
 use Rattle.aes_permute.proofs.lane_keys.LaneKeysFourWords.substituted.Goals as goal

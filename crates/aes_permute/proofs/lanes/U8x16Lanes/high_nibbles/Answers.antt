@@ -1,4 +1,3 @@
--- What is left to show of `lanes::U8x16Lanes::high_nibbles`.
 use Rattle.std.proofs.Common.{rules}
 use Rattle.aes_permute.proofs.Lookups.{high_nibbles_are}
 use Rattle.aes_permute.proofs.lanes.U8x16Lanes.high_nibbles.Goals as goal

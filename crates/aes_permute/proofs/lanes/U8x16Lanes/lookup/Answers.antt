@@ -1,4 +1,3 @@
--- What is left to show of `lanes::U8x16Lanes::lookup`.
 use Rattle.aes_permute.proofs.lanes.U8x16Lanes.lookup.Goals as goal
 
 pub lookup-requires : goal.lookup-requires

@@ -1,4 +1,3 @@
--- What is left to show of `lanes::U8x16Lanes::store`.
 use Rattle.std.proofs.Common.{◌≡◌, ◌+◌, set, arith}
 use Rattle.aes_permute.specs.Vectors.{written}
 use Rattle.aes_permute.proofs.lanes.U8x16Lanes.store.Goals as goal

@@ -1,4 +1,3 @@
--- What is left to show of `lanes::U8x32Lanes::are_blocks`.
 use Rattle.std.proofs.Common.{rules}
 use Rattle.aes_permute.proofs.ByHalves.{half_is_block}
 use Rattle.aes_permute.proofs.lanes.U8x32Lanes.are_blocks.Goals as goal

@@ -1,4 +1,3 @@
--- What is left to show of `lanes::U8x32Lanes::load`.
 use Rattle.std.proofs.Common.{refl, ap, ◌∙◌}
 use Rattle.aes_permute.specs.Vectors.{half}
 use Rattle.aes_permute.proofs.ByHalves.{half_of_joined}

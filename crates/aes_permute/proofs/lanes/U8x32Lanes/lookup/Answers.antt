@@ -1,4 +1,3 @@
--- What is left to show of `lanes::U8x32Lanes::lookup`.
 use Rattle.std.proofs.Common.{rules, ap, ◌∙◌, w8}
 use Rattle.std.proofs.lemmas.Simd.{swz_l}
 use Rattle.aes_permute.specs.Vectors.{half}

@@ -1,4 +1,3 @@
--- What is left to show of `lanes::U8x32Lanes::low_nibbles`.
 use Rattle.std.proofs.Common.{rules}
 use Rattle.aes_permute.proofs.ByHalves.{low_of_half}
 use Rattle.aes_permute.proofs.lanes.U8x32Lanes.low_nibbles.Goals as goal

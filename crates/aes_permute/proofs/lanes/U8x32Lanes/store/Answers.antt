@@ -1,4 +1,3 @@
--- What is left to show of `lanes::U8x32Lanes::store`.
 use Rattle.aes_permute.proofs.ByHalves.{both_written}
 use Rattle.aes_permute.proofs.lanes.U8x32Lanes.store.Goals as goal
 

@@ -1,4 +1,3 @@
--- What is left to show of `lanes::U8x32Lanes::sum`.
 use Rattle.std.proofs.Common.{bit_xor}
 use Rattle.aes_permute.proofs.ByHalves.{half_of_zip}
 use Rattle.aes_permute.proofs.lanes.U8x32Lanes.sum.Goals as goal

@@ -1,4 +1,3 @@
--- What is left to show of `rounds::DecryptLaneRounds::first`.
 use Rattle.std.proofs.Common.{ap, map, ◌∙◌}
 use Rattle.aes_permute.specs.Lookup.{by_nibbles}
 use Rattle.aes_permute.specs.Stored.{inv_untower}

@@ -1,4 +1,3 @@
--- What is left to show of `rounds::DecryptLaneRounds::last`.
 use Rattle.std.proofs.Common.{refl, ◌∙◌}
 use Rattle.aes_permute.specs.declared.tables.TheConstants.{INV_SBOX_FIRST, INV_SBOX_SECOND}
 use Rattle.aes_permute.proofs.Lookups.{summed}

@@ -1,4 +1,3 @@
--- What is left to show of `rounds::EncryptLaneRounds::first`.
 use Rattle.std.proofs.Common.{ap, map, ◌∙◌}
 use Rattle.aes_planes.specs.Fips197.{shift_times}
 use Rattle.aes_permute.specs.Lookup.{by_nibbles}

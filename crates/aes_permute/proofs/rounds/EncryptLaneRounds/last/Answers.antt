@@ -1,4 +1,3 @@
--- What is left to show of `rounds::EncryptLaneRounds::last`.
 use Rattle.std.proofs.Common.{refl, ◌∙◌}
 use Rattle.aes_permute.specs.declared.tables.TheConstants.{SBOX_FIRST, SBOX_SECOND}
 use Rattle.aes_permute.proofs.DeferredRows.{shifted_indices, deferred_last_is}

@@ -1,4 +1,3 @@
--- What holds in the loops of `soft::copies::every_slot`.
 use Rattle.std.proofs.Common.{◌≡◌, ◌-◌, ◌++◌, replicate}
 use Rattle.aes_planes.proofs.soft.copies.every_slot.Given as goal
 

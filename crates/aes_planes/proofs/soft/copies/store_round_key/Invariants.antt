@@ -1,4 +1,3 @@
--- What holds in the loops of `soft::copies::store_round_key`.
 use Rattle.std.proofs.Common.{◌≡◌, ℕ, ◌+◌, ◌<◌, ◌≤◌, ◌⊎◌, length, slice_index_or}
 use Rattle.aes_planes.proofs.soft.copies.store_round_key.Given as goal
 

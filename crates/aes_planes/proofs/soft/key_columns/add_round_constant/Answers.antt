@@ -1,4 +1,3 @@
--- What is left to show of `soft::key_columns::add_round_constant`.
 use Rattle.std.proofs.Common.{map}
 use Rattle.aes_planes.proofs.KeySchedule.RoundConstantBit.{constant_added}
 use Rattle.aes_planes.proofs.soft.key_columns.add_round_constant.Goals as goal

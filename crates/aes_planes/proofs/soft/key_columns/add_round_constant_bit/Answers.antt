@@ -1,4 +1,3 @@
--- What is left to show of `soft::key_columns::add_round_constant_bit`.
 use Rattle.aes_planes.proofs.KeySchedule.RoundConstantBit.{constant_bit_held}
 use Rattle.aes_planes.proofs.soft.key_columns.add_round_constant_bit.Goals as goal
 

@@ -1,4 +1,3 @@
--- What is left to show of `soft::key_columns::straddle`.
 use Rattle.std.proofs.Common.{◌≡◌, ◌*◌, ◌%◌, ◌/◌, ◌<◌, arith}
 use Rattle.aes_planes.specs.Planes.{place}
 use Rattle.aes_planes.proofs.Planes.Held.{place_lt, column_of}

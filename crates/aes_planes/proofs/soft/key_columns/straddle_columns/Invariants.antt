@@ -1,4 +1,3 @@
--- What holds in the loops of `soft::key_columns::straddle_columns`.
 use Rattle.std.proofs.Common.{◌≡◌, ℕ, ◌+◌, ◌-◌, ◌<◌, cond, nat_lt, length, slice_index_or}
 use Rattle.aes_planes.specs.Bits.{at}
 use Rattle.aes_planes.specs.Planes.{place}

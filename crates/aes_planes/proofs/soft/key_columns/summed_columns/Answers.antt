@@ -1,4 +1,3 @@
--- What is left to show of `soft::key_columns::summed_columns`.
 use Rattle.std.proofs.Common.{arith, rules}
 use Rattle.aes_planes.proofs.KeySchedule.SummedColumns.{columns_of_eight}
 use Rattle.aes_planes.proofs.soft.key_columns.summed_columns.Goals as goal

@@ -1,4 +1,3 @@
--- What holds in the loops of `soft::key_columns::summed_columns`.
 use Rattle.std.proofs.Common.{◌≡◌, ℕ, ◌+◌, ◌%◌, ◌<◌, length, slice_index_or}
 use Rattle.aes_planes.specs.Bits.{at, xor}
 use Rattle.aes_planes.specs.Planes.{place, summed}

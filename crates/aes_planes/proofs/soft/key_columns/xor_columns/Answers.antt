@@ -1,4 +1,3 @@
--- What is left to show of `soft::key_columns::xor_columns`.
 use Rattle.std.proofs.Common.{arith}
 use Rattle.aes_planes.proofs.KeySchedule.SummedColumns.{columns_of_words}
 use Rattle.aes_planes.proofs.soft.key_columns.xor_columns.Goals as goal

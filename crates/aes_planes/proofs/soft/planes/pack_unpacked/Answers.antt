@@ -1,4 +1,3 @@
--- What is left to show of `soft::planes::pack_unpacked`.
 use Rattle.std.proofs.Common.{map, ◌∙◌, arith}
 use Rattle.std.proofs.lemmas.List.{length-map}
 use Rattle.aes_planes.proofs.Planes.Packed.{same_planes, lengths_of_words}

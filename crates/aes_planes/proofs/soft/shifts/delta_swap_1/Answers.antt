@@ -1,4 +1,3 @@
--- What is left to show of `soft::shifts::delta_swap_1`.
 use Rattle.std.proofs.Common.{◌-◌, ◌<◌, refl, arith}
 use Rattle.aes_planes.proofs.soft.shifts.delta_swap_1.Goals as goal
 

@@ -1,4 +1,3 @@
--- What is left to show of `soft::shifts::shift_rows_1`.
 use Rattle.std.proofs.Common.{◌≡◌, ◌*◌, map, ap, sym, ◌∙◌, arith}
 use Rattle.aes_planes.specs.Private.Swaps.{columns_swapped}
 use Rattle.aes_planes.proofs.Shifts.ColumnSwaps.{two_apart_1, two_apart_1_swap, pairs, pairs_swap}

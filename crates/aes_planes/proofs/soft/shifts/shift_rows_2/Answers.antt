@@ -1,4 +1,3 @@
--- What is left to show of `soft::shifts::shift_rows_2`.
 use Rattle.std.proofs.Common.{◌≡◌, ◌*◌, sym, ◌∙◌, arith}
 use Rattle.aes_planes.proofs.Shifts.ColumnSwaps.{two_apart_2, two_apart_2_swap, shifted_2}
 use Rattle.aes_planes.proofs.soft.shifts.shift_rows_2.Goals as goal

@@ -1,4 +1,3 @@
--- What is left to show of `soft::shifts::swap_columns`.
 use Rattle.std.proofs.Common.{[], ◌∷◌, refl}
 use Rattle.aes_planes.proofs.Bits.BitCases.{eight}
 use Rattle.aes_planes.proofs.Bits.ByteCases.{by_eight}

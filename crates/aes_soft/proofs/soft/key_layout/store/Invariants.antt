@@ -1,4 +1,3 @@
--- What holds in the loops of `soft::key_layout::store`.
 use Rattle.std.proofs.Common.{◌≡◌, ℕ, ◌+◌, ◌*◌, ◌<◌, ◌≤◌, List, length, map}
 use Rattle.aes_soft.specs.Stored.{HoldsBlocks}
 use Rattle.aes_soft.proofs.StoredRoundKeys.{stored}

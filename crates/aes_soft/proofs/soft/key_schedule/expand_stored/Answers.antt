@@ -1,4 +1,3 @@
--- What is left to show of `soft::key_schedule::expand_stored`.
 use Rattle.std.proofs.Common.{map, refl, arith}
 use Rattle.aes_planes.specs.Fips197 as fips
 use Rattle.std.proofs.Math.Nat.{zero-mod}

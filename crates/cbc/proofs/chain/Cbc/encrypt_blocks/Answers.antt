@@ -1,4 +1,3 @@
--- What is left to show of `chain::Cbc::encrypt_blocks`.
 use Rattle.std.proofs.Common.{◌∙◌, ap, sym, refl, length-set, arith}
 use Rattle.aes_planes.specs.Fips197 as fips
 use Rattle.cbc.specs.Cbc.{chained, last_of}

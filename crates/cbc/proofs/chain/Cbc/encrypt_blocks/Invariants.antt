@@ -1,4 +1,3 @@
--- What holds in the loop of `chain::Cbc::encrypt_blocks`.
 use Rattle.std.proofs.Common.{◌≡◌, ◌++◌, length, take, drop}
 use Rattle.cbc.specs.Cbc.{chained, last_of}
 use Rattle.cbc.proofs.chain.Cbc.encrypt_blocks.Given as goal

@@ -1,4 +1,3 @@
--- What is left to show of `soft::word::Word::bit_not`.
 use Rattle.std.proofs.Common.{◌%◌, ap, ◌∙◌, arith}
 use Rattle.aes_planes.specs.Bits.{at, xor}
 use Rattle.aes_planes.proofs.Bits.BitCases.{xor_true}

@@ -1,4 +1,3 @@
--- What is left to show of `soft::word::Word::constant_planes`.
 use Rattle.std.proofs.Common.{◌*◌, ◌/◌, ◌%◌, ◌^◌, ◌==◌, ◌&&◌, [], ◌∷◌, get_or, ◌∙◌, arith}
 use Rattle.aes_planes.specs.Bits.{bit}
 use Rattle.aes_planes.specs.Planes.{place}

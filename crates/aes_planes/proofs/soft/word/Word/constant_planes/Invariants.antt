@@ -1,4 +1,3 @@
--- What holds in the loops of `soft::word::Word::constant_planes`.
 use Rattle.std.proofs.Common.{◌≡◌, ℕ, ◌*◌, ◌/◌, ◌%◌, ◌^◌, ◌<◌, [], ◌∷◌, length, get_or}
 use Rattle.std.proofs.Common.{slice_index_or}
 use Rattle.aes_planes.specs.Bits.{at, bit}

@@ -1,4 +1,3 @@
--- What is left to show of `soft::word::Word::double_planes`.
 use Rattle.std.proofs.Common.{map, ap, sym, ◌∙◌}
 use Rattle.std.proofs.lemmas.List.{length-map}
 use Rattle.aes_planes.specs.Bits.{at, number}

@@ -1,4 +1,3 @@
--- What is left to show of `soft::word::Word::ror_distance`.
 use Rattle.std.proofs.Common.{◌≤◌, arith, mul-le-mul}
 use Rattle.aes_planes.proofs.soft.word.Word.ror_distance.Goals as goal
 

@@ -1,4 +1,3 @@
--- What is left to show of `soft::word::Word::rotate_rows_and_columns`.
 use Rattle.std.proofs.Common.{◌+◌, ◌%◌, ◌<◌, ap, sym, ◌∙◌, arith}
 use Rattle.std.proofs.lemmas.Bool.{cases_lt}
 use Rattle.aes_planes.specs.Bits.{at}

@@ -1,4 +1,3 @@
--- What is left to show of `soft::word::Word::sum_columns`.
 use Rattle.std.proofs.Common.{◌≡◌, ℕ, ◌*◌, ◌%◌, ◌/◌, ◌<◌, refl, arith}
 use Rattle.aes_planes.specs.Planes.{place}
 use Rattle.aes_planes.proofs.Planes.Held.{place_lt, column_of}

@@ -1,4 +1,3 @@
--- What is left to show of `soft::word::Word::sum_planes`.
 use Rattle.std.proofs.Common.{Bool, List, [], ◌∷◌, map, refl, sym, ◌∙◌}
 use Rattle.aes_planes.specs.Bits.{at}
 use Rattle.aes_planes.specs.Fips197.{field_add}

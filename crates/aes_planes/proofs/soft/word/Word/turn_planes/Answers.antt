@@ -1,4 +1,3 @@
--- What is left to show of `soft::word::Word::turn_planes`.
 use Rattle.std.proofs.Common.{◌+◌, ◌%◌, map, ap, sym}
 use Rattle.aes_planes.specs.Planes.{held_byte, place}
 use Rattle.aes_planes.proofs.Bits.BitCases.{eight}

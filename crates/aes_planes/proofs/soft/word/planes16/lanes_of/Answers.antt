@@ -1,4 +1,3 @@
--- What is left to show of `soft::word::planes16::lanes_of`.
 use Rattle.std.proofs.Common.{◌≡◌, ◌+◌, ◌*◌, ◌/◌, ◌%◌, [], ◌∷◌, get_or, ◌∙◌, arith}
 use Rattle.aes_planes.specs.Bits.{bit}
 use Rattle.aes_planes.proofs.Bits.ByteCases.{by_eight}

@@ -1,4 +1,3 @@
--- What is left to show of `soft::word::transpose::exchange_pairs`.
 use Rattle.std.proofs.Common.{◌≡◌, ℕ, ◌+◌, ◌-◌, ◌*◌, ◌&&◌, nat_le, [], ◌∷◌, get_or, map, ap, sym}
 use Rattle.std.proofs.Common.{◌∙◌, rules}
 use Rattle.aes_planes.specs.Bits.{at, bit}

@@ -1,4 +1,3 @@
--- What is left to show of `soft::word::vector128::by_columns`.
 use Rattle.aes_planes.proofs.Words.Packing.{by_columns_typed}
 use Rattle.aes_planes.proofs.soft.word.vector128.by_columns.Goals as goal
 

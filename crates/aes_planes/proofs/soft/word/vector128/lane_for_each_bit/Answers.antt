@@ -1,4 +1,3 @@
--- What is left to show of `soft::word::vector128::lane_for_each_bit`.
 use Rattle.std.proofs.Common.{◌/◌, ◌%◌, ap, ◌∙◌, cond, arith}
 use Rattle.aes_planes.specs.Bits.{bit}
 use Rattle.aes_planes.proofs.Words.Spread.{bit_of_lane, byte_of_lane, lanes_spread}

@@ -1,4 +1,3 @@
--- What is left to show of `soft::word::vector128::lanes_of_block`.
 use Rattle.std.proofs.Common.{◌≡◌, ℕ, ◌<◌, List, [], ◌∷◌, get_or, ap, sym, ◌∙◌, arith}
 use Rattle.std.proofs.lemmas.Simd.{get_or-replicate}
 use Rattle.aes_planes.specs.Bits.{bit}

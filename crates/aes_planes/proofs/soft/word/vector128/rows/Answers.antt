@@ -1,4 +1,3 @@
--- What is left to show of `soft::word::vector128::rows`.
 use Rattle.std.proofs.Common.{◌≡◌, ℕ, ◌+◌, ◌*◌, ◌/◌, ◌%◌, [], ◌∷◌, get_or, ◌∙◌, arith}
 use Rattle.aes_planes.specs.Bits.{bit}
 use Rattle.aes_planes.proofs.Bits.NumberBits.{reads}

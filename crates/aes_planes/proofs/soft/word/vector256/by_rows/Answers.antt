@@ -1,4 +1,3 @@
--- What is left to show of `soft::word::vector256::by_rows`.
 use Rattle.std.proofs.Common.{rules, ◌∙◌}
 use Rattle.aes_planes.proofs.Words.Wide.{joined_low, joined_high}
 use Rattle.aes_planes.proofs.soft.word.vector256.by_rows.Goals as goal

@@ -1,4 +1,3 @@
--- What is left to show of `soft::word::word32::block_of`.
 use Rattle.std.proofs.Common.{refl}
 use Rattle.aes_planes.proofs.Bits.ByteCases.{by_four}
 use Rattle.aes_planes.proofs.Words.Packing.{word_to_four}

@@ -1,4 +1,3 @@
--- What is left to show of `soft::word::word64::columns_together`.
 use Rattle.aes_planes.proofs.Words.Packing.{together_typed}
 use Rattle.aes_planes.proofs.soft.word.word64.columns_together.Goals as goal
 

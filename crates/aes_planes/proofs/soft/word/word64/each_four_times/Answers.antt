@@ -1,4 +1,3 @@
--- What is left to show of `soft::word::word64::each_four_times`.
 use Rattle.aes_planes.proofs.Words.Spread.{each_four_times}
 use Rattle.aes_planes.proofs.soft.word.word64.each_four_times.Goals as goal
 

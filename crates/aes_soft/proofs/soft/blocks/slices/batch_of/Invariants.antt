@@ -1,4 +1,3 @@
--- What holds in the loops of `soft::blocks::slices::batch_of`.
 use Rattle.std.proofs.Common.{◌≡◌, length, take}
 use Rattle.aes_soft.proofs.soft.blocks.slices.batch_of.Given as goal
 

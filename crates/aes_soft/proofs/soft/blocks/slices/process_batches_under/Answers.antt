@@ -1,4 +1,3 @@
--- What is left to show of `soft::blocks::slices::process_batches_under`.
 use Rattle.std.proofs.Common.{◌≡◌, ℕ, ◌+◌, ◌-◌, ◌*◌, ◌/◌, length, ap, ◌∙◌, arith}
 use borrow.Rule.Slice.PartMut.{put_mid}
 use Rattle.aes_soft.specs.Stored.{rounds_of}

@@ -1,4 +1,3 @@
--- What holds in the loops of `soft::blocks::slices::process_batches_under`.
 use Rattle.std.proofs.Common.{◌≡◌, ◌+◌, ◌-◌, ◌*◌, ◌/◌, length}
 use Rattle.aes_planes.specs.Fips197.{key_expansion}
 use Rattle.aes_soft.specs.Stored.{key_of_planes, rounds_of}

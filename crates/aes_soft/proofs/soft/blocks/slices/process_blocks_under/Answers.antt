@@ -1,4 +1,3 @@
--- What is left to show of `soft::blocks::slices::process_blocks_under`.
 use Rattle.std.proofs.Common.{rules, ◌≡◌, ℕ, ◌-◌, ◌%◌, List, length, map, take, refl, ap, ◌∙◌}
 use Rattle.std.proofs.Common.{arith}
 use Rattle.aes_cipher.proofs.SliceRuns.{finished, end_finished}

@@ -1,4 +1,3 @@
--- What holds in the loops of `soft::blocks::slices::put_batch`.
 use Rattle.std.proofs.Common.{◌≡◌, take}
 use Rattle.aes_soft.proofs.soft.blocks.slices.put_batch.Given as goal
 

@@ -1,4 +1,3 @@
--- What is left to show of `soft::full::widening::store_widened`.
 use Rattle.std.proofs.Common.{◌≡◌, ◌⊎◌, length, length-set, map, ap, sym, subst, ◌∙◌, arith}
 use Rattle.aes_soft.specs.Stored.{full, key_of, rounds_of, size_of, IsKeyed}
 use Rattle.aes_soft.proofs.Widened.{InEverySlot, put_more, same_key, widened_keyed}

@@ -1,4 +1,3 @@
--- What holds in the loops of `soft::full::widening::store_widened`.
 use Rattle.std.proofs.Common.{◌≡◌, ℕ, ◌<◌, length, slice_index_or}
 use Rattle.aes_soft.proofs.Widened.{InEverySlot}
 use Rattle.aes_soft.proofs.soft.full.widening.store_widened.Given as goal

@@ -1,4 +1,3 @@
--- What holds in the loops of `soft::hazmat::par::add_round_keys`.
 use Rattle.std.proofs.Common.{◌≡◌, length}
 use Rattle.aes_planes.specs.Fips197.{add_round_key}
 use Rattle.aes_planes.specs.SingleRounds.{rounds_by_place}

@@ -1,4 +1,3 @@
--- What is left to show of `soft::hazmat::par::rounds_par`.
 use Rattle.std.proofs.Common.{ap, ◌∙◌}
 use Rattle.aes_planes.specs.Fips197.{add_round_key}
 use Rattle.aes_planes.specs.SingleRounds.{rounds_by_place}

@@ -1,4 +1,3 @@
--- What is left to show of `soft::hazmat::par::step_each`.
 use Rattle.std.proofs.Common.{arith}
 use Rattle.aes_soft.proofs.Slices.{next_batch}
 use Rattle.aes_soft.proofs.soft.hazmat.par.step_each.Goals as goal

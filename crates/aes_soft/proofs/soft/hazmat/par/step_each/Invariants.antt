@@ -1,4 +1,3 @@
--- What holds in the loops of `soft::hazmat::par::step_each`.
 use Rattle.std.proofs.Common.{◌-◌, length}
 use Rattle.aes_soft.proofs.Slices.{Batched}
 use Rattle.aes_soft.proofs.soft.hazmat.par.step_each.Given as goal

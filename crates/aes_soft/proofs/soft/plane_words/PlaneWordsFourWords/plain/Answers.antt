@@ -1,4 +1,3 @@
--- What is left to show of `soft::plane_words::PlaneWordsFourWords::plain`.
 use Rattle.std.proofs.Common.{arith}
 use Rattle.aes_soft.proofs.Slots.{summed_in_slots}
 use Rattle.aes_soft.proofs.soft.plane_words.PlaneWordsFourWords.plain.Goals as goal

@@ -1,4 +1,3 @@
--- What is left to show of `soft::plane_words::PlaneWordsFourWords::read_back`.
 use Rattle.std.proofs.Common.{◌∙◌, ◌*◌, ap, sym, map}
 use Rattle.aes_planes.specs.Planes.{held}
 use Rattle.aes_planes.proofs.Planes.EightWords.{words_at-map}

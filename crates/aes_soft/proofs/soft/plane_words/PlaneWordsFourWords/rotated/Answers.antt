@@ -1,4 +1,3 @@
--- What is left to show of `soft::plane_words::PlaneWordsFourWords::rotated`.
 use Rattle.std.proofs.Common.{arith}
 use Rattle.aes_planes.specs.Fips197.{sub_bytes, add_round_key}
 use Rattle.aes_planes.specs.Planes.{constant_block}

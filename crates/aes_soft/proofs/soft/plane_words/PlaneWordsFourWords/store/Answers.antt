@@ -1,4 +1,3 @@
--- What is left to show of `soft::plane_words::PlaneWordsFourWords::store`.
 use Rattle.std.proofs.Common.{◌*◌, refl}
 use Rattle.aes_soft.proofs.WordsInPlace.{held_at, kept, places_apart}
 use Rattle.aes_soft.proofs.soft.plane_words.PlaneWordsFourWords.store.Goals as goal

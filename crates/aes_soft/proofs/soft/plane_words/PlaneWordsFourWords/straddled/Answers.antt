@@ -1,4 +1,3 @@
--- What is left to show of `soft::plane_words::PlaneWordsFourWords::straddled`.
 use Rattle.std.proofs.Common.{◌∙◌}
 use Rattle.aes_planes.specs.Planes.{zip_with, columns_straddled}
 use Rattle.aes_soft.proofs.Slots.{zip_with-replicates}

@@ -1,4 +1,3 @@
--- What is left to show of `soft::plane_words::PlaneWordsFourWords::substituted`.
 use Rattle.std.proofs.Common.{arith}
 use Rattle.aes_planes.specs.Fips197.{sub_bytes}
 use Rattle.aes_soft.proofs.Slots.{stepped, summed_in_slots}

@@ -1,4 +1,3 @@
--- What is left to show of `soft::word::transpose::U8x16ByteLanes::exchange`.
 use Rattle.std.proofs.Common.{rules}
 use Rattle.aes_planes.proofs.Words.LaneBits.{narrow}
 use Rattle.aes_planes.proofs.Words.Transpose.{lanes_high, lanes_low}

@@ -1,4 +1,3 @@
--- What is left to show of `soft::word::transpose::U8x32ByteLanes::exchange`.
 use Rattle.std.proofs.Common.{rules}
 use Rattle.aes_planes.proofs.Words.Wide.{wide}
 use Rattle.aes_planes.proofs.Words.Transpose.{lanes_high, lanes_low}

@@ -1,4 +1,3 @@
--- What is left to show of `soft::word::word128::U128Word::bitslice`.
 use Rattle.std.proofs.Common.{[], ◌∷◌, map, refl, ap, sym, ◌∙◌, arith, rules}
 use Rattle.aes_planes.specs.Words.{lane_bits}
 use Rattle.aes_planes.specs.Planes.{held}

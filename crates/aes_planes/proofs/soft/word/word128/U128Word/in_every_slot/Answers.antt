@@ -1,4 +1,3 @@
--- What is left to show of `soft::word::word128::U128Word::in_every_slot`.
 use Rattle.std.proofs.Common.{[], ◌∷◌, get_or, map, ap, sym, ◌∙◌, arith, rules}
 use Rattle.aes_planes.specs.Bits.{at}
 use Rattle.aes_planes.specs.Planes.{held}

@@ -1,4 +1,3 @@
--- What is left to show of `soft::word::word256::U8x32Word::in_every_slot`.
 use Rattle.std.proofs.Common.{◌≡◌, ℕ, ◌+◌, ◌*◌, ◌/◌, ◌%◌, ◌<◌, List, [], ◌∷◌, get_or, refl, ap, ◌∙◌}
 use Rattle.std.proofs.Common.{arith}
 use Rattle.aes_planes.specs.Bits.{at}

@@ -1,4 +1,3 @@
--- What is left to show of `soft::word::word256::U8x32Word::inv_bitslice`.
 use Rattle.std.proofs.Common.{ℕ, ◌+◌, ◌*◌, ◌/◌, ◌%◌, [], ◌∷◌, get_or, map, refl, ◌∙◌, arith, rules}
 use Rattle.std.proofs.lemmas.List.{length-map}
 use Rattle.aes_planes.specs.Words.{wide_bits}

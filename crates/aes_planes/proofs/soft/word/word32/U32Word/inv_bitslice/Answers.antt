@@ -1,4 +1,3 @@
--- What is left to show of `soft::word::word32::U32Word::inv_bitslice`.
 use Rattle.std.proofs.Common.{◌+◌, ◌*◌, ◌/◌, ◌%◌, [], ◌∷◌, map, refl, ◌∙◌, arith, rules}
 use Rattle.std.proofs.lemmas.List.{length-map}
 use Rattle.aes_planes.specs.Words.{word_bits}

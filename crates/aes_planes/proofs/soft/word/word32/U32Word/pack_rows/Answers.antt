@@ -1,4 +1,3 @@
--- What is left to show of `soft::word::word32::U32Word::pack_rows`.
 use Rattle.aes_planes.proofs.Words.Constants.{rows_packed}
 use Rattle.aes_planes.proofs.soft.word.word32.U32Word.pack_rows.Goals as goal
 

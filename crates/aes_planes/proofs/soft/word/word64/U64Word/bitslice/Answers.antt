@@ -1,4 +1,3 @@
--- What is left to show of `soft::word::word64::U64Word::bitslice`.
 use Rattle.std.proofs.Common.{◌+◌, ◌*◌, ◌/◌, ◌%◌, [], ◌∷◌, get_or, refl, arith, rules}
 use Rattle.aes_planes.specs.Words.{word_bits}
 use Rattle.aes_planes.proofs.Bits.ByteCases.{by_eight}

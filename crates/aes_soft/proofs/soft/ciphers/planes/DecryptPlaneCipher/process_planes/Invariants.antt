@@ -1,4 +1,3 @@
--- What holds in the loops of `soft::ciphers::planes::DecryptPlaneCipher::process_planes`.
 use Rattle.std.proofs.Common.{◌≡◌, ◌+◌, ◌-◌, ◌*◌, map}
 use Rattle.aes_planes.specs.Fips197.{inv_state_after, inv_sub_bytes, inv_shift_times, key_expansion}
 use Rattle.aes_planes.specs.Planes.{held}

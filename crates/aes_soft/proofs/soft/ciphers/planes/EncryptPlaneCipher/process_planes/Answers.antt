@@ -1,4 +1,3 @@
--- What is left to show of `soft::ciphers::planes::EncryptPlaneCipher::process_planes`.
 use Rattle.std.proofs.Common.{◌≡◌, ℕ, ◌+◌, ◌-◌, ◌*◌, ◌/◌, map, refl, ap, ◌∙◌, arith}
 use Rattle.aes_planes.specs.Fips197.{inv_shift_times}
 use Rattle.aes_planes.specs.Planes.{held}

@@ -1,4 +1,3 @@
--- What holds in the loops of `soft::ciphers::planes::EncryptPlaneCipher::process_planes`.
 use Rattle.std.proofs.Common.{◌≡◌, ◌+◌, ◌*◌, map}
 use Rattle.aes_planes.specs.Fips197.{state_after, key_expansion}
 use Rattle.aes_planes.specs.Planes.{held}
