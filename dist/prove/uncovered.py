@@ -47,6 +47,11 @@ BORDERS = [
     ("x86_64/aes", r"add_in_batches\.add_keystream", 1, "The carry between a counter's halves. It has cases in which these may be any."),
     ("x86_64/aes", "process_in_batches", 1, "The loop's numbers are multiples of eight."),
     ("x86_64/.*", r"add_in_batches\.add_next", 1, "A text that ends in the block in which it begins goes another way."),
+    ("x86_64/aes", r"add_in_batches\.add_next", 5, "Such a text, and four carries between a counter's halves: cases have any halves."),
+    ("x86_64/.*", "process_planes", 1, "A loop over round keys ends at the numbers that three sizes of keys have."),
+    *(("x86_64/.*", function, n, "The sum of two numbers of bytes carries only in calls that are refused, which is proved for all numbers.")
+      for function, n in (("fotsgure_aes_add_keystream(_with)?", 1), ("fotsgure_aes_add_keystream_to", 2),
+                          (r"BorrowedGcm\.turn_to|fotsgure_gcm_(additional|decrypt)", 1))),
     ("x86_64/aes", "key_wrap.padded.wrap_padded", 1, "A key of fewer than eight bytes goes another way."),
     ("x86_64/aes", "ccm.message.put_tag", 1, "Each key has more than two rounds."),
     ("x86_64/.*", r"fotsgure_\w+_to|whole_to\.copy", 1, "Buffers that are 32 bytes apart, and overlap, have more bytes than that."),
