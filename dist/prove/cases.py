@@ -21,7 +21,6 @@ Row = collections.namedtuple("Row", "name what each most first keys_24_32 all_",
 ONCE = [()]  # no arguments
 FIRST = "x86_64/aes", "x86_64/siv", "x86_64/gcm"  # the builds that take `first`
 
-WAYS = "", "_to", "_with"
 SINGLE_ROUNDS = [(name, way) for name in ("cipher_round", "equiv_inv_cipher_round") for way in ("", "_par")]
 COLUMNS = ["mix_columns", "inv_mix_columns"]
 NO_CARRY, BLOCK_BEHIND = aes.NEVER, 9  # a carry nowhere; before a block that a batch has behind the text
