@@ -127,21 +127,23 @@ inv_shifted x c j = byte_at x j ((c + 4 - j) % 4)
 abbrev pub same_row : List ℕ
 same_row = 0 ∷ 13 ∷ 10 ∷ 7 ∷ 4 ∷ 1 ∷ 14 ∷ 11 ∷ 8 ∷ 5 ∷ 2 ∷ 15 ∷ 12 ∷ 9 ∷ 6 ∷ 3 ∷ []
 
--- the lanes whose bytes stand one, two and three rows further down in the same column
+-- the lanes whose bytes stand one row further down in the same column
 abbrev pub next_row : List ℕ
 next_row = 13 ∷ 10 ∷ 7 ∷ 0 ∷ 1 ∷ 14 ∷ 11 ∷ 4 ∷ 5 ∷ 2 ∷ 15 ∷ 8 ∷ 9 ∷ 6 ∷ 3 ∷ 12 ∷ []
 
-abbrev pub third_row : List ℕ
-third_row = 10 ∷ 7 ∷ 0 ∷ 13 ∷ 14 ∷ 11 ∷ 4 ∷ 1 ∷ 2 ∷ 15 ∷ 8 ∷ 5 ∷ 6 ∷ 3 ∷ 12 ∷ 9 ∷ []
+-- the lanes whose bytes stand two rows further down in the same column
+abbrev pub two_rows_on : List ℕ
+two_rows_on = 10 ∷ 7 ∷ 0 ∷ 13 ∷ 14 ∷ 11 ∷ 4 ∷ 1 ∷ 2 ∷ 15 ∷ 8 ∷ 5 ∷ 6 ∷ 3 ∷ 12 ∷ 9 ∷ []
 
-abbrev pub fourth_row : List ℕ
-fourth_row = 7 ∷ 0 ∷ 13 ∷ 10 ∷ 11 ∷ 4 ∷ 1 ∷ 14 ∷ 15 ∷ 8 ∷ 5 ∷ 2 ∷ 3 ∷ 12 ∷ 9 ∷ 6 ∷ []
+-- the lanes whose bytes stand three rows further down in the same column
+abbrev pub three_rows_on : List ℕ
+three_rows_on = 7 ∷ 0 ∷ 13 ∷ 10 ∷ 11 ∷ 4 ∷ 1 ∷ 14 ∷ 15 ∷ 8 ∷ 5 ∷ 2 ∷ 3 ∷ 12 ∷ 9 ∷ 6 ∷ []
 
 -- the sums that a round makes of four products of the state and a round key
 abbrev pub inv_round_of : List ℕ → List ℕ → List ℕ → List ℕ → List ℕ → List ℕ
 inv_round_of a b c d k =
     zip2 bit_xor (zip2 bit_xor (zip2 bit_xor (permuted a same_row) k)
-    (zip2 bit_xor (permuted c third_row) (permuted d fourth_row)))
+    (zip2 bit_xor (permuted c two_rows_on) (permuted d three_rows_on)))
     (permuted b next_row)
 
 -- the round on lanes, from what it looks up
@@ -246,21 +248,23 @@ key_products_made : Makes inv_untower (λ b. b) (products of_key)
 unfolding all_below inv_untower field_mul
 key_products_made = refl
 
--- the rows of each column, turned
+-- the lanes of the next row in the same column
 abbrev pub next_in_column : List ℕ
 next_in_column = 1 ∷ 2 ∷ 3 ∷ 0 ∷ 5 ∷ 6 ∷ 7 ∷ 4 ∷ 9 ∷ 10 ∷ 11 ∷ 8 ∷ 13 ∷ 14 ∷ 15 ∷ 12 ∷ []
 
-abbrev pub third_in_column : List ℕ
-third_in_column = 2 ∷ 3 ∷ 0 ∷ 1 ∷ 6 ∷ 7 ∷ 4 ∷ 5 ∷ 10 ∷ 11 ∷ 8 ∷ 9 ∷ 14 ∷ 15 ∷ 12 ∷ 13 ∷ []
+-- the lanes two rows on in the same column
+abbrev pub two_on_in_column : List ℕ
+two_on_in_column = 2 ∷ 3 ∷ 0 ∷ 1 ∷ 6 ∷ 7 ∷ 4 ∷ 5 ∷ 10 ∷ 11 ∷ 8 ∷ 9 ∷ 14 ∷ 15 ∷ 12 ∷ 13 ∷ []
 
-abbrev pub fourth_in_column : List ℕ
-fourth_in_column = 3 ∷ 0 ∷ 1 ∷ 2 ∷ 7 ∷ 4 ∷ 5 ∷ 6 ∷ 11 ∷ 8 ∷ 9 ∷ 10 ∷ 15 ∷ 12 ∷ 13 ∷ 14 ∷ []
+-- the lanes three rows on in the same column
+abbrev pub three_on_in_column : List ℕ
+three_on_in_column = 3 ∷ 0 ∷ 1 ∷ 2 ∷ 7 ∷ 4 ∷ 5 ∷ 6 ∷ 11 ∷ 8 ∷ 9 ∷ 10 ∷ 15 ∷ 12 ∷ 13 ∷ 14 ∷ []
 
 -- the sums that mixing a round key back makes of its four products
 abbrev pub unmixed_of : List ℕ → List ℕ → List ℕ → List ℕ → List ℕ
 unmixed_of a b c d =
     zip2 bit_xor (zip2 bit_xor a
-    (zip2 bit_xor (permuted c third_in_column) (permuted d fourth_in_column)))
+    (zip2 bit_xor (permuted c two_on_in_column) (permuted d three_on_in_column)))
     (permuted b next_in_column)
 
 -- zeros that are added to a block change nothing, so that a round key is mixed as in a round

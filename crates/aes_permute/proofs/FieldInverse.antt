@@ -52,32 +52,37 @@ pub made_places : (f : ℕ → ℕ) → all_below 256 (λ b. is_index (f b)) ≡
     → y ≡ map f x → AreIndices y
 made_places f test x h e = subst AreIndices (sym e) (each_passes is_index f test x h.1)
 
--- each place at which the code looks up, by all bytes: the
--- nibbles, their sum, and what is made of these
+-- each place at which the code looks up is an index, by all bytes: first the low nibble
 pub low_cases : all_below 256 (λ b. is_index (low_nibble b)) ≡ true
 unfolding all_below is_index
 low_cases = refl
 
+-- the high nibble of each byte is an index
 pub high_cases : all_below 256 (λ b. is_index (high_nibble b)) ≡ true
 unfolding all_below is_index
 high_cases = refl
 
+-- the sum of both nibbles of each byte is an index
 pub both_cases : all_below 256 (λ b. is_index (both_nibbles b)) ≡ true
 unfolding all_below is_index
 both_cases = refl
 
+-- the second sum over the high nibble is an index
 pub over_high_cases : all_below 256 (λ b. is_index (second_sum high_nibble b)) ≡ true
 unfolding all_below is_index
 over_high_cases = refl
 
+-- the second sum over the sum of both nibbles is an index
 pub over_both_cases : all_below 256 (λ b. is_index (second_sum both_nibbles b)) ≡ true
 unfolding all_below is_index
 over_both_cases = refl
 
+-- the first of the two places that are found for a byte is an index
 pub first_cases : all_below 256 (λ b. is_index (first_of b)) ≡ true
 unfolding all_below is_index first_of
 first_cases = refl
 
+-- the second of these places is an index
 pub second_cases : all_below 256 (λ b. is_index (second_of b)) ≡ true
 unfolding all_below is_index second_of
 second_cases = refl

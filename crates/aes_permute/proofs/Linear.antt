@@ -28,10 +28,11 @@ looked_sum t l p q a b =
     eqb-true _ _ (all_pairs_tell 16 16
     (λ p q. looked t (bit_xor p q) == bit_xor (looked t p) (looked t q)) l p q a b)
 
--- the nibbles of a sum are sums of nibbles
+-- the low nibble of a sum is the sum of the low nibbles
 low_sum : (a b : ℕ) → low_nibble (bit_xor a b) ≡ bit_xor (low_nibble a) (low_nibble b)
 low_sum a b = xor_mod a b 4
 
+-- the high nibble of a sum is the sum of the high nibbles
 high_sum : (a b : ℕ) → high_nibble (bit_xor a b) ≡ bit_xor (high_nibble a) (high_nibble b)
 high_sum a b = ap (λ v. v % 16) (xor_shr a b 4) ∙ xor_mod (a / 16) (b / 16) 4
 
@@ -50,11 +51,12 @@ by_nibbles_sum t u l m a b =
     ∙ add_swap (looked t (low_nibble a)) (looked t (low_nibble b)) (looked u (high_nibble a))
     (looked u (high_nibble b))
 
--- the tables that change back from the basis are linear, by all pairs of nibbles
+-- the tables that change back from the basis of encryption are linear, by all pairs of nibbles
 untower_linear : is_linear UNTOWER_LOW × is_linear UNTOWER_HIGH
 unfolding all_below
 untower_linear = (refl, refl)
 
+-- the tables that change back from the basis of decryption are linear, by all pairs of nibbles
 inv_untower_linear : is_linear INV_UNTOWER_LOW × is_linear INV_UNTOWER_HIGH
 unfolding all_below
 inv_untower_linear = (refl, refl)

@@ -131,11 +131,12 @@ pub high_nibbles_are : (x : List ℕ) → IsBlock x
     → zip2 (λ a b. a / 2 ^ b) x (replicate 16 4) ≡ map high_nibble x
 high_nibbles_are x h = high_nibbles_of 16 x h.0 h.1
 
--- either nibble is below 16, by all bytes
+-- the low nibble is below 16, by all bytes
 low_is_nibble : all_below 256 (λ b. nat_lt (low_nibble b) 16) ≡ true
 unfolding all_below
 low_is_nibble = refl
 
+-- the high nibble is below 16, by all bytes
 high_is_nibble : all_below 256 (λ b. nat_lt (high_nibble b) 16) ≡ true
 unfolding all_below
 high_is_nibble = refl

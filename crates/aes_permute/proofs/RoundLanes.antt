@@ -36,13 +36,15 @@ pub through_lanes : (t u x : List ℕ) {f s y : List ℕ} → f ≡ map first_of
 through_lanes t u x a b e = e ∙ (λ i. zip2 (at_places t u) (a i) (b i))
     ∙ zip2-map (at_places t u) first_of second_of x
 
--- what is looked up for the coefficients 1 and 2 of MixColumns; 3 is the sum of both
+-- what is looked up for the coefficient 1 of MixColumns
 abbrev pub one : ℕ → ℕ
 one b = through ONE_FIRST ONE_SECOND b
 
+-- what is looked up for the coefficient 2
 abbrev pub two : ℕ → ℕ
 two b = through TWO_FIRST TWO_SECOND b
 
+-- for the coefficient 3, the sum of what is looked up for 1 and 2
 abbrev pub three : ℕ → ℕ
 three b = bit_xor (one b) (two b)
 
@@ -73,12 +75,13 @@ shifted x c j = byte_at x j ((c + j) % 4)
 abbrev pub same_row : List ℕ
 same_row = 0 ∷ 5 ∷ 10 ∷ 15 ∷ 4 ∷ 9 ∷ 14 ∷ 3 ∷ 8 ∷ 13 ∷ 2 ∷ 7 ∷ 12 ∷ 1 ∷ 6 ∷ 11 ∷ []
 
--- the lanes of one, two and three rows further down
+-- the lanes one row further down
 abbrev pub next_row : List ℕ
 next_row = 5 ∷ 10 ∷ 15 ∷ 0 ∷ 9 ∷ 14 ∷ 3 ∷ 4 ∷ 13 ∷ 2 ∷ 7 ∷ 8 ∷ 1 ∷ 6 ∷ 11 ∷ 12 ∷ []
 
-abbrev pub fourth_row : List ℕ
-fourth_row = 15 ∷ 0 ∷ 5 ∷ 10 ∷ 3 ∷ 4 ∷ 9 ∷ 14 ∷ 7 ∷ 8 ∷ 13 ∷ 2 ∷ 11 ∷ 12 ∷ 1 ∷ 6 ∷ []
+-- the lanes three rows further down
+abbrev pub three_rows_on : List ℕ
+three_rows_on = 15 ∷ 0 ∷ 5 ∷ 10 ∷ 3 ∷ 4 ∷ 9 ∷ 14 ∷ 7 ∷ 8 ∷ 13 ∷ 2 ∷ 11 ∷ 12 ∷ 1 ∷ 6 ∷ []
 
 -- a block with its lanes from these places of it
 abbrev pub permuted : List ℕ → List ℕ → List ℕ
@@ -95,7 +98,7 @@ paired o t = zip2 bit_xor t (permuted o row_before)
 -- the sum that a round makes of what it looked up for 1, the pairs, and a round key
 abbrev pub round_of : List ℕ → List ℕ → List ℕ → List ℕ
 round_of o p k =
-    zip2 bit_xor (zip2 bit_xor (zip2 bit_xor (permuted o fourth_row) k) (permuted p same_row))
+    zip2 bit_xor (zip2 bit_xor (zip2 bit_xor (permuted o three_rows_on) k) (permuted p same_row))
     (permuted p next_row)
 
 -- the round on lanes, from what it looks up
