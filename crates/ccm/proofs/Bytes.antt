@@ -19,8 +19,9 @@ eight_bits (suc q) =
     ap (λ n. 2 ^ n) more ∙ pow-add 2 (8 * q) 8 ∙ ap (λ n. n * 256) (eight_bits q)
     ∙ sym (pow-suc 256 q)
 
-some : (q : ℕ) → 0 < 256 ^ q
-some q = omega (arith, pow_pos (8 * q), eight_bits q)
+-- a power of 256 is not 0
+power_positive : (q : ℕ) → 0 < 256 ^ q
+power_positive q = omega (arith, pow_pos (8 * q), eight_bits q)
 
 -- a number in q bytes has q bytes
 pub length-bytes : (q x : ℕ) → length (bytes q x) ≡ q
@@ -51,7 +52,7 @@ low_bytes (suc q) a j =
     let whole : a * 256 ^ suc q + j ≡ a * 256 * p + j =
     ap (λ n. a * n + j) (pow-suc 256 q ∙ mul_comm p 256)
     ∙ ap (λ n. n + j) (sym (mul_assoc a 256 p)) in
-    let quotient : (a * 256 * p + j) / p ≡ a * 256 + j / p = mul-add-div_right (some q) (a * 256) j in
+    let quotient : (a * 256 * p + j) / p ≡ a * 256 + j / p = mul-add-div_right (power_positive q) (a * 256) j in
     let first : (a * 256 ^ suc q + j) / p % 256 ≡ j / p % 256 =
     ap (λ n. n / p % 256) whole ∙ ap (λ n. n % 256) quotient ∙ omega arith in
     (λ t. first t ∷ (ap (bytes q) whole ∙ low_bytes q (a * 256) j) t)
@@ -81,9 +82,9 @@ only_zero (suc q) r small is =
     let first : r / p % 256 ≡ 0 / p % 256 = cc is in
     let others : bytes q r ≡ bytes q 0 = cc is in
     let below : r / p < 256 =
-    (div-lt_iff_lt-mul (some q)).1 (omega (arith, small, pow-suc 256 q, mul_comm p 256)) in
+    (div-lt_iff_lt-mul (power_positive q)).1 (omega (arith, small, pow-suc 256 q, mul_comm p 256)) in
     let none : r / p < 1 = omega (arith, first, below, zero-div p) in
-    only_zero q r (omega (arith, (div-lt_iff_lt-mul (some q)).0 none)) others
+    only_zero q r (omega (arith, (div-lt_iff_lt-mul (power_positive q)).0 none)) others
 
 -- a quotient by a power of 2
 pub quotient_zero : (x k : ℕ) → (x / 2 ^ k ≡ 0) ↔ (x < 2 ^ k)
@@ -94,11 +95,12 @@ quotient_zero x k = (
 
 -- ---- blocks
 
--- the bytes of a number below 2 ^ 64, and the last ones
+-- a number in 8 bytes, as std writes it
 pub of_64 : (x : ℕ) → to_be_bytes w64 x ≡ bytes 8 x
 unfolding bytes
 of_64 x = simp div-one
 
+-- the last q of those 8 bytes are the number in q bytes
 pub last_of_64 : (k q x : ℕ) (written : List ℕ) → k + q ≡ 8 → written ≡ to_be_bytes w64 x
     → take q (drop k written) ≡ bytes q x
 last_of_64 k q x written all is =
@@ -106,11 +108,12 @@ last_of_64 k q x written all is =
     ∙ ap (take q) (last_bytes k q x)
     ∙ take_all q (bytes q x) (omega (arith, length-bytes q x))
 
--- the bytes of a number modulo 2 ^ 128
+-- a number in 16 bytes, as std writes it
 of_128 : (x : ℕ) → to_be_bytes w128 x ≡ bytes 16 x
 unfolding bytes
 of_128 x = simp div-one
 
+-- multiples of 2 ^ 128 change none of the 16 bytes
 modulo_128 : (x : ℕ) → bytes 16 (x % 2 ^ 128) ≡ bytes 16 x
 modulo_128 x =
     let whole : x / 256 ^ 16 * 256 ^ 16 + x % 2 ^ 128 ≡ x = omega arith in
@@ -127,7 +130,7 @@ counted x block q j whole is long small =
     let a : ℕ = n / w in
     let r : ℕ = n % w in
     let split : n ≡ a * w + r = sym (div-add-mod' n w) in
-    let less : r < w = mod_below n w (some q) in
+    let less : r < w = mod_below n w (power_positive q) in
     let both : x ++ bytes q 0 ≡ bytes m a ++ bytes q r =
     sym is ∙ sym (block_back block whole) ∙ of_128 n ∙ ap (λ k. bytes k n) (sym long)
     ∙ ap (bytes (m + q)) split ∙ joined_bytes m q a r less in
