@@ -87,10 +87,11 @@ module _ (f : List ℕ → List ℕ) (steps : List (List ℕ) → ℕ → List (
 -- ---- the comparisons
 
 module _ (check : List ℕ) (long : length check ≡ 8) (small : IsBytes check) where
-  -- both parts of the first semiblock have four bytes
+  -- the first part of the first semiblock has four bytes
   front : length (take 4 check) ≡ 4
   front = omega (arith, length-take 4 check, long)
 
+  -- the second part of the first semiblock has four bytes
   rest : length (drop 4 check) ≡ 4
   rest = omega (arith, length-drop 4 check, long)
 

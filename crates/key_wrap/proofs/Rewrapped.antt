@@ -15,6 +15,7 @@ use Rattle.key_wrap.proofs.Undone.{added_semiblock, added_twice}
 
 -- ---- InvCipher of a block is a block
 module _ (w : List (List ℕ)) (keys : AreRoundKeys w) where
+  -- each round key consists of bytes
   key_bytes : (i : ℕ) → i ≤ last_round w → IsBytes (round_key w i)
   key_bytes i le = (keys.blocks i (omega (arith, keys.two))).1
 
@@ -37,6 +38,7 @@ module _ (w : List (List ℕ)) (keys : AreRoundKeys w) where
       (back_block (inv_state_after w b n) (last_round w - suc n) (turn_block b n is (omega arith))
       (omega arith))
 
+  -- InvCipher of a block is a block
   inv_cipher_block : (b : List ℕ) → IsBlock b → IsBlock (inv_cipher_with w b)
   unfolding inv_cipher_with
   inv_cipher_block b is =
@@ -61,7 +63,7 @@ module _ (w : List (List ℕ)) (keys : AreRoundKeys w)
       (All-tail IsSemiblock a rs all) in
       joined (number_added a t) (get_or rs (length rs - 1) []) is_n.0 is_n.1 is_r.0 is_r.1
 
-  -- a step of the inverse leaves semiblocks, as many as there were
+  -- a step of the inverse leaves semiblocks
   step_kept : (t : ℕ) (s : List (List ℕ)) → All IsSemiblock s → 2 ≤ length s
       → All IsSemiblock (unwrap_step w t s)
   unfolding unwrap_step
@@ -78,6 +80,7 @@ module _ (w : List (List ℕ)) (keys : AreRoundKeys w)
       (omega (arith, length-drop 8 b, is.0), drop_bytes 8 b is.1)
       (All-take IsSemiblock last rs (All-tail IsSemiblock a rs all)))
 
+  -- a step of the inverse leaves as many semiblocks as there were
   step_length : (t : ℕ) (s : List (List ℕ)) → 2 ≤ length s → length (unwrap_step w t s) ≡ length s
   unfolding unwrap_step
   step_length t [] some = absurd (omega arith)
@@ -104,6 +107,7 @@ module _ (w : List (List ℕ)) (keys : AreRoundKeys w)
       ∙ (λ j. number_added (first n r long j) t ∷ (take last rs ++ second n r long j ∷ []))
       ∙ (λ j. added_twice a t (All-head IsSemiblock a rs all) lt j ∷ ends j)
 
+  -- all steps of the inverse leave as many semiblocks as there were
   from_length : (s : List (List ℕ)) (t : ℕ) → 2 ≤ length s
       → length (unwrapped_from w s t) ≡ length s
   unfolding unwrapped_from

@@ -53,11 +53,13 @@ module _ (w : List (List ℕ))
   of_two : (a r : List ℕ) → IsSemiblock a → IsSemiblock r → IsBlock (cipher_with w (a ++ r))
   of_two a r is_a is_r = block (a ++ r) (joined a r is_a.0 is_a.1 is_r.0 is_r.1)
 
-  high : (b : List ℕ) → IsBlock b → IsSemiblock (take 8 b)
-  high b is = (omega (arith, length-take 8 b, is.0), take_bytes 8 b is.1)
+  -- the first half of a block is a semiblock
+  high_semiblock : (b : List ℕ) → IsBlock b → IsSemiblock (take 8 b)
+  high_semiblock b is = (omega (arith, length-take 8 b, is.0), take_bytes 8 b is.1)
 
-  low : (b : List ℕ) → IsBlock b → IsSemiblock (drop 8 b)
-  low b is = (omega (arith, length-drop 8 b, is.0), drop_bytes 8 b is.1)
+  -- the second half of a block is a semiblock
+  low_semiblock : (b : List ℕ) → IsBlock b → IsSemiblock (drop 8 b)
+  low_semiblock b is = (omega (arith, length-drop 8 b, is.0), drop_bytes 8 b is.1)
 
   -- the cipher of two halves, undone
   halves_back : (a r : List ℕ) → IsSemiblock a → IsSemiblock r
@@ -70,7 +72,7 @@ module _ (w : List (List ℕ))
       ap (inv_cipher_with w) (back b) ∙ undone (a ++ r) (joined a r is_a.0 is_a.1 is_r.0 is_r.1) in
       (ap (take 8) whole ∙ first a r is_a.0, ap (drop 8) whole ∙ second a r is_a.0)
 
-  -- a step leaves semiblocks, as many as there were
+  -- a step leaves semiblocks
   step_kept : (t : ℕ) (s : List (List ℕ)) → All IsSemiblock s → All IsSemiblock (wrap_step w t s)
   unfolding wrap_step
   step_kept t [] all = all
@@ -83,8 +85,9 @@ module _ (w : List (List ℕ))
       All-cons IsSemiblock (number_added (take 8 b) t) (rs ++ drop 8 b ∷ [])
       (added_semiblock (take 8 b) t)
       (All-append IsSemiblock rs (drop 8 b ∷ []) (All-tail IsSemiblock r rs rest)
-      (All-cons IsSemiblock (drop 8 b) [] (low b is) (All-nil IsSemiblock)))
+      (All-cons IsSemiblock (drop 8 b) [] (low_semiblock b is) (All-nil IsSemiblock)))
 
+  -- a step leaves as many semiblocks as there were
   step_length : (t : ℕ) (s : List (List ℕ)) → length (wrap_step w t s) ≡ length s
   unfolding wrap_step
   step_length t [] = refl
@@ -104,19 +107,20 @@ module _ (w : List (List ℕ))
       let is_a : IsSemiblock a = All-head IsSemiblock a (r ∷ rs) all in
       let is_r : IsSemiblock r = All-head IsSemiblock r rs rest in
       let added : number_added (number_added (take 8 b) t) t ≡ take 8 b =
-      added_twice (take 8 b) t (high b (of_two a r is_a is_r)) lt in
+      added_twice (take 8 b) t (high_semiblock b (of_two a r is_a is_r)) lt in
       let two = halves_back a r is_a is_r in
       unwrap_last w (number_added (take 8 b) t) rs (drop 8 b) t
       ∙ (λ j. let d = inv_cipher_with w (added j ++ drop 8 b) in take 8 d ∷ drop 8 d ∷ rs)
       ∙ (λ j. two.0 j ∷ two.1 j ∷ rs)
 
-  -- the steps of all turns leave semiblocks, as many as there were
+  -- the steps of all turns leave semiblocks
   after_kept : (s : List (List ℕ)) (t : ℕ) → All IsSemiblock s
       → All IsSemiblock (wrapped_after w s t)
   unfolding wrapped_after
   after_kept s zero all = all
   after_kept s (suc t) all = step_kept (suc t) (wrapped_after w s t) (after_kept s t all)
 
+  -- the steps of all turns leave as many semiblocks as there were
   after_length : (s : List (List ℕ)) (t : ℕ) → length (wrapped_after w s t) ≡ length s
   unfolding wrapped_after
   after_length s zero = refl

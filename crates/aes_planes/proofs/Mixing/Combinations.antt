@@ -19,7 +19,9 @@ use Rattle.aes_planes.proofs.Standard.Steps.{shift_times_bytes}
 pub data Mix : Type 0 where
   -- one of the bytes, counted from the first on
   Byte : ℕ → Mix
+  -- the sum of two bytes that are made
   Sum : Mix → Mix → Mix
+  -- the product of such a byte with x
   Double : Mix → Mix
   -- what is made in the same way of the bytes from two on
   FromTwoOn : Mix → Mix

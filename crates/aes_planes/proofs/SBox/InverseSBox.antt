@@ -24,6 +24,7 @@ tables b =
     && ((inv_listed (listed b) == b) && ((listed (inv_listed b) == b)
     && nat_lt (inv_listed b) 256))
 
+-- what `tables` tests at the byte b, and that the S-box has the table's entry there
 record Listed (b : ℕ) : Type 0 where
   own : sbox b ≡ listed b
   back : inv_listed (listed b) ≡ b

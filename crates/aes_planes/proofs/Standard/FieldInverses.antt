@@ -75,6 +75,7 @@ inverse_test b v =
     nat_lt v 256 && ((field_mul b v == 1) && all_below 8
     (λ i. field_mul v (field_mul b (2 ^ i)) == 2 ^ i))
 
+-- what `inverse_test` tests of b and v
 record Inverse (b v : ℕ) : Type 0 where
   byte : v < 256
   product : field_mul b v ≡ 1

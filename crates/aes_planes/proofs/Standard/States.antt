@@ -58,16 +58,18 @@ bytes_by_test (x ∷ s) h zero =
 bytes_by_test (x ∷ s) h (suc i) =
     bytes_by_test s (and_parts (nat_lt x 256) (list_all (λ x. nat_lt x 256) s) h).1 i
 
--- parts of a list of bytes, and two lists of bytes one after the other
+-- the first n of a list of bytes are bytes
 pub take_bytes : (n : ℕ) (s : List ℕ) → IsBytes s → IsBytes (take n s)
 take_bytes zero s h i = omega arith
 take_bytes (suc n) [] h i = omega arith
 take_bytes (suc n) (x ∷ s) h zero = h 0
 take_bytes (suc n) (x ∷ s) h (suc i) = take_bytes n s (λ j. h (suc j)) i
 
+-- what is left of a list of bytes without the first n are bytes
 pub drop_bytes : (n : ℕ) (s : List ℕ) → IsBytes s → IsBytes (drop n s)
 drop_bytes n s h i = omega (arith, get_or-drop n s i 0, h (n + i))
 
+-- two lists of bytes, one after the other, are a list of bytes
 pub append_bytes : (s t : List ℕ) → IsBytes s → IsBytes t → IsBytes (s ++ t)
 append_bytes [] t h k i = k i
 append_bytes (x ∷ s) t h k zero = h 0

@@ -187,26 +187,26 @@ rotate_odd x y z b h t u i l = u i l ∙ t ((i + 8) % 256) (omega arith) ∙ ap 
 
 pub ruleset rotate_bytes_calls = (rotate_even, rotate_odd)
 
--- a shift to the right by an even number of bytes is one by pairs, and by an odd number one byte
--- more
+-- a shift to the right by an even number of bytes is one by pairs
 pub right_even : (x y : List Bool) (b : ℕ) → b % 2 ≡ 0 → Right 256 x y (16 * (b / 2))
     → Right 256 x y (8 * b)
 right_even x y b z t i l = t i l ∙ ap (λ v. nat_lt v 256 && at x v) (omega arith)
 
+-- a shift to the right by an odd number of bytes is one by pairs and one byte more
 pub right_odd : (x y z : List Bool) (b : ℕ) → b % 2 ≡ 1 → Right 256 x y (16 * (b / 2))
     → Right 256 y z 8 → Right 256 x z (8 * b)
 right_odd x y z b h t u = right_again 256 x y z (16 * (b / 2)) (8 * b) t u (omega (arith, h))
 
 pub ruleset bytes_right_calls = (right_even, right_odd)
 
--- a shift to the left by an even number of bytes is one by pairs, and by an odd number one byte
--- more
+-- a shift to the left by an even number of bytes is one by pairs
 pub left_even : (x y : List Bool) (b : ℕ) → b % 2 ≡ 0 → Left 256 x y (16 * (b / 2))
     → Left 256 x y (8 * b)
 left_even x y b z t i l =
     let e : 16 * (b / 2) ≡ 8 * b = omega arith in
     t i l ∙ ap (λ n. nat_le n i && at x (i - n)) e
 
+-- a shift to the left by an odd number of bytes is one by pairs and one byte more
 pub left_odd : (x y z : List Bool) (b : ℕ) → b % 2 ≡ 1 → Left 256 x y (16 * (b / 2))
     → Left 256 y z 8 → Left 256 x z (8 * b)
 left_odd x y z b h t u = left_again 256 x y z (16 * (b / 2)) (8 * b) t u (omega (arith, h))
