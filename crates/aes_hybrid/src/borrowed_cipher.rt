@@ -111,6 +111,7 @@ impl<D: LaneRounds, W> RoundKeysUser for BorrowedCipher<'_, D, W> {
 
     fn has_round_keys(&self) {
         laws::expanded_keys();
+        // A use of a field tells the proof what holds for every value of the type.
         let _ = &self.keys;
     }
 

@@ -60,6 +60,7 @@ impl<W: NarrowWord> RoundKeysUser for BorrowedWords<'_, W> {
     #[tactic(auto, using(aes_soft::proofs::KeyOfPlanes::read_keys))]
     fn has_round_keys(&self) {
         laws::expanded_keys();
+        // A use of a field tells the proof what holds for every value of the type.
         let _ = &self.words;
     }
 

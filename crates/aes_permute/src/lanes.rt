@@ -99,6 +99,7 @@ impl Lanes for u8x16 {
 
     #[inline(always)]
     fn are_blocks(self) {
+        // The type of the array tells the proof that there are bytes, and how many.
         let _ = self.to_array();
     }
 
@@ -156,6 +157,7 @@ impl Lanes for u8x32 {
 
     #[inline(always)]
     fn are_blocks(self) {
+        // The type of the array tells the proof that there are bytes, and how many.
         let _ = self.to_array();
     }
 

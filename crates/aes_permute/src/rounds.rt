@@ -85,7 +85,6 @@ impl LaneRounds for Decrypt {
     #[tactic(auto, unfolding(crate::specs::Lookup::is_index))]
     #[inline(always)]
     fn round<L: Lanes>(x: L, key: L, number: usize) -> L {
-        let _ = number;
         x.are_blocks();
         key.are_blocks();
         let at = places_of(x);
@@ -107,7 +106,6 @@ impl LaneRounds for Decrypt {
     #[tactic(auto, unfolding(crate::specs::Lookup::is_index))]
     #[inline(always)]
     fn last<L: Lanes>(x: L, key: L, number: usize) -> L {
-        let _ = number;
         x.are_blocks();
         key.are_blocks();
         let one = looked_up(places_of(x), INV_SBOX_FIRST, INV_SBOX_SECOND);

@@ -41,7 +41,6 @@ pub(crate) fn put_moved_rows(moved_rows: &mut [Block], rows: &[Block], v: u128)
     requires rows { rows.now ≡ multiples_rows v }
     ensures { moved_rows.new ≡ multiples_rows (v_at v 4) }
 {
-    let _ = v;
     let end = rows[15];
     is_block(end);
     let last = u8x16::from_array(end).low_nibbles();
