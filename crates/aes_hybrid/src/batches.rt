@@ -21,8 +21,8 @@ const LARGEST_BATCH: usize = 16;
 // The most bytes of stack of the work on batches, on the widest words.
 const BATCHES_STACK: usize = 1536;
 
-// Copies the first blocks of a slice to another, at most a batch, one by one: LLVM makes a call of
-// a copy of the slice, whose stores the loads that follow have to wait for.
+// Copies the first blocks of a slice to another, at most a batch, and one by one: LLVM turns a copy
+// of a slice into a call of `memcpy`, and loads of the blocks then have to wait for its stores.
 #[inline(always)]
 fn copy_first<W: Word>(to: &mut [Block], from: &[Block], count: usize)
     requires at_most_one_batch { count ≤ W.Blocks.LEN }

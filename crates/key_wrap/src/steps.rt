@@ -158,8 +158,8 @@ pub(crate) fn unwrap_in_place<C: BlockCipherDecrypt>(
     }
 }
 
-/// W, or for two semiblocks, which are a block, its encryption: `check` is the first, and `halves`
-/// are the others.
+/// Wraps a string in place: `check` is its first semiblock, and `halves` are the others. W is for
+/// three semiblocks or more. Two are one block, which a call of the cipher encrypts (6.3).
 pub(crate) fn wrap_string<C: BlockCipherEncrypt>(
     cipher: &C,
     check: &mut Semiblock,
@@ -177,7 +177,7 @@ pub(crate) fn wrap_string<C: BlockCipherEncrypt>(
     }
 }
 
-/// The inverse of `wrap_string`.
+/// Unwraps a string in place: the inverse of `wrap_string`.
 pub(crate) fn unwrap_string<C: BlockCipherDecrypt>(
     cipher: &C,
     check: &mut Semiblock,
