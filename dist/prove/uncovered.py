@@ -27,10 +27,10 @@ UNCOVERED = [
      "A text's first piece has less than 2^32 bytes there, and is asked again whether it is too long."),
     ("riscv32/gcm", r"add_in_batches\.add_next", 135, 26,
      "A text of AES-GCM-SIV begins at a block, and has fixed lengths there: not each end in a batch is tried."),
-    (".*", r"process_on_planes|process_in_batches|process_rest", 26, 13, "Blocks end in any part of a batch, and not each end is tried."),
+    (".*", r"process_(on_planes|(in|all)_batches|rest)", 26, 13, "Blocks end in any part of a batch, and not each end is tried."),
     (".*/gcm.*", r"BorrowedGcm\.compare", 2, 3, "The export refuses lengths first, and they are asked for once more."),
     (".*/gcm_v1", r"BorrowedGcm\.put_pre_counter", 1, 1, "The export refuses a nonce of no bytes first, and it is asked for once more."),
-    (".*/gcm.*", r"process_on_planes|process_in_batches|process_rest", 400, 40, "They are for many blocks at once: here for those of which "
+    (".*/gcm.*", r"process_(on_planes|(in|all)_batches|rest)", 400, 40, "They are for many blocks at once: here for those of which "
      "AES-GCM-SIV derives keys, which are six at most."),
     (".*/gcm.*", r"hash_on|hash_piece|hash_singly|put_tag|put_tag_so_far", 30, 8,
      "A string ends in any part of three blocks: not each is tried."),

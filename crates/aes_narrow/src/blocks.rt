@@ -92,7 +92,7 @@ fn next_count<W: Word>(left: usize) -> usize
 // Processes each block of a slice, batch by batch, and what is left. In a call of its own, so that
 // its stack can be wiped.
 #[inline(never)]
-fn process_in_batches<D: PlaneCipher, W: Word>(words: &[W], blocks: &mut [Block])
+fn process_all_batches<D: PlaneCipher, W: Word>(words: &[W], blocks: &mut [Block])
     requires is_schedule { IsFullSchedule W.bits W.BLOCKS words.now }
     ensures { Each (D.processed (fips.key_expansion (key_of_planes W.bits W.BLOCKS words.now)))
         blocks.old blocks.new }
@@ -113,6 +113,6 @@ pub fn process_on_words<D: PlaneCipher, W: Word>(words: &[W], blocks: &mut [Bloc
     ensures { Each (D.processed (fips.key_expansion (key_of_planes W.bits W.BLOCKS words.now)))
         blocks.old blocks.new }
 {
-    process_in_batches::<D, W>(words, blocks);
+    process_all_batches::<D, W>(words, blocks);
     wipe_stack::<BLOCKS_STACK>();
 }
