@@ -1,3 +1,4 @@
+-- Twelve words a turn, which are three round keys: the first of them straddles two steps of six words.
 use Rattle.std.proofs.Common.{◌+◌, ◌*◌, refl, ◌∙◌, arith}
 use Rattle.aes_planes.proofs.KeySchedule.Forms.{form, loaded, none, more, counted_two, all, rotated}
 use Rattle.aes_planes.proofs.KeySchedule.Forms.{plain, straddled}

@@ -1,3 +1,4 @@
+-- Two round keys a turn, the first by a rotated word and the second by a substituted one; the last one follows the loop.
 use Rattle.std.proofs.Common.{◌≡◌, ◌+◌, ◌*◌, refl, ◌∙◌, subst, arith}
 use Rattle.aes_planes.proofs.KeySchedule.Forms.{AreStored, form, loaded, none, stored_at, more}
 use Rattle.aes_planes.proofs.KeySchedule.Forms.{counted_two, all, rotated, substituted}

@@ -1,3 +1,4 @@
+-- In each of the three cases, two, six or ten bytes, what is written is the encoded length.
 use Rattle.std.proofs.Common.{◌∙◌, ℕ, List, ◌∷◌, ◌++◌, length, drop, replicate, ap, sym, arith, refl, slice_set}
 use borrow.Rule.Slice.PartMut.{put_mid}
 use Rattle.aes_planes.specs.BigEndian.{bytes}

@@ -1,12 +1,15 @@
+-- The wrapped key by the twelve steps of W, each by the block that it encrypts.
 use Rattle.std.proofs.Common.{◌≡◌, ℕ, suc, List, [], ◌∷◌, ◌++◌, ◌∙◌, ap, drop, refl, take}
 use Rattle.aes_planes.specs.BigEndian.{bytes}
 use Rattle.aes_planes.specs.Fips197.{cipher_with, key_expansion}
 use Rattle.key_wrap.specs.KeyWrap.{integrity_check, number_added, wrap_step, wrapped, wrapped_after}
 use Rattle.key_wrap.proofs.examples.wrapped_128_example.Goals as goal
 
+-- the round keys of the example
 abbrev w : List (List ℕ)
 w = key_expansion (bytes 16 0x000102030405060708090a0b0c0d0e0f)
 
+-- what W begins with: the integrity check, and the two semiblocks of the key
 abbrev begun : List (List ℕ)
 begun = integrity_check ∷ bytes 8 0x0011223344556677 ∷ bytes 8 0x8899aabbccddeeff ∷ []
 

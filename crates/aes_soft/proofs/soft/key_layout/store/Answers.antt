@@ -1,3 +1,4 @@
+-- One round key a turn: those before it are stored as the layout defers them, and the others are still as they were.
 use Rattle.std.proofs.Common.{◌≡◌, inl, inr, ℕ, ◌*◌, ◌%◌, map, replicate, refl, ap, sym, ◌∙◌, arith}
 use Rattle.std.proofs.lemmas.Bool.{cases_lt}
 use Rattle.aes_planes.specs.Fips197.{inv_shift_times}
