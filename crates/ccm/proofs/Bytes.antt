@@ -52,7 +52,8 @@ low_bytes (suc q) a j =
     let whole : a * 256 ^ suc q + j ≡ a * 256 * p + j =
     ap (λ n. a * n + j) (pow-suc 256 q ∙ mul_comm p 256)
     ∙ ap (λ n. n + j) (sym (mul_assoc a 256 p)) in
-    let quotient : (a * 256 * p + j) / p ≡ a * 256 + j / p = mul-add-div_right (power_positive q) (a * 256) j in
+    let quotient : (a * 256 * p + j) / p ≡ a * 256 + j / p =
+    mul-add-div_right (power_positive q) (a * 256) j in
     let first : (a * 256 ^ suc q + j) / p % 256 ≡ j / p % 256 =
     ap (λ n. n / p % 256) whole ∙ ap (λ n. n % 256) quotient ∙ omega arith in
     (λ t. first t ∷ (ap (bytes q) whole ∙ low_bytes q (a * 256) j) t)
@@ -82,7 +83,8 @@ only_zero (suc q) r small is =
     let first : r / p % 256 ≡ 0 / p % 256 = cc is in
     let others : bytes q r ≡ bytes q 0 = cc is in
     let below : r / p < 256 =
-    (div-lt_iff_lt-mul (power_positive q)).1 (omega (arith, small, pow-suc 256 q, mul_comm p 256)) in
+    (div-lt_iff_lt-mul (power_positive q)).1
+    (omega (arith, small, pow-suc 256 q, mul_comm p 256)) in
     let none : r / p < 1 = omega (arith, first, below, zero-div p) in
     only_zero q r (omega (arith, (div-lt_iff_lt-mul (power_positive q)).0 none)) others
 

@@ -1,4 +1,5 @@
--- The bytes are summed in runs: with what is left of the first block, with whole blocks, and with part of the last.
+-- The bytes are summed in runs: with what is left of the first block, with whole blocks, and with
+-- part of the last.
 use Rattle.std.proofs.Common.{◌≡◌, ℕ, ◌∙◌, ◌+◌, ◌-◌, ◌/◌, ◌%◌, [], slice_index}
 use Rattle.std.proofs.Common.{slice_index_or, length, refl, ap, arith}
 use borrow.Rule.Slice.PartMut.{same_len_mid}

@@ -19,7 +19,8 @@ iv = bytes 16 0xf0f1f2f3f4f5f6f7f8f9fafbfcfdfeff
 
 -- the keystream
 abbrev four_blocks : List (List ℕ)
-four_blocks = bytes 16 0xec8cdf7398607cb0f2d21675ea9ea1e4 ∷ bytes 16 0x362b7c3c6773516318a077d7fc5073ae
+four_blocks = bytes 16 0xec8cdf7398607cb0f2d21675ea9ea1e4
+    ∷ bytes 16 0x362b7c3c6773516318a077d7fc5073ae
     ∷ bytes 16 0x6a2cc3787889374fbeb4c81b17ba6c44 ∷ bytes 16 0xe89c399ff0f198c6d40a31db156cabfe ∷ []
 
 -- the plaintext
@@ -29,7 +30,8 @@ text = bytes 16 0x6bc1bee22e409f96e93d7e117393172a ++ bytes 16 0xae2d8a571e03ac9
 
 -- its second and third block
 abbrev two_blocks : List (List ℕ)
-two_blocks = bytes 16 0x362b7c3c6773516318a077d7fc5073ae ∷ bytes 16 0x6a2cc3787889374fbeb4c81b17ba6c44 ∷ []
+two_blocks = bytes 16 0x362b7c3c6773516318a077d7fc5073ae
+    ∷ bytes 16 0x6a2cc3787889374fbeb4c81b17ba6c44 ∷ []
 
 -- 16 bytes of the text, from place 18 on
 abbrev part : List ℕ
@@ -51,5 +53,6 @@ returns-clause-part c =
     let known = c.keystream_128_example.ensures in
     sym (whole_blocks round_keys iv 18 part)
     ∙ plus_blocks round_keys (counter_block iv) two_blocks 18 part
-    (by_two (λ m. slice_index_or two_blocks m [] ≡ cipher_with round_keys (counter_block iv (18 / 16 + m)))
+    (by_two (λ m. slice_index_or two_blocks m []
+    ≡ cipher_with round_keys (counter_block iv (18 / 16 + m)))
     (sym known.second) (sym known.third)) (omega arith)

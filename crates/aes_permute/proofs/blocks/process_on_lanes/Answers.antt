@@ -1,4 +1,5 @@
--- Each of the three loops finishes the blocks before its count: two vectors a turn, one vector, and one block.
+-- Each of the three loops finishes the blocks before its count: two vectors a turn, one vector, and
+-- one block.
 use Rattle.std.proofs.Common.{ℕ, ◌+◌, ◌*◌, List, [], length, get_or, ap, ◌∙◌, arith}
 use Rattle.aes_cipher.proofs.SliceRuns.{finished}
 use Rattle.aes_planes.specs.Rounds.{all_rounds}

@@ -112,8 +112,8 @@ impl Deferred for Deferred3 {
     }
 }
 
-// Round `i` without its ShiftRows, which is deferred. `D` says how many are deferred after the round:
-// by this number its mixing finds each row where it is.
+// Round `i` without its ShiftRows, which is deferred. `D` says how many are deferred after it: by
+// this number the mixing finds each row where it is.
 #[inline(always)]
 pub(super) fn round<W: Word, D: Deferred>(
     state: &mut [W; 8],

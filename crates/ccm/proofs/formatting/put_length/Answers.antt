@@ -10,7 +10,8 @@ pub returns-then-additional-lt-IN_SIX_BYTES-clause-size
     : goal.returns-then-additional-lt-IN_SIX_BYTES-clause-size
 unfolding bytes
 returns-then-additional-lt-IN_SIX_BYTES-clause-size c =
-    sym (ap length (encoded_in_two c.args.additional c.requires.some (omega (arith, c.if-additional-lt-IN_SIX_BYTES.true))))
+    sym (ap length (encoded_in_two c.args.additional c.requires.some
+    (omega (arith, c.if-additional-lt-IN_SIX_BYTES.true))))
 
 pub returns-then-additional-lt-IN_SIX_BYTES-clause-length
     : goal.returns-then-additional-lt-IN_SIX_BYTES-clause-length
@@ -19,19 +20,23 @@ returns-then-additional-lt-IN_SIX_BYTES-clause-length c =
     let length =
     c.copy_from_slice.ensures.after
     ∙ last_of_64 6 2 a c.to_be_bytes-bytes.result refl c.to_be_bytes-bytes.ensures
-    ∙ sym (encoded_in_two a c.requires.some (omega (arith, c.if-additional-lt-IN_SIX_BYTES.true))) in
+    ∙ sym (encoded_in_two a c.requires.some (omega (arith, c.if-additional-lt-IN_SIX_BYTES.true)))
+    in
     (λ t. length t ++ ap (λ b. drop 2 (drop 0 b)) c.requires.empty t)
 
 pub returns-then-additional-lt-IN_TEN_BYTES-clause-size
     : goal.returns-then-additional-lt-IN_TEN_BYTES-clause-size
 unfolding bytes
 returns-then-additional-lt-IN_TEN_BYTES-clause-size c =
-    sym (ap length (encoded_in_six c.args.additional (omega (arith, c.if-additional-lt-IN_SIX_BYTES.false)) (omega (arith, c.if-additional-lt-IN_TEN_BYTES.true))))
+    sym (ap length (encoded_in_six c.args.additional
+    (omega (arith, c.if-additional-lt-IN_SIX_BYTES.false))
+    (omega (arith, c.if-additional-lt-IN_TEN_BYTES.true))))
 
 pub returns-clause-size : goal.returns-clause-size
 unfolding bytes
 returns-clause-size c =
-    sym (ap length (encoded_in_ten c.args.additional (omega (arith, c.if-additional-lt-IN_TEN_BYTES.false))))
+    sym (ap length (encoded_in_ten c.args.additional
+    (omega (arith, c.if-additional-lt-IN_TEN_BYTES.false))))
 
 pub returns-then-additional-lt-IN_TEN_BYTES-clause-length
     : goal.returns-then-additional-lt-IN_TEN_BYTES-clause-length

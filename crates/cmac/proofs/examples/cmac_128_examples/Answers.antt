@@ -1,4 +1,5 @@
--- The subkeys by doubling what zeros are encrypted to, and each tag by the blocks that are encrypted for it.
+-- The subkeys by doubling what zeros are encrypted to, and each tag by the blocks that are
+-- encrypted for it.
 use Rattle.std.proofs.Common.{List, ℕ, [], ◌++◌, ap, ◌∙◌, refl}
 use Rattle.aes_planes.specs.BigEndian.{bytes}
 use Rattle.aes_planes.specs.Fips197.{build, build_from, add_round_key, key_expansion}
@@ -55,14 +56,16 @@ unfolding bytes build build_from add_round_key before_last last_by doubled_block
 returns-clause-of_40 c =
     let known = c.encrypted_blocks.ensures in
     by_steps w forty_bytes encrypted_zeros (bytes 16 0xb148c17f309ee692287ae57cf12add49) known.zeros
-    (next_step w forty_bytes (bytes 16 0x3ad77bb40d7a3660a89ecaf32466ef97) 1 known.first ∙ known.second)
+    (next_step w forty_bytes (bytes 16 0x3ad77bb40d7a3660a89ecaf32466ef97) 1 known.first
+    ∙ known.second)
     ∙ known.of_40
 
 pub returns-clause-of_64 : goal.returns-clause-of_64
 unfolding bytes build build_from add_round_key before_last last_by doubled_block block_at chained
 returns-clause-of_64 c =
     let known = c.encrypted_blocks.ensures in
-    by_steps w sixty_four_bytes encrypted_zeros (bytes 16 0xc93d11bfaf08c5dc4d90b37b4dee002b) known.zeros
+    by_steps w sixty_four_bytes encrypted_zeros
+    (bytes 16 0xc93d11bfaf08c5dc4d90b37b4dee002b) known.zeros
     (next_step w sixty_four_bytes (bytes 16 0xb148c17f309ee692287ae57cf12add49) 2
     (next_step w sixty_four_bytes (bytes 16 0x3ad77bb40d7a3660a89ecaf32466ef97) 1 known.first
     ∙ known.second) ∙ known.third)

@@ -1,4 +1,5 @@
--- The masked bytes so far have a bit if and only if one of them isn't 0; at the end these are the last bytes.
+-- The masked bytes so far have a bit if and only if one of them isn't 0; at the end these are the
+-- last bytes.
 use Rattle.std.proofs.Common.{◌≡◌, ◌-◌, ◌+◌, ◌<◌, ◌∙◌, ℕ, ap, arith, below_more, bit_and, bit_or, drop}
 use Rattle.std.proofs.Common.{get_or, inl, inr, replicate, sym}
 use Rattle.std.proofs.lemmas.Bool.{cases_lt}

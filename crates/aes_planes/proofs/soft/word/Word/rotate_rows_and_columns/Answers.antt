@@ -1,4 +1,5 @@
--- One rotation, if no column moves; or two, of which a mask takes at each place the one that doesn't leave the row.
+-- One rotation, if no column moves; or two, of which a mask takes at each place the one that
+-- doesn't leave the row.
 use Rattle.std.proofs.Common.{◌+◌, ◌%◌, ◌<◌, ap, sym, ◌∙◌, arith}
 use Rattle.std.proofs.lemmas.Bool.{cases_lt}
 use Rattle.aes_planes.specs.Bits.{at}

@@ -1,4 +1,5 @@
--- Each call moves `ReachedBack` on: the start, two rounds or two shifts, a period of the loop, and the end.
+-- Each call moves `ReachedBack` on: the start, two rounds or two shifts, a period of the loop, and
+-- the end.
 use Rattle.std.proofs.Common.{◌≡◌, ℕ, ◌+◌, ◌-◌, ◌*◌, ◌/◌, map, refl, ap, subst, ◌∙◌, arith}
 use Rattle.aes_planes.specs.Fips197.{inv_shift_times}
 use Rattle.aes_planes.specs.Planes.{held}

@@ -1,4 +1,5 @@
--- Each call moves `Reached` on: the start, a period of the loop, the last rounds or two shifts, and the end.
+-- Each call moves `Reached` on: the start, a period of the loop, the last rounds or two shifts, and
+-- the end.
 use Rattle.std.proofs.Common.{◌≡◌, ℕ, ◌+◌, ◌-◌, ◌*◌, ◌/◌, map, refl, ap, ◌∙◌, arith}
 use Rattle.aes_planes.specs.Fips197.{inv_shift_times}
 use Rattle.aes_planes.specs.Planes.{held}
