@@ -12,7 +12,7 @@ use Rattle.aes_soft.specs.Stored.{IsFullSchedule, IsSchedule, HoldsBlocks}
 use Rattle.aes_soft.proofs.KeyOfPlanes.{key_of-schedule}
 use Rattle.aes_soft.proofs.StoredRoundKeys.{deferred_below, deferred_last, stored_first}
 use Rattle.aes_soft.proofs.StoredRoundKeys.{stored_later}
-use Rattle.aes_soft.proofs.WordsInPlace.{held_at, kept, HoldsAt}
+use Rattle.aes_soft.proofs.WordsInPlace.{held_at, key_kept, HoldsAt}
 use Rattle.aes_permute.specs.Keys.{encrypting, cipher_form, key_of_lanes, IsCipherSchedule}
 use Rattle.aes_permute.specs.Stored.{untower, key_untower}
 use Rattle.aes_permute.proofs.ExpandedLanes.{last_key_is}
@@ -90,7 +90,7 @@ pub all_put : {A : Type 0} (bits : A → List Bool) (n : ℕ) (stored : List (Li
 all_put bits n stored two before after done others put j below =
     let last : ℕ = length stored - 1 in
     elim (cases_lt j last) [
-      | inl low ↦ kept bits n before after (8 * last) (8 * j) _ others
+      | inl low ↦ key_kept bits n before after (8 * last) (8 * j) _ others
           (inl (omega (arith, low))) (done j low)
       | inr ge ↦
           let same : last ≡ j = omega (arith, ge, below) in

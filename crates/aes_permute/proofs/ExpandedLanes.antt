@@ -167,12 +167,13 @@ first_changed (x ∷ xs) k l =
     ∙ (λ i. bit_xor x k ∷ map (λ v. add_zero v i) xs) ∙ (λ i. bit_xor x k ∷ map-id xs i)
 
 -- sums of columns add to each column what is added to the first
-carried : (x z : ℕ → ℕ) (v k c : ℕ) → z 0 ≡ bit_xor (x 0) k → ((d : ℕ) → z (suc d) ≡ x (suc d))
+first_column_carried : (x z : ℕ → ℕ) (v k c : ℕ) → z 0 ≡ bit_xor (x 0) k
+    → ((d : ℕ) → z (suc d) ≡ x (suc d))
     → summed field_add z v c ≡ summed field_add x (bit_xor v k) c
-carried x z v k zero first others =
+first_column_carried x z v k zero first others =
     ap (λ u. bit_xor u v) first ∙ xor_assoc (x 0) k v ∙ ap (bit_xor (x 0)) (xor_comm k v)
-carried x z v k (suc c) first others =
-    λ i. bit_xor (others c i) (carried x z v k c first others i)
+first_column_carried x z v k (suc c) first others =
+    λ i. bit_xor (others c i) (first_column_carried x z v k c first others i)
 
 -- a byte added to the first lane is added to row 0 of each column
 constant_carried : (x : List ℕ) (v k r c : ℕ) → length x ≡ 16 → r < 4
@@ -183,7 +184,7 @@ constant_carried x v k r c l lt =
     let other : (i : ℕ) → i ≢ 0 → get_or z i 0 ≡ get_or x i 0 = λ i. get_or-set_other x 0 i _ 0 in
     let row : (i : ℕ) → i ≢ 0 → get_or z i 0 ≡ bit_xor (get_or x i 0) 0 =
     λ i h. other i h ∙ sym (add_zero (get_or x i 0)) in
-    carried (byte_at x r) (byte_at z r) v (cond (r == 0) k 0) c
+    first_column_carried (byte_at x r) (byte_at z r) v (cond (r == 0) k 0) c
     (by_four (λ r. byte_at z r 0 ≡ bit_xor (byte_at x r 0) (cond (r == 0) k 0))
     (get_or-set_same x 0 _ 0 (omega (arith, l)))
     (row 1 (omega arith)) (row 2 (omega arith)) (row 3 (omega arith)) r lt)
@@ -222,26 +223,26 @@ substituted_lanes y ks = map plus63 (sub_bytes (swizzled y ks))
 
 -- what is added to each row, from the last column `rows` rows on, with the constant of the S-box
 -- twice
-abbrev due : List ℕ → ℕ → ℕ → ℕ
-due y rows r = plus63 (plus63 (byte_at (sub_bytes y) ((r + rows) % 4) 3))
+abbrev added_to_row : List ℕ → ℕ → ℕ → ℕ
+added_to_row y rows r = plus63 (plus63 (byte_at (sub_bytes y) ((r + rows) % 4) 3))
 
 -- the columns from a substituted and rotated last column, row by row
 rotated_state : (x y : List ℕ) → length y ≡ 16
     → from_start x (substituted_lanes y rotated_column) (replicate 16 0x63)
-    ≡ state (λ r c. summed field_add (byte_at x r) (due y 1 r) c)
+    ≡ state (λ r c. summed field_add (byte_at x r) (added_to_row y 1 r) c)
 unfolding state build sub_bytes
 rotated_state x y =
     same_on_block (λ y. from_start x (substituted_lanes y rotated_column) (replicate 16 0x63))
-    (λ y. state (λ r c. summed field_add (byte_at x r) (due y 1 r) c)) (λ f. refl) y
+    (λ y. state (λ r c. summed field_add (byte_at x r) (added_to_row y 1 r) c)) (λ f. refl) y
 
 -- the columns from a substituted last column without a rotation, row by row
 substituted_state : (x y : List ℕ) → length y ≡ 16
     → from_start x (substituted_lanes y last_column) (replicate 16 0x63)
-    ≡ state (λ r c. summed field_add (byte_at x r) (due y 0 r) c)
+    ≡ state (λ r c. summed field_add (byte_at x r) (added_to_row y 0 r) c)
 unfolding state build sub_bytes
 substituted_state x y =
     same_on_block (λ y. from_start x (substituted_lanes y last_column) (replicate 16 0x63))
-    (λ y. state (λ r c. summed field_add (byte_at x r) (due y 0 r) c)) (λ f. refl) y
+    (λ y. state (λ r c. summed field_add (byte_at x r) (added_to_row y 0 r) c)) (λ f. refl) y
 
 -- the sums with a round constant are those of the standard
 rotated_sums : (x y : List ℕ) (k : ℕ) → length y ≡ 16
@@ -287,7 +288,7 @@ rotated_is u v b s z k hx hy l m is_b is_s f =
     (start_is v rotated_column s moved is_s i) (constants_untowered i))
     ∙ rotated_state (set x 0 (bit_xor (get_or x 0 0) k)) y y_long
     ∙ state_same _ _ (λ r c i j.
-    constant_carried x (due y 1 r) k r c x_long i
+    constant_carried x (added_to_row y 1 r) k r c x_long i
     ∙ summed_from (byte_at x r) _ _ c (ap (λ v. bit_xor v (cond (r == 0) k 0))
     (add_twice (byte_at (sub_bytes y) ((r + 1) % 4) 3) 0x63)))
     ∙ rotated_sums x (sub_bytes y) k (sub_length y y_long)

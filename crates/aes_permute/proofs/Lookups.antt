@@ -17,9 +17,10 @@ use Rattle.aes_permute.specs.Lookup.{AreIndices, Nibbles}
 -- ---- one table, at all lanes
 
 -- a lane that is zeroed or has an entry, in two tables that have the same there
-entry : (b c : Bool) (x y : ℕ) → (b || c) ≡ true → (c ≡ true → x ≡ y) → cond b 0 x ≡ cond b 0 y
-entry true c x y h same = refl
-entry false c x y h same = same h
+zeroed_or_same : (b c : Bool) (x y : ℕ) → (b || c) ≡ true → (c ≡ true → x ≡ y)
+    → cond b 0 x ≡ cond b 0 y
+zeroed_or_same true c x y h same = refl
+zeroed_or_same false c x y h same = same h
 
 -- lanes that are read at indices within sixteen, from lane 16 * o on,
 -- are looked up in a table that has those lanes
@@ -34,7 +35,7 @@ looked_from xs t o same (j ∷ js) i from to are =
     let place : 16 * (i / 16) + j ≡ 16 * o + j = omega (arith, from, to) in
     let rest = looked_from xs t o same js (suc i) (omega (arith, from))
     (omega (arith, to)) both.1 in
-    let here = entry (nat_le 128 j) (nat_lt j 16) (get_or xs (16 * (i / 16) + j) 0)
+    let here = zeroed_or_same (nat_le 128 j) (nat_lt j 16) (get_or xs (16 * (i / 16) + j) 0)
     (get_or t j 0) both.0
     (λ e. ap (λ n. get_or xs n 0) place ∙ same j (ltb-true j 16 e)) in
     λ k. here k ∷ rest k

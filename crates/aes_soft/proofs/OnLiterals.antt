@@ -22,11 +22,13 @@ Below zero P = Unit {0}
 Below (suc n) P = Below n P × P n
 
 -- the step: the last number, or one of those below
-last : (n i : ℕ) (P : ℕ → Type 0) → P n → (i < n → P i) → (i < n) ⊎ (n ≤ i) → i < suc n → P i
-last n i P here below (inl lt) h = below lt
-last n i P here below (inr le) h = let e : n ≡ i = omega arith in subst P e here
+last_or_below : (n i : ℕ) (P : ℕ → Type 0) → P n → (i < n → P i) → (i < n) ⊎ (n ≤ i) → i < suc n
+    → P i
+last_or_below n i P here below (inl lt) h = below lt
+last_or_below n i P here below (inr le) h = let e : n ≡ i = omega arith in subst P e here
 
 -- a claim that was shown at each number below n, one after the other, holds at any i below n
 pub below_tells : (n : ℕ) (P : ℕ → Type 0) → Below n P → (i : ℕ) → i < n → P i
 below_tells zero P all i h = absurd (omega arith)
-below_tells (suc n) P all i h = last n i P all.1 (λ lt. below_tells n P all.0 i lt) (cases_lt i n) h
+below_tells (suc n) P all i h = last_or_below n i P all.1 (λ lt. below_tells n P all.0 i lt)
+    (cases_lt i n) h

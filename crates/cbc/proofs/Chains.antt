@@ -115,8 +115,8 @@ module _ (xs ys : List (List ℕ)) (i : ℕ) (ahead : drop i xs ≡ drop i ys) w
 module _ (i n k : ℕ) (xs ys : List (List ℕ)) (same : k ≡ n) (fits : i + n ≤ length xs)
     (sized : length ys ≡ length (take k (drop i xs))) where
   -- what comes after the part stays
-  behind : drop (i + n) (put_mid i k xs ys) ≡ drop k (drop i xs)
-  behind =
+  rest_stays : drop (i + n) (put_mid i k xs ys) ≡ drop k (drop i xs)
+  rest_stays =
       let long : length ys ≡ n =
       omega (arith, sized, same, length-take k (drop i xs), length-drop i xs) in
       drop-put_mid i k xs ys (i + n) (omega arith) (omega arith) (omega arith)
@@ -137,7 +137,7 @@ module _ (i n k : ℕ) (xs ys : List (List ℕ)) (same : k ≡ n) (fits : i + n 
       let front : take (i + n) (put_mid i k xs ys) ≡ take i xs ++ ys =
       take-put_mid i k xs ys (i + n) (omega arith) (omega arith) in
       ap (λ l. l ++ unchained w last (drop (i + n) (put_mid i k xs ys))) front
-      ∙ ap (λ l. (take i xs ++ ys) ++ unchained w last l) behind
+      ∙ ap (λ l. (take i xs ++ ys) ++ unchained w last l) rest_stays
       ∙ append_assoc (take i xs) ys _
       ∙ ap (λ l. take i xs ++ l)
       (ap (λ l. l ++ unchained w last (drop k (drop i xs))) is
@@ -149,7 +149,7 @@ module _ (i n k : ℕ) (xs ys : List (List ℕ)) (same : k ≡ n) (fits : i + n 
       → last_of (last_of before (take k (drop i xs))) (drop (i + n) (put_mid i k xs ys))
       ≡ last_of before (drop i xs)
   last_part before =
-      ap (last_of (last_of before (take k (drop i xs)))) behind
+      ap (last_of (last_of before (take k (drop i xs)))) rest_stays
       ∙ sym (last_of_cut before (take k (drop i xs)) (drop k (drop i xs)))
       ∙ ap (last_of before) (take-append-drop k (drop i xs))
 

@@ -7,22 +7,22 @@ use Rattle.gcm_siv.specs.GcmSiv.{derived, authentication_key, encryption_key, Is
 use Rattle.gcm_siv.specs.Private.{derived_keys, halves_of_six, numbered}
 
 -- two keys are the halves of the ciphers of the first four numbered blocks
-four : (w : List (List ℕ)) (nonce : List ℕ) (first keys : List (List ℕ))
+two_keys : (w : List (List ℕ)) (nonce : List ℕ) (first keys : List (List ℕ))
     → first ≡ map (cipher_with w) (take 4 (numbered nonce))
     → take 3 keys ≡ halves_of_six (first ++ drop 4 (numbered nonce))
     → take 2 keys ≡ take 2 (derived_keys w nonce)
 unfolding numbered halves_of_six derived_keys derived
-four w nonce first keys is made =
+two_keys w nonce first keys is made =
     sym (take-take 2 3 keys (omega arith)) ∙ ap (take 2) made
     ∙ ap (λ l. take 2 (halves_of_six (l ++ drop 4 (numbered nonce)))) is
 
 -- three keys are the halves of the ciphers of all six numbered blocks
-six : (w : List (List ℕ)) (nonce : List ℕ) (first keys : List (List ℕ))
+three_keys : (w : List (List ℕ)) (nonce : List ℕ) (first keys : List (List ℕ))
     → first ≡ map (cipher_with w) (take 6 (numbered nonce))
     → take 3 keys ≡ halves_of_six (first ++ drop 6 (numbered nonce))
     → take 3 keys ≡ take 3 (derived_keys w nonce)
 unfolding numbered halves_of_six derived_keys derived
-six w nonce first keys is made =
+three_keys w nonce first keys is made =
     made ∙ ap (λ l. halves_of_six (l ++ drop 6 (numbered nonce))) is
 
 -- the derived keys: four ciphers for a key of 16 bytes, six for one of 32
@@ -35,14 +35,16 @@ derived_is w nonce first keys size (inl e) is made =
     let blocks : size / 8 + 2 ≡ 4 = omega (arith, e) in
     let count : size / 16 + 1 ≡ 2 = omega (arith, e) in
     ap (λ n. take n keys) count
-    ∙ four w nonce first keys (is ∙ ap (λ n. map (cipher_with w) (take n (numbered nonce))) blocks)
+    ∙ two_keys w nonce first keys
+    (is ∙ ap (λ n. map (cipher_with w) (take n (numbered nonce))) blocks)
     (made ∙ ap (λ n. halves_of_six (first ++ drop n (numbered nonce))) blocks)
     ∙ sym (ap (λ n. take n (derived_keys w nonce)) count)
 derived_is w nonce first keys size (inr e) is made =
     let blocks : size / 8 + 2 ≡ 6 = omega (arith, e) in
     let count : size / 16 + 1 ≡ 3 = omega (arith, e) in
     ap (λ n. take n keys) count
-    ∙ six w nonce first keys (is ∙ ap (λ n. map (cipher_with w) (take n (numbered nonce))) blocks)
+    ∙ three_keys w nonce first keys
+    (is ∙ ap (λ n. map (cipher_with w) (take n (numbered nonce))) blocks)
     (made ∙ ap (λ n. halves_of_six (first ++ drop n (numbered nonce))) blocks)
     ∙ sym (ap (λ n. take n (derived_keys w nonce)) count)
 

@@ -51,8 +51,8 @@ times_small b small = elim (cases_lt b (2 ^ 127)) [
 -- x^-1 undoes x where the element had no x^127
 even_back : (b : ℕ) → next_v (2 * b) ≡ b
 even_back b =
-    let turned : 2 * b ≡ b * 2 = omega arith in
-    ap next_v turned ∙ next_even b
+    let doubled : 2 * b ≡ b * 2 = omega arith in
+    ap next_v doubled ∙ next_even b
 
 -- x^-1 times the polynomial, which is 0 in the field
 none_of_polynomial : next_v polynomial ≡ 0
@@ -66,8 +66,8 @@ odd_back b =
     ∙ (λ t. bit_xor (even_back b t) (none_of_polynomial t)) ∙ xor_zero_r b
 
 -- x^-1 undoes x
-back : (b : ℕ) → b < 2 ^ 128 → next_v (times_x b) ≡ b
-back b small = elim (cases_lt b (2 ^ 127)) [
+times_x_undone : (b : ℕ) → b < 2 ^ 128 → next_v (times_x b) ≡ b
+times_x_undone b small = elim (cases_lt b (2 ^ 127)) [
   | inl lt ↦ ap next_v (times_low b lt) ∙ even_back b
   | inr le ↦ ap next_v (times_high b le small) ∙ odd_back b
 ]
@@ -95,7 +95,7 @@ back_by b (suc j) n small =
     let more : suc j + n ≡ j + suc n = omega arith in
     ap (λ m. next_v (v_at (times_power b m) j)) more
     ∙ ap next_v (back_by b j (suc n) small)
-    ∙ back (times_power b n) (power_small b n small)
+    ∙ times_x_undone (times_power b n) (power_small b n small)
 
 -- one power of x^-1 more, by the definition
 one_more : (y n : ℕ) → v_at y (suc n) ≡ next_v (v_at y n)
@@ -110,14 +110,14 @@ back_one b small =
 -- ---- products
 
 -- a sum is the same from its last term on
-turned : (n : ℕ) (f : ℕ → ℕ) → sum_of n f ≡ sum_of n (λ i. f (n - 1 - i))
+sum_from_last : (n : ℕ) (f : ℕ → ℕ) → sum_of n f ≡ sum_of n (λ i. f (n - 1 - i))
 unfolding sum_of
-turned zero f = refl
-turned (suc n) f =
+sum_from_last zero f = refl
+sum_from_last (suc n) f =
     let rest : ℕ = sum_of n (λ i. f (suc n - 1 - suc i)) in
     let last : n ≡ suc n - 1 - 0 = omega arith in
     ap (λ s. bit_xor s (f n))
-    (turned n f ∙ sum-agree n (λ i. f (n - 1 - i)) (λ i. f (suc n - 1 - suc i))
+    (sum_from_last n f ∙ sum-agree n (λ i. f (n - 1 - i)) (λ i. f (suc n - 1 - suc i))
     (λ i h. let same : n - 1 - i ≡ suc n - 1 - suc i = omega arith in ap f same))
     ∙ xor_comm rest (f n)
     ∙ ap (λ m. bit_xor (f m) rest) last
@@ -137,7 +137,7 @@ times_is : (a b : ℕ) → b < 2 ^ 128 → times a b ≡ product a (times_power 
 unfolding times product bit_of
 times_is a b small =
     times_terms a b 128
-    ∙ turned 128 (λ i. term (a / 2 ^ i % 2) (times_power b i))
+    ∙ sum_from_last 128 (λ i. term (a / 2 ^ i % 2) (times_power b i))
     ∙ sum-agree 128 (λ i. term (a / 2 ^ (127 - i) % 2) (times_power b (127 - i)))
     (λ i. term (bit_of a i) (v_at (times_power b 127) i))
     (λ i h.

@@ -54,9 +54,9 @@ module _ (w : List (List ℕ)) (keys : AreRoundKeys w)
     (second : (a b : List ℕ) → length a ≡ 8 → drop 8 (a ++ b) ≡ b)
     (back : (b : List ℕ) → take 8 b ++ drop 8 b ≡ b) where
   -- what a step of the inverse gives to InvCipher is a block
-  given : (a : List ℕ) (rs : List (List ℕ)) (t : ℕ) → All IsSemiblock (a ∷ rs) → 1 ≤ length rs
+  given_block : (a : List ℕ) (rs : List (List ℕ)) (t : ℕ) → All IsSemiblock (a ∷ rs) → 1 ≤ length rs
       → IsBlock (number_added a t ++ get_or rs (length rs - 1) [])
-  given a rs t all some =
+  given_block a rs t all some =
       let is_n : IsSemiblock (number_added a t) = added_semiblock a t in
       let is_r : IsSemiblock (get_or rs (length rs - 1) []) =
       All-get_or IsSemiblock rs (length rs - 1) [] (omega (arith, some))
@@ -73,7 +73,7 @@ module _ (w : List (List ℕ)) (keys : AreRoundKeys w)
       let b : List ℕ = inv_cipher_with w (number_added a t ++ get_or rs last []) in
       let is : IsBlock b =
       inv_cipher_block w keys (number_added a t ++ get_or rs last [])
-      (given a rs t all (omega (arith, some))) in
+      (given_block a rs t all (omega (arith, some))) in
       All-cons IsSemiblock (take 8 b) (drop 8 b ∷ take last rs)
       (omega (arith, length-take 8 b, is.0), take_bytes 8 b is.1)
       (All-cons IsSemiblock (drop 8 b) (take last rs)
@@ -100,7 +100,7 @@ module _ (w : List (List ℕ)) (keys : AreRoundKeys w)
       let whole : cipher_with w (take 8 (inv_cipher_with w (n ++ r)) ++ drop 8 (inv_cipher_with w (n ++ r)))
       ≡ n ++ r =
       ap (cipher_with w) (back (inv_cipher_with w (n ++ r)))
-      ∙ redone (n ++ r) (given a rs t all (omega (arith, some))) in
+      ∙ redone (n ++ r) (given_block a rs t all (omega (arith, some))) in
       let ends : take last rs ++ r ∷ [] ≡ rs =
       sym (take_more rs last [] inside) ∙ take_all (last + 1) rs (omega (arith, inside)) in
       (λ j. number_added (take 8 (whole j)) t ∷ (take last rs ++ drop 8 (whole j) ∷ []))

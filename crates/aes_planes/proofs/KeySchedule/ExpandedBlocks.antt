@@ -68,9 +68,9 @@ module _ (key : List ℕ) (nk : ℕ) (own : key_words key ≡ nk) (some : 0 < nk
     (back : i ≡ b + nk)
     (before : i ≡ suc p) where
   -- the recursion of the key expansion, with the places of both earlier words by name
-  next : expanded_word key i ≡ add_words (expanded_word key b)
+  word_by_recursion : expanded_word key i ≡ add_words (expanded_word key b)
       (added_word nk i (expanded_word key p))
-  next =
+  word_by_recursion =
       let less : i - key_words key ≡ b = omega (arith, own, back) in
       let one : i - 1 ≡ p = omega (arith, before) in
       expanded_word_next key i (le-ltb i (key_words key) (omega (arith, own, back)))
@@ -88,7 +88,7 @@ module _ (key : List ℕ) (nk : ℕ) (own : key_words key ≡ nk) (some : 0 < nk
       let none : i % nk ≡ 0 = ap (λ v. v % nk) at ∙ mod-mul-add j nk 0 some in
       let whole : i / nk ≡ j = ap (λ v. v / nk) at ∙ div-mul-add j nk 0 some in
       let w : List ℕ = expanded_word key p in
-      next ∙ ap (add_words (expanded_word key b))
+      word_by_recursion ∙ ap (add_words (expanded_word key b))
       (added_word_constant nk i w none
       ∙ ap (λ v. add_words (sub_word (rot_word w)) (round_constant v)) whole)
 
@@ -160,7 +160,8 @@ module _ (key : List ℕ) (nk : ℕ) (own : key_words key ≡ nk) (four : 4 ≤ 
       → expanded_word key i ≡ add_words (expanded_word key b) (expanded_word key p)
   plain_word i b p q e at some lt which back before =
       let left : i % nk ≡ e = ap (λ v. v % nk) at ∙ mod-mul-add q nk e lt in
-      next key nk own (omega arith) i b p back before ∙ ap (add_words (expanded_word key b))
+      word_by_recursion key nk own (omega arith) i b p back before
+      ∙ ap (add_words (expanded_word key b))
       (added_word_same nk i (expanded_word key p) (λ z. absurd (omega (arith, left, z, some)))
       (elim which [
         | inl le ↦ inl le
@@ -217,7 +218,7 @@ module _ (key : List ℕ) (nk : ℕ) (own : key_words key ≡ nk) (four : 4 ≤ 
       let left : m % nk ≡ 4 = ap (λ v. v % nk) spot ∙ mod-mul-add (suc j) nk 4 (omega arith) in
       let w : List ℕ = expanded_word key (p + 3) in
       sums_at 0 3 o m (suc j) 4 _ back spot (omega arith) (inr (inr refl))
-      (next key nk own (omega arith) m o (p + 3) back (omega arith)
+      (word_by_recursion key nk own (omega arith) m o (p + 3) back (omega arith)
       ∙ ap (add_words (expanded_word key o))
       (added_word_substituted nk m w (λ z. absurd (omega (arith, left, z))) (omega arith) left
       ∙ sym (substituted_plain (λ c. expanded_word key (p + c))

@@ -11,17 +11,18 @@ use Rattle.aes_planes.proofs.KeySchedule.ExpandedBlocks.{straddled_at, first_blo
 use Rattle.aes_planes.proofs.KeySchedule.ExpandedBlocks.{last_block}
 
 -- the layers after a step that runs one substitution of n layers
-pub counted : (a b c i n : ℕ) → b ≡ a + i * n → c ≡ b + n → c ≡ a + (i + 1) * n
-counted a b c i n e f =
+pub layers_counted : (a b c i n : ℕ) → b ≡ a + i * n → c ≡ b + n → c ≡ a + (i + 1) * n
+layers_counted a b c i n e f =
     let next : (i + 1) * n ≡ i * n + n = ap (λ v. v * n) (omega arith) ∙ suc-mul i n in
     omega (arith, e, f, next)
 
 -- the layers after a step that runs two substitutions of n layers
-pub counted_two : (a b c d i n : ℕ) → b ≡ a + 2 * i * n → c ≡ b + n → d ≡ c + n
+pub layers_counted_twice : (a b c d i n : ℕ) → b ≡ a + 2 * i * n → c ≡ b + n → d ≡ c + n
     → d ≡ a + 2 * (i + 1) * n
-counted_two a b c d i n e f h =
+layers_counted_twice a b c d i n e f h =
     let two : 2 * (i + 1) ≡ 2 * i + 1 + 1 = omega arith in
-    counted a c d (2 * i + 1) n (counted a b c (2 * i) n e f) h ∙ ap (λ v. a + v * n) (sym two)
+    layers_counted a c d (2 * i + 1) n (layers_counted a b c (2 * i) n e f) h
+    ∙ ap (λ v. a + v * n) (sym two)
 
 -- round keys 0 to m - 1 of a key, where `stored` says that one is stored for a block
 abbrev pub AreStored : (ℕ → List ℕ → Type 0) → List ℕ → ℕ → Type 0
@@ -49,12 +50,12 @@ module _ {V : Type 0} (s : Form V) where
   open s use {are, key, nk, four, sized}
 
   -- the standard's Nk, from the length of the key
-  own : key_words key ≡ nk
-  own = omega (arith, sized)
+  key_words_are : key_words key ≡ nk
+  key_words_are = omega (arith, sized)
 
   -- no round key yet
-  pub none : (stored : ℕ → List ℕ → Type 0) → AreStored stored key 0
-  none stored j lt = absurd (omega arith)
+  pub none_stored : (stored : ℕ → List ℕ → Type 0) → AreStored stored key 0
+  none_stored stored j lt = absurd (omega arith)
 
   -- one of the round keys that are stored
   pub stored_at : (stored : ℕ → List ℕ → Type 0) (m j o : ℕ) → AreStored stored key m
@@ -63,30 +64,34 @@ module _ {V : Type 0} (s : Form V) where
   stored_at stored m j o done lt at = subst (λ v. stored j (block_at key v)) (sym at) (done j lt)
 
   -- one round key more is stored, and those before it stay
-  pub more : {old new : ℕ → List ℕ → Type 0} {last m o : ℕ} (k : ℕ) → AreStored old key m → m ≤ last
+  pub one_more_stored : {old new : ℕ → List ℕ → Type 0} {last m o : ℕ} (k : ℕ) → AreStored old key m
+      → m ≤ last
       → ((j : ℕ) (x : List ℕ) → j ≤ last → j ≢ m → old j x → new j x) → new m (block_at key o)
       → o ≡ 4 * m → k ≡ m + 1 → AreStored new key k
-  more {old} {new} {last} {m} {o} k done fits stay is at next j lt = elim (cases_lt j m) [
-    | inl low ↦ stay j (block_at key (4 * j)) (omega arith) (omega arith) (done j low)
-    | inr ge ↦
-        let e : m ≡ j = omega (arith, ge, lt, next) in
-        let f : o ≡ 4 * j = omega (arith, at, e) in
-        subst (λ v. new v (block_at key (4 * j))) e (subst (λ v. new m (block_at key v)) f is)
-  ]
+  one_more_stored {old} {new} {last} {m} {o} k done fits stay is at next j lt =
+      elim (cases_lt j m) [
+        | inl low ↦ stay j (block_at key (4 * j)) (omega arith) (omega arith) (done j low)
+        | inr ge ↦
+            let e : m ≡ j = omega (arith, ge, lt, next) in
+            let f : o ≡ 4 * j = omega (arith, at, e) in
+            subst (λ v. new v (block_at key (4 * j))) e (subst (λ v. new m (block_at key v)) f is)
+      ]
 
   -- all round keys of a key are stored
-  pub all : (stored : ℕ → List ℕ → Type 0) (m last : ℕ) → AreStored stored key m → m ≡ last + 1
+  pub all_stored : (stored : ℕ → List ℕ → Type 0) (m last : ℕ) → AreStored stored key m
+      → m ≡ last + 1
       → last ≡ nk + 6
       → (i : ℕ) → i ≤ last → stored i (round_key (key_expansion key) i)
-  all stored m last done whole rounds i le =
-      subst (stored i) (sym (round_key_at key i (4 * i) refl (omega (arith, own))))
+  all_stored stored m last done whole rounds i le =
+      subst (stored i) (sym (round_key_at key i (4 * i) refl (omega (arith, key_words_are))))
       (done i (omega arith))
 
   module _ (w : V) where
     -- four words of the key itself
     pub loaded : (o p : ℕ) → are w (take 16 (drop p key)) → p ≡ 4 * o → o + 4 ≤ nk
         → are w (block_at key o)
-    loaded o p is at room = subst (are w) (sym (key_block key nk own four o p at room sized)) is
+    loaded o p is at room =
+        subst (are w) (sym (key_block key nk key_words_are four o p at room sized)) is
 
     -- the last two of four words and the first two of the next four
     pub straddled : (o p m : ℕ) → are w (columns_straddled (block_at key o) (block_at key p))
@@ -102,17 +107,17 @@ module _ {V : Type 0} (s : Form V) where
     rotated j o p m is lt at back before =
         subst (are w) (ap (λ v. columns_summed 1 3 (block_at key o)
         (add_round_key (sub_bytes (block_at key p)) (constant_block v))) (listed_power j lt)
-        ∙ first_block key nk own four j o p m at back before) is
+        ∙ first_block key nk key_words_are four j o p m at back before) is
 
     -- the four words after the four at a multiple of nk, where nk is 8
     pub substituted : (j o p m : ℕ)
         → are w (columns_summed 0 3 (block_at key o) (sub_bytes (block_at key p)))
         → nk ≡ 8 → o ≡ j * nk + 4 → m ≡ o + nk → m ≡ p + 4 → are w (block_at key m)
     substituted j o p m is eight at back before =
-        subst (are w) (second_block key nk own four j o p m eight at back before) is
+        subst (are w) (second_block key nk key_words_are four j o p m eight at back before) is
 
     -- the four words two after a multiple of nk, where nk is 6
     pub plain : (j o p m : ℕ) → are w (columns_summed 0 1 (block_at key o) (block_at key p))
         → nk ≡ 6 → o ≡ j * nk + 2 → m ≡ o + nk → m ≡ p + 2 → are w (block_at key m)
     plain j o p m is six at back before =
-        subst (are w) (last_block key nk own four j o p m six at back before) is
+        subst (are w) (last_block key nk key_words_are four j o p m six at back before) is

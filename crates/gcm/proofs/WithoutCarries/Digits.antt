@@ -281,9 +281,9 @@ carryless_left_shifted m r a y small =
     drop p c = let e : 0 * p ≡ 0 = omega arith in ap (λ z. bit_xor z c) e ∙ xor_zero_l c
 
 -- the lowest bits of a product of 58 bits that is moved by a digit: of 16 digits the last is 0
-fifteen : (n : ℕ) → n < 2 ^ 58 → bit_and (n * 16) (holes 16) ≡ bit_and n (holes 16) * 16
+digits_moved : (n : ℕ) → n < 2 ^ 58 → bit_and (n * 16) (holes 16) ≡ bit_and n (holes 16) * 16
 unfolding holes
-fifteen n small =
+digits_moved n small =
     let above : n ≡ 0 * 2 ^ 60 + n = omega arith in
     let back : n * 16 / 16 ≡ n = omega arith in
     let even : n * 16 % 2 ≡ 0 = omega arith in
@@ -297,10 +297,10 @@ fifteen n small =
 
 -- the product of bits r, r + 4, .. of one word and bits s, s + 4, .. of another: the sums of its
 -- bits are at t, t + 4, .., and are those without carries
-part : (x y r s t : ℕ) → r < 4 → s < 4 → t ≡ (r + s) % 4
+product_at_digits : (x y r s t : ℕ) → r < 4 → s < 4 → t ≡ (r + s) % 4
     → bit_and (every_fourth x r * every_fourth y s) (holes 16 * 2 ^ t)
     ≡ carryless 32 (every_fourth x r) (every_fourth y s)
-part x y r s t hr hs is =
+product_at_digits x y r s t hr hs is =
     let a : ℕ = bit_and (x / 2 ^ r) (holes 8) in
     let b : ℕ = bit_and (y / 2 ^ s) (holes 8) in
     let whole : 32 - r + r ≡ 32 = omega (arith, hr) in
@@ -348,24 +348,24 @@ part x y r s t hr hs is =
           ∙ ap (λ p. bit_and (n * p) (holes 16 * 2 ^ t)) (pow-add 2 4 t)
           ∙ ap (λ z. bit_and z (holes 16 * 2 ^ t)) (grouped n 16 (2 ^ t) ∙ none)
           ∙ masked_shifted t (n * 16) (holes 16) 0 (pow_pos t)
-          ∙ ap (λ z. z * 2 ^ t) (fifteen n small)
+          ∙ ap (λ z. z * 2 ^ t) (digits_moved n small)
           ∙ sym (grouped (bit_and n (holes 16)) 16 (2 ^ t))
           ∙ ap (λ p. bit_and n (holes 16) * p) (sym (pow-add 2 4 t))
           ∙ ap (λ k. bit_and n (holes 16) * 2 ^ k) (sym four)
     ]
 
 -- a sum of four terms is the same from its last term on
-turn : (g : ℕ → ℕ) → sum_of 4 (λ t. g ((t + 3) % 4)) ≡ sum_of 4 g
+sum_from_last : (g : ℕ → ℕ) → sum_of 4 (λ t. g ((t + 3) % 4)) ≡ sum_of 4 g
 unfolding sum_of
-turn g = sum-first 3 (λ t. g ((t + 3) % 4)) ∙ xor_comm (g 3) (sum_of 3 g)
+sum_from_last g = sum-first 3 (λ t. g ((t + 3) % 4)) ∙ xor_comm (g 3) (sum_of 3 g)
 
 -- a sum of four terms is the same from any of its terms on
-turned : (g : ℕ → ℕ) (r : ℕ) → r < 4 → sum_of 4 (λ t. g ((t + 4 - r) % 4)) ≡ sum_of 4 g
+sum_from_any : (g : ℕ → ℕ) (r : ℕ) → r < 4 → sum_of 4 (λ t. g ((t + 4 - r) % 4)) ≡ sum_of 4 g
 unfolding sum_of
-turned g =
+sum_from_any g =
     by_four (λ r. sum_of 4 (λ t. g ((t + 4 - r) % 4)) ≡ sum_of 4 g)
-    refl (turn g) (turn (λ u. g ((u + 3) % 4)) ∙ turn g)
-    (turn (λ u. g ((u + 2) % 4)) ∙ turn (λ u. g ((u + 3) % 4)) ∙ turn g)
+    refl (sum_from_last g) (sum_from_last (λ u. g ((u + 3) % 4)) ∙ sum_from_last g)
+    (sum_from_last (λ u. g ((u + 2) % 4)) ∙ sum_from_last (λ u. g ((u + 3) % 4)) ∙ sum_from_last g)
 
 -- the sum of the products of which the bits are at t, t + 4, ..
 unfoldable pub products_at : ℕ → ℕ → ℕ → ℕ
@@ -397,10 +397,10 @@ products_sum x y hx hy =
     ∙ sum-agree 4
     (λ r. bit_and (every_fourth x r * every_fourth y ((t + 4 - r) % 4)) (holes 16 * 2 ^ t))
     (λ r. term r ((t + 4 - r) % 4))
-    (λ r hr. part x y r ((t + 4 - r) % 4) t hr (omega arith) (omega (arith, hr, ht))))
+    (λ r hr. product_at_digits x y r ((t + 4 - r) % 4) t hr (omega arith) (omega (arith, hr, ht))))
     ∙ sum-swap 4 4 (λ t r. term r ((t + 4 - r) % 4))
     ∙ sum-agree 4 (λ r. sum_of 4 (λ t. term r ((t + 4 - r) % 4))) (λ r. sum_of 4 (term r))
-    (λ r hr. turned (term r) r hr)
+    (λ r hr. sum_from_any (term r) r hr)
     ∙ sum-agree 4 (λ r. sum_of 4 (term r)) (λ r. carryless 32 (every_fourth x r) y)
     (λ r hr. sym (sum-through (carryless 32 (every_fourth x r))
     (carryless_right_zero 32 (every_fourth x r))

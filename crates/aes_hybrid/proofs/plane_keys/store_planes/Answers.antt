@@ -1,7 +1,7 @@
 -- Each round key comes to its eight words: the first as it is, those between out of the tower basis, and the last.
 use Rattle.std.proofs.Common.{◌≡◌, inl, inr, ℕ, ◌*◌, ap, sym, ◌∙◌, arith}
 use Rattle.std.proofs.lemmas.Bool.{cases_lt}
-use Rattle.aes_soft.proofs.WordsInPlace.{kept}
+use Rattle.aes_soft.proofs.WordsInPlace.{key_kept}
 use Rattle.aes_hybrid.proofs.PlaneKeys.{wanted, first_wanted, inner_wanted, planes_keyed}
 use Rattle.aes_hybrid.proofs.PlaneKeys.{planes_key, two_or_more, put_at, all_put}
 use Rattle.aes_hybrid.proofs.plane_keys.store_planes.Goals as goal
@@ -28,7 +28,7 @@ keys-preserved g c =
     let inv = c.keys.invariant in
     record {
       done = λ j lt. elim (cases_lt j i) [
-        | inl low ↦ kept g.W.Word.bits g.W.Word.BLOCKS c.keys.words
+        | inl low ↦ key_kept g.W.Word.bits g.W.Word.BLOCKS c.keys.words
             c.store_in_every_slot-in-keys.new.words (8 * i) (8 * j) _
             c.store_in_every_slot-in-keys.ensures.others (inl (omega arith)) (inv.done j low)
         | inr ge ↦

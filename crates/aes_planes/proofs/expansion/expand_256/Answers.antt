@@ -1,7 +1,10 @@
--- Two round keys a turn, the first by a rotated word and the second by a substituted one; the last one follows the loop.
+-- Two round keys a turn, the first by a rotated word and the second by a substituted one; the last
+-- one follows the loop.
 use Rattle.std.proofs.Common.{◌≡◌, ◌+◌, ◌*◌, refl, ◌∙◌, subst, arith}
-use Rattle.aes_planes.proofs.KeySchedule.Forms.{AreStored, form, loaded, none, stored_at, more}
-use Rattle.aes_planes.proofs.KeySchedule.Forms.{counted_two, all, rotated, substituted}
+use Rattle.aes_planes.proofs.KeySchedule.Forms.{AreStored, form, loaded, none_stored, stored_at}
+use Rattle.aes_planes.proofs.KeySchedule.Forms.{one_more_stored}
+use Rattle.aes_planes.proofs.KeySchedule.Forms.{layers_counted_twice, all_stored, rotated}
+use Rattle.aes_planes.proofs.KeySchedule.Forms.{substituted}
 use Rattle.aes_planes.proofs.KeySchedule.ExpandedBlocks.{block_at}
 use Rattle.aes_planes.proofs.expansion.expand_256.Goals as goal
 
@@ -11,7 +14,8 @@ expand-init g c =
     let even = loaded s _ 0 0 c.load-even.ensures refl (omega arith) in
     let odd = loaded s _ 4 16 c.load-odd.ensures refl (omega arith) in
     record {
-      done = more s 2 (more s 1 (none s (g.F.FourWords.IsStored c.args.stored.now 14))
+      done = one_more_stored s 2
+          (one_more_stored s 1 (none_stored s (g.F.FourWords.IsStored c.args.stored.now 14))
           (omega arith) c.store.ensures.others
           (c.store.ensures.there _ even) refl refl) (omega arith) c.store-2.ensures.others
           (c.store-2.ensures.there _ odd) refl
@@ -34,7 +38,8 @@ expand-preserved g c =
     (c.rotated-even.ensures.words _ _ even_before inv.last_four) (omega arith) (omega arith)
     (omega arith)
     (omega arith) in
-    let one_more = more s (2 * i + 3) inv.done (omega arith) c.store-in-expand.ensures.others
+    let one_more = one_more_stored s (2 * i + 3) inv.done (omega arith)
+    c.store-in-expand.ensures.others
     (c.store-in-expand.ensures.there _ even) (omega arith) (omega arith) in
     let odd_before = c.read_back-odd_before.ensures _
     (stored_at s (g.F.FourWords.IsStored c.store-in-expand.new.stored 14)
@@ -42,11 +47,12 @@ expand-preserved g c =
     let odd = substituted s _ i (8 * i + 4) (8 * (i + 1)) (8 * (i + 1) + 4)
     (c.substituted-odd.ensures.words _ _ odd_before even) refl (omega arith) (omega arith) refl in
     record {
-      done = more s (2 * (i + 1) + 2) one_more (omega arith) c.store-in-expand-2.ensures.others
+      done = one_more_stored s (2 * (i + 1) + 2) one_more (omega arith)
+          c.store-in-expand-2.ensures.others
           (c.store-in-expand-2.ensures.there _ odd) (omega arith) (omega arith);
       first_four = even;
       last_four = odd;
-      layers = counted_two _ _ _ _ i _ inv.layers c.rotated-even.ensures.layers
+      layers = layers_counted_twice _ _ _ _ i _ inv.layers c.rotated-even.ensures.layers
           c.substituted-odd.ensures.layers;
       same_length = c.store-in-expand-2.ensures.same_length ∙ c.store-in-expand.ensures.same_length
           ∙ inv.same_length;
@@ -70,6 +76,6 @@ returns-clause-keys g c =
     (subst (λ v. g.F.FourWords.AreWords c.expand.odd (block_at c.args.key.now (8 * v + 4))) six
     inv.last_four))
     (omega arith) refl refl refl in
-    all s (g.F.FourWords.IsStored c.store-3.new.stored 14) 15 14
-    (more s 15 done (omega arith) c.store-3.ensures.others
+    all_stored s (g.F.FourWords.IsStored c.store-3.new.stored 14) 15 14
+    (one_more_stored s 15 done (omega arith) c.store-3.ensures.others
     (c.store-3.ensures.there _ last) refl refl) refl refl

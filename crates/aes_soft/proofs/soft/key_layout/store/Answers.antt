@@ -1,4 +1,5 @@
--- One round key a turn: those before it are stored as the layout defers them, and the others are still as they were.
+-- One round key a turn: those before it are stored as the layout defers them, and the others are
+-- still as they were.
 use Rattle.std.proofs.Common.{◌≡◌, inl, inr, ℕ, ◌*◌, ◌%◌, map, replicate, refl, ap, sym, ◌∙◌, arith}
 use Rattle.std.proofs.lemmas.Bool.{cases_lt}
 use Rattle.aes_planes.specs.Fips197.{inv_shift_times}
@@ -6,7 +7,7 @@ use Rattle.aes_planes.specs.Planes.{held, plus63}
 use Rattle.aes_soft.specs.Stored.{deferred}
 use Rattle.aes_soft.proofs.StoredRoundKeys.{deferred_below, deferred_last, stored_none, stored_some}
 use Rattle.aes_soft.proofs.StoredRoundKeys.{map_none}
-use Rattle.aes_soft.proofs.WordsInPlace.{changed, kept}
+use Rattle.aes_soft.proofs.WordsInPlace.{key_changed, key_kept}
 use Rattle.aes_soft.proofs.Slots.{stepped_map}
 use Rattle.aes_soft.proofs.soft.key_layout.store.Goals.{then-i-rounds, else-i-rounds}
 use Rattle.aes_soft.proofs.soft.key_layout.store.Goals as goal
@@ -49,12 +50,13 @@ keys-preserved g c =
     ] in
     record {
       done = λ f h j lt. elim (cases_lt j i) [
-        | inl low ↦ kept bits n rk rk1 o (8 * j) _ stay (inl (omega arith))
+        | inl low ↦ key_kept bits n rk rk1 o (8 * j) _ stay (inl (omega arith))
             (c.keys.invariant.done f h j low)
         | inr ge ↦
             let here : deferred period rounds j ≡ times =
             ap (deferred period rounds) (omega arith) in
-            changed bits n (λ b. map plus63 (inv_shift_times times b)) rk rk1 _ _ o (8 * j) (f j)
+            key_changed bits n (λ b. map plus63 (inv_shift_times times b)) rk rk1 _ _ o (8 * j)
+            (f j)
             (omega arith)
             c.round_key-planes.ensures
             (stepped_map n (map plus63) (inv_shift_times times)
@@ -62,7 +64,7 @@ keys-preserved g c =
             c.store_round_key.ensures.there (c.keys.invariant.rest f h j ge (omega arith))
             ∙ ap (replicate n) (stored_some rounds period f j times (omega arith) here)
       ];
-      rest = λ f h j ge lt. kept bits n rk rk1 o (8 * j) (f j) stay (inr (omega arith))
+      rest = λ f h j ge lt. key_kept bits n rk rk1 o (8 * j) (f j) stay (inr (omega arith))
           (c.keys.invariant.rest f h j (omega arith) lt);
       same_length = c.store_round_key.ensures.same_length ∙ c.keys.invariant.same_length;
     }

@@ -1,5 +1,5 @@
 use Rattle.std.proofs.Common.{◌*◌, refl}
-use Rattle.aes_soft.proofs.WordsInPlace.{held_at, kept, places_apart}
+use Rattle.aes_soft.proofs.WordsInPlace.{held_at, key_kept, places_apart}
 use Rattle.aes_soft.proofs.soft.plane_words.PlaneWordsFourWords.store.Goals as goal
 
 pub returns-clause-there : goal.returns-clause-there
@@ -9,5 +9,6 @@ returns-clause-there g c = λ x h.
 
 pub returns-clause-others : goal.returns-clause-others
 returns-clause-others g c = λ j x le ne h.
-    kept g.W.Word.bits g.W.Word.BLOCKS _ _ (8 * c.args.i) (8 * j) x c.store_round_key.ensures.others
+    key_kept g.W.Word.bits g.W.Word.BLOCKS _ _ (8 * c.args.i) (8 * j) x
+    c.store_round_key.ensures.others
     (places_apart c.args.i j ne) h
