@@ -9,7 +9,7 @@ use Rattle.aes_planes.proofs.Standard.Steps.{sub_bytes_bytes, inv_sub_bytes_byte
 use Rattle.aes_planes.proofs.Standard.Steps.{inv_shift_block}
 
 -- adding a round key of zeros changes nothing
-pub add_round_key_zero : (s : List ℕ) → length s ≡ 16 → fips.add_round_key s (replicate 16 0) ≡ s
+add_round_key_zero : (s : List ℕ) → length s ≡ 16 → fips.add_round_key s (replicate 16 0) ≡ s
 unfolding fips.add_round_key fips.state fips.build
 add_round_key_zero s l = (λ i. fips.state (λ r c. xor_zero_r (fips.byte_at s r c) i))
     ∙ built 16 s 0 l

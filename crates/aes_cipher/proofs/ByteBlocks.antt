@@ -12,11 +12,11 @@ use Rattle.std.specs.Simd.{first_chunks}
 use Rattle.aes_cipher.specs.Blocks.{Sixteens}
 
 -- the first part of two lists that are joined
-pub first_part : {X : Type 0} (n : ℕ) (xs ys : List X) → length xs ≡ n → take n (xs ++ ys) ≡ xs
+first_part : {X : Type 0} (n : ℕ) (xs ys : List X) → length xs ≡ n → take n (xs ++ ys) ≡ xs
 first_part n xs ys l = ap (λ k. take k (xs ++ ys)) (sym l) ∙ take-append_seam xs ys
 
 -- the second part of two lists that are joined
-pub second_part : {X : Type 0} (n : ℕ) (xs ys : List X) → length xs ≡ n → drop n (xs ++ ys) ≡ ys
+second_part : {X : Type 0} (n : ℕ) (xs ys : List X) → length xs ≡ n → drop n (xs ++ ys) ≡ ys
 second_part n xs ys l = ap (λ k. drop k (xs ++ ys)) (sym l) ∙ drop-append_seam xs ys
 
 -- the first eight elements of two joined lists are the first list, if it has eight
@@ -37,7 +37,7 @@ length-chunks zero xs = refl
 length-chunks (suc m) xs = ap suc (length-chunks m (drop 16 xs))
 
 -- the first a + b blocks of bytes are the first a and the next b
-pub chunks_split : (a b m : ℕ) (xs : List ℕ) → m ≡ a + b
+chunks_split : (a b m : ℕ) (xs : List ℕ) → m ≡ a + b
     → first_chunks 16 m xs ≡ first_chunks 16 a xs ++ first_chunks 16 b (drop (16 * a) xs)
 chunks_split zero b m xs e = ap (λ k. first_chunks 16 k xs) (omega (arith, e))
 chunks_split (suc a) b zero xs e = absurd (omega (arith, e))
@@ -48,7 +48,7 @@ chunks_split (suc a) b (suc m) xs e =
     ∙ ap (λ ys. first_chunks 16 a (drop 16 xs) ++ first_chunks 16 b ys) further)
 
 -- blocks lie in their bytes alone
-pub chunks_take : (a n : ℕ) (xs : List ℕ) → 16 * a ≤ n
+chunks_take : (a n : ℕ) (xs : List ℕ) → 16 * a ≤ n
     → first_chunks 16 a (take n xs) ≡ first_chunks 16 a xs
 chunks_take zero n xs h = refl
 chunks_take (suc a) n xs h =
@@ -59,7 +59,7 @@ chunks_take (suc a) n xs h =
     ∙ chunks_take a (n - 16) (drop 16 xs) (omega (arith, h)))
 
 -- bytes that two lists share hold the same blocks
-pub chunks_shared : (a n : ℕ) (xs ys : List ℕ) → 16 * a ≤ n → take n xs ≡ take n ys
+chunks_shared : (a n : ℕ) (xs ys : List ℕ) → 16 * a ≤ n → take n xs ≡ take n ys
     → first_chunks 16 a xs ≡ first_chunks 16 a ys
 chunks_shared a n xs ys h e = sym (chunks_take a n xs h) ∙ ap (first_chunks 16 a) e
     ∙ chunks_take a n ys h
@@ -84,7 +84,7 @@ chunks_of_joined (b ∷ bs) h =
     (λ i. first_part 16 b (concat bs) l i ∷ rest i)
 
 -- joined blocks have sixteen bytes for each block
-pub length-joined : (bs : List (List ℕ)) → Sixteens bs → length (concat bs) ≡ 16 * length bs
+length-joined : (bs : List (List ℕ)) → Sixteens bs → length (concat bs) ≡ 16 * length bs
 length-joined [] h = refl
 length-joined (b ∷ bs) h =
     let l : length b ≡ 16 = h 0 (omega arith) in

@@ -14,7 +14,7 @@ abbrev pub finished : {X : Type 0} → (X → X) → ℕ → List X → List X
 finished f i xs = take i xs ++ map f (drop i xs)
 
 -- where nothing is left, every element is finished
-pub all_finished : {X : Type 0} (f : X → X) (n : ℕ) (xs : List X) → length xs ≤ n
+all_finished : {X : Type 0} (f : X → X) (n : ℕ) (xs : List X) → length xs ≤ n
     → finished f n xs ≡ xs
 all_finished f n xs le = ap (λ l. take n xs ++ map f l) (drop_all n xs le) ∙ append-nil (take n xs)
     ∙ take_all n xs le

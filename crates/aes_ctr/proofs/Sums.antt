@@ -15,7 +15,7 @@ unfolding plus_stream
 length-plus s p xs = length-build (length xs) _
 
 -- byte i of it is byte i of the list plus what the stream has i places on
-pub get_or-plus : (s : ℕ → ℕ) (p : ℕ) (xs : List ℕ) (i : ℕ) → i < length xs
+get_or-plus : (s : ℕ → ℕ) (p : ℕ) (xs : List ℕ) (i : ℕ) → i < length xs
     → get_or (plus_stream s p xs) i 0 ≡ bit_xor (get_or xs i 0) (s (p + i))
 unfolding plus_stream
 get_or-plus s p xs i h = get_or-build (length xs) i _ 0 h

@@ -62,7 +62,7 @@ module _ (stored : List (List ℕ)) (two : 2 ≤ length stored) where
       ∙ last_key_is s)
 
   -- the last stored round key is as planes store it
-  pub last_wanted : (i : ℕ) → i ≡ rounds_made → fips.round_key stored i ≡ wanted i
+  last_wanted : (i : ℕ) → i ≡ rounds_made → fips.round_key stored i ≡ wanted i
   unfolding fips.inv_shift_times
   last_wanted i e =
       sym (stored_later (full rounds_made) (encrypting stored) i 0 (omega (arith, e, two))

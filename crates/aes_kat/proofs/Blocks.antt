@@ -6,7 +6,7 @@ use Rattle.std.proofs.lemmas.List.{length-take-le}
 use Rattle.std.proofs.Math.Seq.{take-append_seam}
 
 -- elements, each followed by a separator, are the elements joined by it, and one more
-pub flat_map-joined : (c : ℕ) (f : List ℕ → List ℕ) (x : List ℕ) (xs : List (List ℕ))
+flat_map-joined : (c : ℕ) (f : List ℕ → List ℕ) (x : List ℕ) (xs : List (List ℕ))
     → flat_map (λ y. f y ++ c ∷ []) (x ∷ xs) ≡ join_with_byte c (map f (x ∷ xs)) ++ c ∷ []
 flat_map-joined c f x [] = append_assoc (f x) (c ∷ []) []
 flat_map-joined c f x (y ∷ xs) =

@@ -74,7 +74,7 @@ half_is_block x i long small = go (i == 0)
 -- ---- lane by lane
 
 -- a map of all lanes is one of each half
-pub half_of_map : (f : ℕ → ℕ) (x : List ℕ) (i : ℕ) → half (map f x) i ≡ map f (half x i)
+half_of_map : (f : ℕ → ℕ) (x : List ℕ) (i : ℕ) → half (map f x) i ≡ map f (half x i)
 unfolding half
 half_of_map f x i = go (i == 0)
   where
@@ -137,13 +137,13 @@ indices_append (x ∷ xs) ys h k =
     λ t. both.0 t && indices_append xs ys both.1 k t
 
 -- places are indices where those of each half are
-pub indices_of_halves : (x : List ℕ) → ((i : ℕ) → AreIndices (half x i)) → AreIndices x
+indices_of_halves : (x : List ℕ) → ((i : ℕ) → AreIndices (half x i)) → AreIndices x
 unfolding half
 indices_of_halves x h =
     subst AreIndices (take-append-drop 16 x) (indices_append (take 16 x) (drop 16 x) (h 0) (h 1))
 
 -- a shuffle by two lists of places, one after the other, as their lanes go on
-pub swz_append : (xs ps qs : List ℕ) (i : ℕ)
+swz_append : (xs ps qs : List ℕ) (i : ℕ)
     → swz_l w8 16 xs i (ps ++ qs) ≡ swz_l w8 16 xs i ps ++ swz_l w8 16 xs (i + length ps) qs
 swz_append xs [] qs i = let e : i ≡ i + 0 = omega arith in ap (λ n. swz_l w8 16 xs n qs) e
 swz_append xs (p ∷ ps) qs i =

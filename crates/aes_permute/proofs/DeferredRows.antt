@@ -53,7 +53,7 @@ before_indices = are_indices ROW_BEFORE refl refl refl refl
 -- ---- ShiftRows some times
 
 -- a change of each byte and ShiftRows can be exchanged
-pub times_map : (f : ℕ → ℕ) (k : ℕ) (s : List ℕ) → length s ≡ 16
+times_map : (f : ℕ → ℕ) (k : ℕ) (s : List ℕ) → length s ≡ 16
     → map f (shift_times k s) ≡ shift_times k (map f s)
 unfolding shift_times
 times_map f zero s l = refl
@@ -77,7 +77,7 @@ shifted_is = by_four
     (same_on_block (λ x. permuted x (places_in SHIFTED_ROWS 3)) (shift_times 3) (λ f. refl))
 
 -- four ShiftRows change nothing: some after the others of four
-pub shifted_back_is : (k : ℕ) → k < 4 → (x : List ℕ) → length x ≡ 16
+shifted_back_is : (k : ℕ) → k < 4 → (x : List ℕ) → length x ≡ 16
     → shift_times k (permuted x (places_in SHIFTED_ROWS ((4 - k) % 4))) ≡ x
 unfolding build state shift_rows shift_times
 shifted_back_is = by_four

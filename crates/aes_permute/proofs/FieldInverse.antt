@@ -12,7 +12,7 @@ use Rattle.aes_permute.proofs.Lookups.{each_passes}
 -- ---- lanes that are made of the bytes of a block
 
 -- lanes looked up in a table
-pub looked_of : (f : ℕ → ℕ) (t x : List ℕ) {y z : List ℕ} → z ≡ map (looked t) y → y ≡ map f x
+looked_of : (f : ℕ → ℕ) (t x : List ℕ) {y z : List ℕ} → z ≡ map (looked t) y → y ≡ map f x
     → z ≡ map (λ b. looked t (f b)) x
 looked_of f t x e made = e ∙ ap (map (looked t)) made ∙ map-map (looked t) f x
 

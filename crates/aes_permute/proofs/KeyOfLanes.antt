@@ -12,7 +12,7 @@ use Rattle.aes_permute.specs.Stored.{round_keys_of, LaneForm}
 use Rattle.aes_permute.proofs.States.{keys_length}
 
 -- the key that begins its own schedule
-pub begins_with_key : (size : ℕ) (key : List ℕ) → IsKeySize size → length key ≡ size
+begins_with_key : (size : ℕ) (key : List ℕ) → IsKeySize size → length key ≡ size
     → leading_key size (fips.key_expansion key)
     ≡ key
 begins_with_key size key one l =

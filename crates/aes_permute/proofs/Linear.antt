@@ -38,7 +38,7 @@ high_sum a b = ap (λ v. v % 16) (xor_shr a b 4) ∙ xor_mod (a / 16) (b / 16) 4
 
 -- a look-up by nibbles in linear tables takes the sum of two
 -- bytes to the sum of what it makes of each
-pub by_nibbles_sum : (t u : List ℕ) → is_linear t → is_linear u → (a b : ℕ)
+by_nibbles_sum : (t u : List ℕ) → is_linear t → is_linear u → (a b : ℕ)
     → by_nibbles t u (bit_xor a b)
     ≡ bit_xor (by_nibbles t u a) (by_nibbles t u b)
 by_nibbles_sum t u l m a b =

@@ -49,7 +49,7 @@ abbrev pub three : ℕ → ℕ
 three b = bit_xor (one b) (two b)
 
 -- the S-box of what a byte stands for
-abbrev pub boxed : ℕ → ℕ
+abbrev boxed : ℕ → ℕ
 boxed b = sbox (untower b)
 
 -- row 0 of MixColumns: the products with it, each with what the constant makes of it
@@ -111,7 +111,7 @@ standard x k = add_round_key (mix_columns (shift_rows (sub_bytes (map untower x)
     (map key_untower k)
 
 -- the sum of a byte, in the order in which a round on lanes makes it, and in that of `added`
-abbrev pub pairs_summed : ℕ → ℕ → ℕ → ℕ → ℕ → ℕ → ℕ
+abbrev pairs_summed : ℕ → ℕ → ℕ → ℕ → ℕ → ℕ → ℕ
 pairs_summed a o t c d y = bit_xor (bit_xor (bit_xor d y) (bit_xor a o)) (bit_xor t c)
 
 -- both orders of summands have the same sum

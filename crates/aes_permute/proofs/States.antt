@@ -17,7 +17,7 @@ module _ (form : LaneForm) (stored : List (List ℕ)) where
       (λ i. key_of form (fips.last_round stored) i (fips.round_key stored i))
 
   -- the last stored round key has the number of the last one that they stand for
-  pub last_is_last : fips.last_round (round_keys_of form stored) ≡ fips.last_round stored
+  last_is_last : fips.last_round (round_keys_of form stored) ≡ fips.last_round stored
   last_is_last = ap (λ v. v - 1) keys_length
 
   -- round key i, as the form stands for it

@@ -36,7 +36,7 @@ unfolding build
 build_each P d past = build_from_each P d past 0
 
 -- a list that has f's values is the list built of f
-pub build_from_is : {A : Type 0} (a n : ℕ) (f : ℕ → A) (xs : List A) (d : A) → length xs ≡ n
+build_from_is : {A : Type 0} (a n : ℕ) (f : ℕ → A) (xs : List A) (d : A) → length xs ≡ n
     → ((i : ℕ) → i < n → f (a + i) ≡ get_or xs i d) → build_from a n f ≡ xs
 unfolding build_from
 build_from_is a zero f [] d l h = refl

@@ -11,7 +11,7 @@ pub one_fits : (m s : ℕ) → 0 < m → m % s ≡ 0 → s ≤ m
 one_fits m s some e = grind (arith, some, e)
 
 -- what is left after one batch of s more is whole batches still
-pub whole_left : (m s : ℕ) → s ≤ m → m % s ≡ 0 → (m - s) % s ≡ 0
+whole_left : (m s : ℕ) → s ≤ m → m % s ≡ 0 → (m - s) % s ≡ 0
 whole_left m s le e = sym (mod-eq-sub-mod le) ∙ e
 
 -- the rounds that are left, of r a batch, after one batch of s more

@@ -31,7 +31,7 @@ chain_passed before xs i e =
     sym (ap (λ k. last_of before (drop k xs)) e ∙ ap (last_of before) (drop-length xs))
 
 -- the last block of two parts is that of the second, or of the first if the second is empty
-pub last_of_cut : (before : List ℕ) (a b : List (List ℕ))
+last_of_cut : (before : List ℕ) (a b : List (List ℕ))
     → last_of before (a ++ b) ≡ last_of (last_of before a) b
 unfolding last_of
 last_of_cut before [] b = refl

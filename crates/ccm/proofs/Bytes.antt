@@ -24,7 +24,7 @@ power_positive : (q : ℕ) → 0 < 256 ^ q
 power_positive q = omega (arith, pow_pos (8 * q), eight_bits q)
 
 -- a number in q bytes has q bytes
-pub length-bytes : (q x : ℕ) → length (bytes q x) ≡ q
+length-bytes : (q x : ℕ) → length (bytes q x) ≡ q
 unfolding bytes
 length-bytes zero x = refl
 length-bytes (suc q) x = ap suc (length-bytes q x)
@@ -59,7 +59,7 @@ low_bytes (suc q) a j =
     (λ t. first t ∷ (ap (bytes q) whole ∙ low_bytes q (a * 256) j) t)
 
 -- the bytes of two numbers, one behind the other
-pub joined_bytes : (m q a j : ℕ) → j < 256 ^ q
+joined_bytes : (m q a j : ℕ) → j < 256 ^ q
     → bytes (m + q) (a * 256 ^ q + j) ≡ bytes m a ++ bytes q j
 unfolding bytes
 joined_bytes zero q a j small =

@@ -13,7 +13,7 @@ use Rattle.aes_cipher.proofs.Strings.{last_padded}
 use Rattle.cmac.specs.Chain.{block_at, chained, chained_through}
 
 -- the chain through the blocks of the first of two strings
-pub chained_first : (w : List (List ℕ)) (y a b : List ℕ) (i : ℕ) → 16 * i ≤ length a
+chained_first : (w : List (List ℕ)) (y a b : List ℕ) (i : ℕ) → 16 * i ≤ length a
     → chained w y (a ++ b) i ≡ chained w y a i
 unfolding chained
 chained_first w y a b zero inside = refl
@@ -23,7 +23,7 @@ chained_first w y a b (suc i) inside =
 
 -- the chain through two strings, the first of whole blocks: after its blocks come those of the
 -- second
-pub chained_on : (w : List (List ℕ)) (y a b : List ℕ) (k i : ℕ) → length a ≡ 16 * k
+chained_on : (w : List (List ℕ)) (y a b : List ℕ) (k i : ℕ) → length a ≡ 16 * k
     → chained w y (a ++ b) (k + i) ≡ chained w (chained w y a k) b i
 unfolding chained
 chained_on w y a b k zero long =

@@ -26,7 +26,7 @@ next_block v i =
     ∙ ap (to_be_bytes w128) (omega arith)
 
 -- V after one turn or more is a counter block
-pub v_after_more : (v : List ℕ) (i : ℕ) → v_after v (suc i) ≡ counter_block v (suc i)
+v_after_more : (v : List ℕ) (i : ℕ) → v_after v (suc i) ≡ counter_block v (suc i)
 unfolding v_after v_plus_one counter counter_block
 v_after_more v zero = refl
 v_after_more v (suc i) = ap v_plus_one (v_after_more v i) ∙ next_block v (suc i)

@@ -152,7 +152,7 @@ unfolding times_power times_x v_at next_v
 inverse_is = refl
 
 -- dot of two elements is one product of GCM, so that POLYVAL runs on GHASH's tables
-pub dot_is : (a b : ℕ) → b < 2 ^ 128 → dot a b ≡ product a (next_v b)
+dot_is : (a b : ℕ) → b < 2 ^ 128 → dot a b ≡ product a (next_v b)
 unfolding dot
 dot_is a b small =
     let c : ℕ = product a (times_power b 127) in

@@ -11,7 +11,7 @@ use Rattle.aes_planes.proofs.Bits.NumberBits.{number_below, number_of_bits, bit_
 use Rattle.aes_planes.proofs.Bits.NumberBits.{bit_of_xor}
 
 -- the number of n bits is below 2 ^ n
-pub number_lt : (n : ℕ) (bs : List Bool) → length bs ≡ n → number bs < 2 ^ n
+number_lt : (n : ℕ) (bs : List Bool) → length bs ≡ n → number bs < 2 ^ n
 number_lt n bs e = subst (λ (v : ℕ). number bs < 2 ^ v) e (number_below bs)
 
 -- bytes with the same bits are the same

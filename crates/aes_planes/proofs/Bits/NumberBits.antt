@@ -147,7 +147,7 @@ bit_funnel w p q a b i v e f k low high = bit_of_or (a / 2 ^ p) (b * 2 ^ q % 2 ^
     ]
 
 -- a rotation by n, which is not 0
-pub bit_rotated : (w x n i : ℕ) → x < 2 ^ w → 0 < n → n < w → i < w
+bit_rotated : (w x n i : ℕ) → x < 2 ^ w → 0 < n → n < w → i < w
     → bit (bit_or (x / 2 ^ n) (x * 2 ^ (w - n) % 2 ^ w)) i ≡ bit x ((i + n) % w)
 bit_rotated w x n i f p h k = bit_funnel w n (w - n) x x i _ (omega arith) f k
     (λ lt. ap (bit x) (sym (mod-eq_of_lt lt)))

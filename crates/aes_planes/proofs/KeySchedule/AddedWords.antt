@@ -26,7 +26,7 @@ module _ (nk i : ℕ) (w : List ℕ) where
       ap (λ v. added_word_if v (nat_lt 6 nk && (i % nk == 4)) (i / nk) w) (eq-eqb (i % nk) 0 e)
 
   -- where Nk does not divide i, the second test says whether the word is substituted
-  pub added_word_later : (again : Bool) → i % nk ≢ 0 → (nat_lt 6 nk && (i % nk == 4)) ≡ again
+  added_word_later : (again : Bool) → i % nk ≢ 0 → (nat_lt 6 nk && (i % nk == 4)) ≡ again
       → added_word nk i w ≡ added_word_if false again (i / nk) w
   added_word_later again n e =
       ap (λ v. added_word_if v (nat_lt 6 nk && (i % nk == 4)) (i / nk) w) (ne_eqb (i % nk) 0 n)

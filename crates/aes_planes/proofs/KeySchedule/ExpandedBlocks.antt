@@ -28,7 +28,7 @@ abbrev pub of_words : (ℕ → List ℕ) → List ℕ
 of_words f = state (λ r c. slice_index (f c) r)
 
 -- byte r of the word f 0, .., f 3 is f r
-pub slice_index-word : (f : ℕ → ℕ) (r : ℕ) → r < 4 → slice_index (word f) r ≡ f r
+slice_index-word : (f : ℕ → ℕ) (r : ℕ) → r < 4 → slice_index (word f) r ≡ f r
 slice_index-word f = by_four (λ r. slice_index (word f) r ≡ f r) refl refl refl refl
 
 -- each word of g is the sum of the word of f there and the word of g
@@ -58,7 +58,7 @@ module _ (rows cols : ℕ) (f g : ℕ → List ℕ) (y : List ℕ)
       ∙ ap (λ v. slice_index v r) (sym (later c (omega arith)))
 
   -- the running sums of four words and of a word of y, as blocks, are the sum of columns
-  pub summed_words : columns_summed rows cols (of_words f) y ≡ of_words g
+  summed_words : columns_summed rows cols (of_words f) y ≡ of_words g
   unfolding columns_summed start
   summed_words = state_same _ _ columns
 
@@ -93,7 +93,7 @@ module _ (key : List ℕ) (nk : ℕ) (own : key_words key ≡ nk) (some : 0 < nk
       ∙ ap (λ v. add_words (sub_word (rot_word w)) (round_constant v)) whole)
 
 -- a word of the key expansion has four bytes
-pub expanded_word_length : (key : List ℕ) (i : ℕ) → 0 < key_words key
+expanded_word_length : (key : List ℕ) (i : ℕ) → 0 < key_words key
     → length (expanded_word key i) ≡ 4
 expanded_word_length key i some = elim (cases_lt i (key_words key)) [
   | inl lt ↦ ap length (expanded_word_key key i (lt-ltb i (key_words key) lt))

@@ -38,7 +38,7 @@ module _ (key : List ℕ) where
       ∙ word_kept d i
 
   -- word i is the same however many words further the key schedule has come
-  pub expanded_at : (n i : ℕ) → i < n → get_or (expanded_words key n) i [] ≡ expanded_word key i
+  expanded_at : (n i : ℕ) → i < n → get_or (expanded_words key n) i [] ≡ expanded_word key i
   expanded_at n i lt =
       let e : n ≡ suc i + (n - suc i) = omega arith in
       ap (λ v. get_or (expanded_words key v) i []) e

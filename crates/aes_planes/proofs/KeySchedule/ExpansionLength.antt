@@ -74,7 +74,7 @@ word_appended (v ∷ ws) w h k zero = h 0
 word_appended (v ∷ ws) w h k (suc i) = word_appended ws w (λ j. h (suc j)) k i
 
 -- the words of the key schedule of a key of bytes are bytes
-pub words_bytes : (key : List ℕ) (n : ℕ) → IsBytes key → RowsBytes (expanded_words key n)
+words_bytes : (key : List ℕ) (n : ℕ) → IsBytes key → RowsBytes (expanded_words key n)
 unfolding expanded_words
 words_bytes key zero h = λ i j. omega arith
 words_bytes key (suc n) h =

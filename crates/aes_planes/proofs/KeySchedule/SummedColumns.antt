@@ -30,7 +30,7 @@ brought_down : (x : List Bool) (p s q B : ℕ) → p + s ≡ q → q < B
 brought_down x p s q B e h = ap (λ v. nat_lt v B && at x v) e ∙ ap (λ v. v && at x q) (lt-ltb q B h)
 
 -- the sum of bits is associative
-pub xor_inward : (x y z : Bool) → xor (xor x y) z ≡ xor x (xor y z)
+xor_inward : (x y z : Bool) → xor (xor x y) z ≡ xor x (xor y z)
 xor_inward true true true = refl
 xor_inward true true false = refl
 xor_inward true false z = refl
@@ -112,7 +112,7 @@ summed_byte f y (suc c) h k =
     field_add_byte (f (suc c)) (summed field_add f y c) (h (suc c)) (summed_byte f y c h k)
 
 -- sums of equal elements are equal
-pub summed-ext : {A : Type 0} (op : A → A → A) (f g : ℕ → A) (y z : A) (c : ℕ)
+summed-ext : {A : Type 0} (op : A → A → A) (f g : ℕ → A) (y z : A) (c : ℕ)
     → ((e : ℕ) → e ≤ c → f e ≡ g e) → y ≡ z
     → summed op f y c ≡ summed op g z c
 summed-ext op f g y z zero h e = (λ t. op (h 0 (omega arith) t) (e t))

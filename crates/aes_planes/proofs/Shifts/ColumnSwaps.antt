@@ -65,13 +65,13 @@ module _ (d : ℕ) (nibbles : List ℕ) (ok : (r c : ℕ) → r < 4 → c < 4
   apart r c h l = not-true _ (and_parts _ _ (ok r c h l)).1
 
   -- a column below 4 is swapped with a column below 4
-  pub source_lt : (r c : ℕ) → r < 4 → c < 4 → source d nibbles r c < 4
+  source_lt : (r c : ℕ) → r < 4 → c < 4 → source d nibbles r c < 4
   source_lt r c h l = cond_both (named r c) _ _ (λ v. v < 4) (inside r c h l)
       (λ t. cond_both (nat_le d c && named r (c - d)) (c - d) c (λ v. v < 4)
       (λ u. omega arith) (λ u. l))
 
   -- the state of bytes read at swapped columns is the state of the bytes, with its columns swapped
-  pub columns_swapped-state : (f : ℕ → ℕ → ℕ) → state (λ r c. f r (source d nibbles r c))
+  columns_swapped-state : (f : ℕ → ℕ → ℕ) → state (λ r c. f r (source d nibbles r c))
       ≡ columns_swapped d nibbles (state f)
   unfolding columns_swapped
   columns_swapped-state f =
@@ -133,7 +133,7 @@ module _ (d : ℕ) (nibbles : List ℕ) (ok : (r c : ℕ) → r < 4 → c < 4
 
     -- after a swap of bits under the mask each place has the bit of
     -- the column that its column is swapped with
-    pub swapped_rc : (r c : ℕ) → r < 4 → c < 4 → d < 4
+    swapped_rc : (r c : ℕ) → r < 4 → c < 4 → d < 4
         → swapped_bit (16 * n) a mask (d * n) (place n r c k)
         ≡ at a (place n r (source d nibbles r c) k)
     unfolding moved own

@@ -68,7 +68,7 @@ unfolding all63 inv_mix_columns field_mul
 inv_mix_plus63 = passes63 inv_mix_columns inv_mix_columns_add refl (λ s. (inv_mix_block s).0)
 
 -- the sum of blocks is associative
-pub add_key_assoc : (s t u : List ℕ) → add_round_key s (add_round_key t u)
+add_key_assoc : (s t u : List ℕ) → add_round_key s (add_round_key t u)
     ≡ add_round_key (add_round_key s t) u
 unfolding add_round_key
 add_key_assoc s t u =

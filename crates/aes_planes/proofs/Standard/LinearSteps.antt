@@ -21,7 +21,7 @@ shift_map f s l = subst (λ (v : List ℕ). shift_rows (map f v) ≡ map f (shif
     (built 16 s 0 l) refl
 
 -- a function of each byte commutes with the inverse shifts
-pub inv_shift_map : (f : ℕ → ℕ) (s : List ℕ) → length s ≡ 16
+inv_shift_map : (f : ℕ → ℕ) (s : List ℕ) → length s ≡ 16
     → inv_shift_rows (map f s) ≡ map f (inv_shift_rows s)
 unfolding inv_shift_rows build
 inv_shift_map f s l =
@@ -77,7 +77,7 @@ pub matrix_add : (m : ℕ → List ℕ) → LinearMap (matrix m)
 matrix_add m v w = λ i r. row_times_add (m r) v w i
 
 -- one linear map after another is linear
-pub product_add : (f g : (ℕ → ℕ) → ℕ → ℕ) → LinearMap f → LinearMap g → LinearMap (λ v. f (g v))
+product_add : (f g : (ℕ → ℕ) → ℕ → ℕ) → LinearMap f → LinearMap g → LinearMap (λ v. f (g v))
 product_add f g p q v w = ap f (q v w) ∙ p (g v) (g w)
 
 -- ---- linear maps agree where they agree on the powers of x in each row

@@ -72,7 +72,7 @@ unfolding shift_rows
 shift_block s h = state_block (λ r c. byte_at s r ((c + r) % 4)) (λ r c. h (r + 4 * ((c + r) % 4)))
 
 -- ShiftRows leaves bytes of bytes
-pub shift_bytes : (s : List ℕ) → IsBytes s → IsBytes (shift_rows s)
+shift_bytes : (s : List ℕ) → IsBytes s → IsBytes (shift_rows s)
 shift_bytes s h = (shift_block s h).1
 
 -- any number of ShiftRows leaves bytes of bytes

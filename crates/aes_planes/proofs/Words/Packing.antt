@@ -104,7 +104,7 @@ IsRead i [] batch = Unit {0}
 IsRead i (b ∷ bs) batch = (IsBlock b × (b ≡ get_or batch i [])) × IsRead (suc i) bs batch
 
 -- each of them is the block of the batch at its place
-pub read_at : (i : ℕ) (bs batch : List (List ℕ)) (k : ℕ) → IsRead i bs batch → k < length bs
+read_at : (i : ℕ) (bs batch : List (List ℕ)) (k : ℕ) → IsRead i bs batch → k < length bs
     → IsBlock (get_or bs k []) × (get_or bs k [] ≡ get_or batch (i + k) [])
 read_at i [] batch k h l = absurd (omega arith)
 read_at i (b ∷ bs) batch zero h l = (h.0.0, h.0.1 ∙ ap (λ v. get_or batch v []) (omega arith))

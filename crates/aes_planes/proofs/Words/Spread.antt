@@ -203,7 +203,7 @@ byte_of_lane low high j h =
     ]
 
 -- each bit of a lane that is all ones or all zeros
-pub lane_of_ones : (b : Bool) (p : ℕ) → p < 8 → bit (cond b 255 0) p ≡ b
+lane_of_ones : (b : Bool) (p : ℕ) → p < 8 → bit (cond b 255 0) p ≡ b
 lane_of_ones true p h = bit_ones 8 p h
 lane_of_ones false p h = bit_zero p
 

@@ -52,14 +52,14 @@ differing_bit s m low high j = bit_of_and (bit_xor high (low / 2 ^ s)) m j
     ∙ ap (xor (bit high j)) (bit_shr low s j))
 
 -- the upper number takes its bits under the mask from the lower one
-pub exchanged_high : (s m low high i : ℕ) → bit (bit_xor high (differing s m low high)) i
+exchanged_high : (s m low high i : ℕ) → bit (bit_xor high (differing s m low high)) i
     ≡ cond (bit m i) (bit low (i + s)) (bit high i)
 exchanged_high s m low high i = bit_of_xor high (differing s m low high) i
     ∙ ap (xor (bit high i)) (differing_bit s m low high i)
     ∙ (chosen (bit high i) (bit low (i + s)) (bit m i)).0
 
 -- the lower number takes its bits under the mask from the upper one
-pub exchanged_low : (w s m low high i : ℕ) → i < w
+exchanged_low : (w s m low high i : ℕ) → i < w
     → bit (bit_xor low (differing s m low high * 2 ^ s % 2 ^ w)) i
     ≡ cond (nat_le s i && bit m (i - s)) (bit high (i - s)) (bit low i)
 exchanged_low w s m low high i h = bit_of_xor low (differing s m low high * 2 ^ s % 2 ^ w) i
@@ -87,7 +87,7 @@ inside s m r f h =
     ]
 
 -- choices between bits that are the same where they are taken
-pub chosen_same : (a b : Bool) (x y u v : Bool) → a ≡ b → (b ≡ true → x ≡ u) → y ≡ v
+chosen_same : (a b : Bool) (x y u v : Bool) → a ≡ b → (b ≡ true → x ≡ u) → y ≡ v
     → cond a x y ≡ cond b u v
 chosen_same a true x y u v e f g = ap (λ c. cond c x y) e ∙ f refl
 chosen_same a false x y u v e f g = ap (λ c. cond c x y) e ∙ g

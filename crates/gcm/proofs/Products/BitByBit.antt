@@ -15,7 +15,7 @@ shifted x i =
     omega (arith, twice)
 
 -- the first bit of what is left of a block when its first i bits were taken
-pub first_left : (x i : ℕ) → i < 128 → x * 2 ^ i % 2 ^ 128 / 2 ^ 127 ≡ bit_of x i
+first_left : (x i : ℕ) → i < 128 → x * 2 ^ i % 2 ^ 128 / 2 ^ 127 ≡ bit_of x i
 unfolding bit_of
 first_left x i inside =
     let whole : 127 ≡ (127 - i) + i = omega (arith, inside) in

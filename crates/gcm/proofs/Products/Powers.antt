@@ -29,7 +29,7 @@ unfolding bit_of
 bit_small x i = omega arith
 
 -- a product keeps sums of its first factor
-pub product_left_keeps : (a b h : ℕ) → product (bit_xor a b) h ≡ bit_xor (product a h) (product b h)
+product_left_keeps : (a b h : ℕ) → product (bit_xor a b) h ≡ bit_xor (product a h) (product b h)
 unfolding product
 product_left_keeps a b h =
     product_terms (bit_xor a b) h 128

@@ -34,7 +34,7 @@ pub record Summed (row : ℕ → ℕ) (k : ℕ) (first second : List ℕ) : Type
   pub value : reduced (from_be_bytes w128 first) (from_be_bytes w128 second) ≡ rows_after row k
 
 -- before the first step both blocks are zeros
-pub summed_none : (row : ℕ → ℕ) → Summed row 0 (replicate 16 0) (replicate 16 0)
+summed_none : (row : ℕ → ℕ) → Summed row 0 (replicate 16 0) (replicate 16 0)
 unfolding reduced folded rows_after
 summed_none row = record {
   first_block = zeros_block;
@@ -45,7 +45,7 @@ summed_none row = record {
 }
 
 -- a step moves both blocks one byte on and adds the row before
-pub summed_next : (row : ℕ → ℕ) (k : ℕ) (first second added first' second' : List ℕ) → k < 16
+summed_next : (row : ℕ → ℕ) (k : ℕ) (first second added first' second' : List ℕ) → k < 16
     → Summed row k first second
     → IsBlock added → from_be_bytes w128 added ≡ row (15 - k)
     → first' ≡ zip2 bit_xor (0 ∷ take 15 first) added

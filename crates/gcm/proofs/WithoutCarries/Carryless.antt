@@ -191,7 +191,7 @@ shifted_back (suc n) x h =
     ∙ ap (λ b. term b (v_at h (suc n))) (bit ∙ ap (λ k. x / 2 ^ k % 2) none)) t))
 
 -- a product of blocks is the product without carries, shifted back by 127 bits
-pub product_shifted : (x h : ℕ) → product x h ≡ v_at (carryless 128 x h) 127
+product_shifted : (x h : ℕ) → product x h ≡ v_at (carryless 128 x h) 127
 unfolding product bit_of
 product_shifted x h = product_terms x h 128 ∙ sym (shifted_back 127 x h)
 

@@ -28,7 +28,7 @@ bit_case p q r hp hq hr =
     by_two (λ r. min ((p + q) % 2) r ≡ (min p r + min q r) % 2) (omega arith) (omega arith) r hr
 
 -- a mask keeps sums
-pub masked_sum : (m a b : ℕ) → bit_and (bit_xor a b) m ≡ bit_xor (bit_and a m) (bit_and b m)
+masked_sum : (m a b : ℕ) → bit_and (bit_xor a b) m ≡ bit_xor (bit_and a m) (bit_and b m)
 masked_sum m a b =
     same_from_bits _ _ (λ i. bit_at_and (bit_xor a b) m i
     ∙ ap (λ p. min p (m / 2 ^ i % 2)) (bit_at_xor a b i)
@@ -382,7 +382,7 @@ fourths_sum x small =
     ∙ and_mask x 32 ∙ omega (arith, small)
 
 -- the sixteen products, each under its mask, are the product without carries
-pub products_sum : (x y : ℕ) → x < 2 ^ 32 → y < 2 ^ 32
+products_sum : (x y : ℕ) → x < 2 ^ 32 → y < 2 ^ 32
     → sum_of 4 (λ t. bit_and (products_at x y t) (holes 16 * 2 ^ t)) ≡ carryless 32 x y
 unfolding products_at
 products_sum x y hx hy =
