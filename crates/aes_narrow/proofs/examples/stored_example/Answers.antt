@@ -6,6 +6,7 @@ use Rattle.aes_soft.specs.Stored.{full, HoldsKeys}
 use Rattle.aes_soft.proofs.OnLiterals.{stored_on_literals, below_tells}
 use Rattle.aes_narrow.proofs.examples.stored_example.Goals as goal
 
+-- the stored words of the example, as lists of bits
 abbrev planes : List (List Bool)
 planes = map (word_bits 32) WORDS
 

@@ -5,6 +5,7 @@ use Rattle.aes_soft.specs.Stored.{compact, HoldsKeys}
 use Rattle.aes_soft.proofs.OnLiterals.{stored_on_literals, below_tells}
 use Rattle.aes_soft.proofs.examples.compact_words.Goals as goal
 
+-- the stored words of the example, as lists of bits
 abbrev planes : List (List Bool)
 planes = map (word_bits 16) COMPACT_WORDS
 

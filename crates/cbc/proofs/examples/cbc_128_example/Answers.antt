@@ -5,18 +5,22 @@ use Rattle.aes_planes.specs.Fips197.{key_expansion}
 use Rattle.cbc.specs.Cbc.{chained, unchained}
 use Rattle.cbc.proofs.examples.cbc_128_example.Goals as goal
 
+-- the round keys of the example
 abbrev w : List (List ℕ)
 w = key_expansion (bytes 16 0x2b7e151628aed2a6abf7158809cf4f3c)
 
+-- the initialization vector
 abbrev iv : List ℕ
 iv = bytes 16 0x000102030405060708090a0b0c0d0e0f
 
+-- the plaintext blocks
 abbrev text_1 : List ℕ
 text_1 = bytes 16 0x6bc1bee22e409f96e93d7e117393172a
 
 abbrev text_2 : List ℕ
 text_2 = bytes 16 0xae2d8a571e03ac9c9eb76fac45af8e51
 
+-- the ciphertext blocks
 abbrev chained_1 : List ℕ
 chained_1 = bytes 16 0x7649abac8119b246cee98e9b12e9197d
 

@@ -16,17 +16,21 @@ key = bytes 16 0x01000000000000000000000000000000
 abbrev nonce : List ℕ
 nonce = bytes 12 0x030000000000000000000000
 
+-- the plaintext
 abbrev plain : List ℕ
 plain = bytes 8 0x0100000000000000
 
-abbrev encrypting : List ℕ
-encrypting = bytes 16 0x4004a0dcd862f2a57360219d2d44ef6c
+-- the key that encrypts the message
+abbrev derived_key : List ℕ
+derived_key = bytes 16 0x4004a0dcd862f2a57360219d2d44ef6c
 
-abbrev start : List ℕ
-start = first_counter (bytes 16 0x578782fff6013b815b287c22493a364c)
+-- the first counter block, from the tag
+abbrev first_block : List ℕ
+first_block = first_counter (bytes 16 0x578782fff6013b815b287c22493a364c)
 
-abbrev one : List (List ℕ)
-one = bytes 16 0xb4d839330ac7b786a779523a099ca598 ∷ []
+-- the block that is added to the text
+abbrev keystream : List (List ℕ)
+keystream = bytes 16 0xb4d839330ac7b786a779523a099ca598 ∷ []
 
 pub returns-clause-tag : goal.returns-clause-tag
 unfolding siv_on_literals
@@ -35,7 +39,7 @@ returns-clause-tag c =
     let authentication : authentication_key key nonce
     ≡ bytes 16 0xd9b360279694941ac5dbc6987ada7377 =
     (λ t. take 8 (known.zero t) ++ take 8 (known.one t)) in
-    let encryption : encryption_key key nonce ≡ encrypting =
+    let encryption : encryption_key key nonce ≡ derived_key =
     (λ t. take 8 (known.two t) ++ take 8 (known.three t) ++ []) in
     (λ t. tag_under (key_expansion (encryption t))
     (from_le_bytes w128 (authentication t)) nonce [] plain) ∙ known.tag
@@ -44,11 +48,11 @@ pub returns-clause-text : goal.returns-clause-text
 unfolding siv_on_literals
 returns-clause-text c =
     let known = c.encrypted_blocks.ensures in
-    let encryption : encryption_key key nonce ≡ encrypting =
+    let encryption : encryption_key key nonce ≡ derived_key =
     (λ t. take 8 (known.two t) ++ take 8 (known.three t) ++ []) in
     ap (λ e. text_under (key_expansion e) (bytes 16 0x578782fff6013b815b287c22493a364c)
     plain) encryption
-    ∙ blocks_by (key_expansion encrypting) start one plain
-    (by_one (λ m. slice_index_or one m [] ≡ cipher_with (key_expansion encrypting)
-    (counter_block start m)) (sym known.stream))
+    ∙ blocks_by (key_expansion derived_key) first_block keystream plain
+    (by_one (λ m. slice_index_or keystream m [] ≡ cipher_with (key_expansion derived_key)
+    (counter_block first_block m)) (sym known.stream))
     (omega arith)

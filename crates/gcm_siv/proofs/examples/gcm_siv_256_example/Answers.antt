@@ -14,18 +14,23 @@ nonce = bytes 12 0x030000000000000000000000
 abbrev additional : List ℕ
 additional = bytes 18 0x010000000000000000000000000000000200
 
+-- the plaintext
 abbrev plain : List ℕ
 plain = bytes 20 0x0300000000000000000000000000000004000000
 
-abbrev encrypting : List (List ℕ)
-encrypting = key_expansion
+-- the round keys of the key that encrypts the message
+abbrev round_keys : List (List ℕ)
+round_keys = key_expansion
     (bytes 32 0xb914f4742be9e1d7a2f84addbf96dec3456e3c6c05ecc157cdbf0700fedad222)
 
-abbrev start : List ℕ
-start = first_counter (bytes 16 0xb879ad976d8242acc188ab59cabfe307)
+-- the first counter block, from the tag
+abbrev first_block : List ℕ
+first_block = first_counter (bytes 16 0xb879ad976d8242acc188ab59cabfe307)
 
-abbrev two : List (List ℕ)
-two = bytes 16 0x40dd0163cdb48f9fe3212bf61b201976 ∷ bytes 16 0x027f342b38b58fc6858b73af3aeabecf ∷ []
+-- the two blocks that are added to the text
+abbrev keystream : List (List ℕ)
+keystream = bytes 16 0x40dd0163cdb48f9fe3212bf61b201976
+    ∷ bytes 16 0x027f342b38b58fc6858b73af3aeabecf ∷ []
 
 pub returns-clause-tag : goal.returns-clause-tag
 unfolding siv_on_literals
@@ -41,7 +46,8 @@ returns-clause-text c =
     let known = c.encrypted_under_256.ensures in
     ap (λ e. text_under (key_expansion e) (bytes 16 0xb879ad976d8242acc188ab59cabfe307) plain)
     c.keys_256_example.ensures.encryption
-    ∙ blocks_by encrypting start two plain
-    (by_two (λ m. slice_index_or two m [] ≡ cipher_with encrypting (counter_block start m))
+    ∙ blocks_by round_keys first_block keystream plain
+    (by_two (λ m. slice_index_or keystream m []
+    ≡ cipher_with round_keys (counter_block first_block m))
     (sym known.first) (sym known.second))
     (omega arith)
