@@ -23,7 +23,7 @@ use Rattle.aes_permute.proofs.RoundLanes.{round_is, last_is}
 abbrev pub places_in : List (List ℕ) → ℕ → List ℕ
 places_in tables k = get_or tables k []
 
--- of four tables of indices, the one for n, counted round the end, has indices
+-- if each of four tables has indices, so has the one for n modulo 4
 pub are_indices : (tables : List (List ℕ))
     → AreIndices (places_in tables 0) → AreIndices (places_in tables 1)
     → AreIndices (places_in tables 2) → AreIndices (places_in tables 3)
@@ -31,21 +31,21 @@ pub are_indices : (tables : List (List ℕ))
 are_indices tables a b c d n =
     by_four (λ k. AreIndices (places_in tables k)) a b c d (n % 4) (omega arith)
 
--- SHIFTED_ROWS has indices
+-- each table of SHIFTED_ROWS has indices
 pub shifted_indices : (n : ℕ) → AreIndices (places_in SHIFTED_ROWS (n % 4))
 unfolding is_index
 shifted_indices = are_indices SHIFTED_ROWS refl refl refl refl
 
--- SHIFTED_ROWS has indices also where it is read backwards, for ShiftRows that are undone
+-- the table of SHIFTED_ROWS that undoes n ShiftRows has indices
 pub shifted_back_indices : (n : ℕ) → AreIndices (places_in SHIFTED_ROWS ((4 - n % 4) % 4))
 shifted_back_indices n = shifted_indices (4 - n % 4)
 
--- NEXT_ROW has indices
+-- each table of NEXT_ROW has indices
 pub next_indices : (n : ℕ) → AreIndices (places_in NEXT_ROW (n % 4))
 unfolding is_index
 next_indices = are_indices NEXT_ROW refl refl refl refl
 
--- ROW_BEFORE has indices
+-- each table of ROW_BEFORE has indices
 pub before_indices : (n : ℕ) → AreIndices (places_in ROW_BEFORE (n % 4))
 unfolding is_index
 before_indices = are_indices ROW_BEFORE refl refl refl refl

@@ -14,7 +14,7 @@ use Rattle.ccm.specs.Ccm.{encoded_length}
 
 -- ---- in two, six or ten bytes
 
--- the encoded length is by the three sizes alone if there are data
+-- a length that is not 0 is encoded in two, six or ten bytes
 encoded_if_some : (a : ℕ) → 0 < a
     → encoded_length a ≡ (if ltb a (2 ^ 16 - 2 ^ 8) then bytes 2 a else
     if ltb a (2 ^ 32) then 0xff ∷ 0xfe ∷ bytes 4 a else 0xff ∷ 0xff ∷ bytes 8 a)

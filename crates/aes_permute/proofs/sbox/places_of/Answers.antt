@@ -1,4 +1,4 @@
--- Each place of a look-up is an index, by all bytes. So the two places that are found are
+-- Each place of a look-up is an index, by all bytes, and the two places that are found are
 -- `first_of` and `second_of`.
 use Rattle.aes_permute.specs.TwoPlaces.{both_nibbles, first_of, second_of}
 use Rattle.aes_permute.specs.Lookup.{low_nibble, high_nibble}
