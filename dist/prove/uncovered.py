@@ -1,5 +1,10 @@
 """What no case of `make prove` covers, and why. A text of which all cases ran is refused where more isn't covered than this list says."""
+import collections
 import re
+
+# Of a function: the addresses that didn't run; those of conditional jumps and adds with carry that went one way; those where a condition
+# chose the same value each time; and {those of other comparisons that weren't at their border: how far from it, by the answer}.
+Uncovered = collections.namedtuple("Uncovered", "idle one_way one_value apart")
 
 # (a pattern of texts; the ends of names of functions, without what tells functions of other types apart; in each of them how many
 # instructions don't run, and how many conditional jumps and adds with carry go one way only, at most; why)
@@ -66,31 +71,38 @@ def plain(name):
 
 
 def of_text(program, ran, went, nearest):
-    """{a function: (the addresses that didn't run, those of conditional instructions that went one way, {those of others that weren't at
-    the border of their comparison: how far from it, by the answer})}, where there are any. `ran` has the addresses that did, `went` pairs
-    of one of these and where it led, or which carry was added, and `nearest` what borders.py notes: an address, an answer, and how far."""
+    """{a function: Uncovered}, where anything is. `ran` has the addresses that did, `went` pairs of one of these and where it led, which
+    carry was added, or what its condition was, and `nearest` what borders.py notes: an address, an answer, and how far."""
     ways, sides, out = {}, {}, {}
     for address, way in went:
         ways.setdefault(address, set()).add(way)
     for address, below, far in nearest:
         side = sides.setdefault(address, {})
         side[below] = min(far, side.get(below, far))
+    jumps, values = (some & ran for some in conditional(program))
+    once = {a for a in jumps | values if len(ways.get(a, ())) < 2}
     for name, addresses in program.functions().items():
-        one_way = {a for a in addresses & ran if re.match(program.machine.conditional, program.lines[a]) and len(ways.get(a, ())) < 2}
-        apart = {a: sides[a] for a in addresses & sides.keys() - one_way if sides[a] != {True: 0, False: 0}}
-        if one_way or apart or not addresses <= ran:
-            out[name] = addresses - ran, one_way, apart
+        apart = {a: sides[a] for a in addresses & sides.keys() - once if sides[a] != {True: 0, False: 0}}
+        left = Uncovered(addresses - ran, addresses & jumps & once, addresses & values & once, apart)
+        if any(left):
+            out[name] = left
     return out
+
+
+def conditional(program):
+    """The addresses of a text's conditional jumps and adds with carry, and those where a condition chooses a value."""
+    machine, all_ = program.machine, set().union(*program.functions().values())
+    jumps = {a for a in all_ if re.match(machine.conditional, program.lines[a])}
+    return jumps, {a for a in all_ - jumps if re.match(machine.choosing, program.lines[a])}
 
 
 def summary(program, found):
     """How much of a text is covered."""
-    all_ = set().union(*program.functions().values())
-    conditional = sum(bool(re.match(program.machine.conditional, program.lines[a])) for a in all_)
-    idle, one_way, apart = (set().union(*some) for some in zip(*found.values())) if found else (set(), set(), set())
-    unseen = sum(bool(re.match(program.machine.conditional, program.lines[a])) for a in idle)
-    return "%d of %d instructions ran; %d of %d conditional jumps and adds with carry led both ways; %d comparisons not at their border" % (
-        len(all_ - idle), len(all_), conditional - unseen - len(one_way), conditional, len(apart))
+    all_, kinds = set().union(*program.functions().values()), conditional(program)
+    idle, one_way, one_value, apart = (set().union(*some) for some in zip(*found.values())) if found else [set()] * 4
+    jumps, values = ("%d of %d" % (len(some - idle - once), len(some)) for some, once in zip(kinds, (one_way, one_value)))
+    return ("%d of %d instructions ran; %s conditional jumps and adds with carry led both ways; %s conditions chose both values; "
+            "%d comparisons not at their border" % (len(all_ - idle), len(all_), jumps, values, len(apart)))
 
 
 def entries(all_, text, name):
@@ -100,7 +112,7 @@ def entries(all_, text, name):
 
 def faults(text, found, with_borders):
     """What isn't covered, and isn't in the lists."""
-    for name, (idle, one_way, apart) in found.items():
+    for name, (idle, one_way, _, apart) in found.items():
         allowed = [(0, 0, ""), *entries(UNCOVERED, text, name)]
         if not any(len(idle) <= a and len(one_way) <= b for a, b, _ in allowed):
             yield "%s: %d instructions that don't run, %d conditional ones that go one way" % (name, len(idle), len(one_way))
