@@ -488,18 +488,16 @@ def one_less_between(count, first, behind):
                    + r"\tandl\t%eax, %r11d\n\tsubq\t%r11, %" + count + r"\n")
 
 
-# Code that no case shows: only what ran is counted, and what was tried at its border. The last is a case that runs the function.
-# The list of uncovered.py allows an export three conditional instructions that go one way, so here are four.
-MORE_THAN_LISTED = 4
+# Code that no case shows: only what ran is counted, which ways conditions went, and what was tried at its border. The last is a case that runs
+# the function.
 UNREACHED = {
     "x86_64/aes": [
-        ("jumps that never go", WIPE, ENTRY, r"\1\txorl\t%eax, %eax\n\ttestl\t%eax, %eax\n" + MORE_THAN_LISTED * r"\tjne\t77f\n77:\n",
-         "wipe"),
+        ("a jump that never goes", WIPE, ENTRY, r"\1\txorl\t%eax, %eax\n\ttestl\t%eax, %eax\n\tjne\t77f\n77:\n", "wipe"),
         ("an instruction that never runs", WIPE, ENTRY, r"\1\tjmp\t77f\n\tmovb\t$1, (%rdi)\n77:\n", "wipe"),
         ("nothing wiped where the code's address has a byte", function("aes_cipher::zeroize::zeroize_words"), ENTRY,
          r"\1\tleaq\t0(%rip), %rax\n"
          r"\tshrq\t$36, %rax\n\tandl\t$255, %eax\n\tcmpl\t$0x55, %eax\n\tjne\t77f\n\tmovq\t$0, (%rdi)\n\tretq\n77:\n", "blocks encrypt 17"),
-        ("carries that never come", WIPE, ENTRY, r"\1\txorl\t%eax, %eax\n" + MORE_THAN_LISTED * r"\tadcq\t$0, %rax\n", "wipe"),
+        ("a carry that never comes", WIPE, ENTRY, r"\1\txorl\t%eax, %eax\n\tadcq\t$0, %rax\n", "wipe"),
         ("texts of 942 to 1017 bytes, of which the last one stays", exported("aes_add_keystream"), *one_less_between("rcx", 942, 1018),
          "any_low_keystream 5 122"),
         ("messages of 52 to 59 bytes without the last one", exported("aes_cmac"), *one_less_between("rdx", 52, 60), "any_cmac 1"),

@@ -2,9 +2,12 @@
 import collections
 import re
 
+from counts import COUNTS
+
 # Of a function: the addresses that didn't run; those of conditional jumps and adds with carry that went one way; those where a condition
 # chose the same value each time; and {those of other comparisons that weren't at their border: how far from it, by the answer}.
 Uncovered = collections.namedtuple("Uncovered", "idle one_way one_value apart")
+NOTHING = 0, 0, 0, 0  # how many there are of each
 
 # (a pattern of texts; the ends of names of functions, without what tells functions of other types apart; in each of them how many
 # instructions don't run, and how many conditional jumps and adds with carry go one way only, at most; why)
@@ -46,28 +49,38 @@ UNCOVERED = [
 ]
 
 
-# Of comparisons: in these texts, how many of a function's weren't tried at their border (borders.py), with PROVE, and why.
+# With PROVE, counts.py has how much is uncovered of each function of these texts, and each has a reason, here or above.
 JUDGED = "x86_64/(aes|gcm)"
+# Why a condition chooses the same value each time.
+VALUES = [
+    ("x86_64/.*", r"fotsgure_\w+", "It asks whether a pointer is NULL, in the place of which the header passes another address."),
+    ("x86_64/.*", r"add_in_batches\.add_next", "A text that ends in the block in which it begins goes another way. In AES-GCM-SIV whole batches "
+     "come before."),
+    ("x86_64/gcm", r"gcm_siv\.message\.apply", "Whole batches come before, so fewer bytes are left."),
+    ("x86_64/aes", "key_wrap.padded.wrap_padded", "A key of fewer than eight bytes goes another way."),
+    ("x86_64/aes", "ccm.message.put_tag", "Each key has more than two rounds."),
+    ("x86_64/gcm", "BorrowedGcm.compare", "The export refuses lengths first, and they are asked for once more."),
+]
+# Why a comparison isn't tried at its border (borders.py).
 BORDERS = [
-    ("x86_64/aes", r"add_in_batches\.add_keystream", 1, "The carry between a counter's halves. It has cases in which these may be any."),
-    ("x86_64/aes", "process_in_batches", 1, "The loop's numbers are multiples of eight."),
-    ("x86_64/.*", r"add_in_batches\.add_next", 1, "A text that ends in the block in which it begins goes another way."),
-    ("x86_64/aes", r"add_in_batches\.add_next", 5, "Such a text, and four carries between a counter's halves: cases have any halves."),
-    ("x86_64/.*", "process_planes", 1, "A loop over round keys ends at the numbers that three sizes of keys have."),
-    *(("x86_64/.*", function, n, "The sum of two numbers of bytes carries only in calls that are refused, which is proved for all numbers.")
-      for function, n in (("fotsgure_aes_add_keystream(_with)?", 1), ("fotsgure_aes_add_keystream_to", 2),
-                          (r"BorrowedGcm\.turn_to|fotsgure_gcm_(additional|decrypt)", 1))),
-    ("x86_64/aes", "key_wrap.padded.wrap_padded", 1, "A key of fewer than eight bytes goes another way."),
-    ("x86_64/aes", "ccm.message.put_tag", 1, "Each key has more than two rounds."),
-    ("x86_64/.*", r"fotsgure_\w+_to|whole_to\.copy", 1, "Buffers that are 32 bytes apart, and overlap, have more bytes than that."),
-    ("x86_64/gcm", "BorrowedGcm.compare", 1, "The export refuses lengths first, and they are asked for once more."),
-    ("x86_64/gcm", r"gcm_siv\.message\.apply", 1, "Whole batches come before, so fewer bytes are left."),
+    ("x86_64/aes", r"add_in_batches\.add_keystream", "The carry between a counter's halves. It has cases in which these may be any."),
+    ("x86_64/aes", "process_in_batches", "The loop's numbers are multiples of eight."),
+    ("x86_64/aes", r"add_in_batches\.add_next", "Four carries between a counter's halves: cases have any halves."),
+    ("x86_64/.*", "process_planes", "A loop over round keys ends at the numbers that three sizes of keys have."),
+    ("x86_64/.*", r"fotsgure_aes_add_keystream(_with|_to)?|BorrowedGcm\.turn_to|fotsgure_gcm_(additional|decrypt)",
+     "The sum of two numbers of bytes carries only in calls that are refused, which is proved for all numbers."),
+    ("x86_64/.*", r"fotsgure_\w+_to|whole_to\.copy", "Buffers that are 32 bytes apart, and overlap, have more bytes than that."),
 ]
 
 
 def plain(name):
     """A function's name without the number of its types, and without what tells the builds of a library apart."""
     return re.sub(r"\.\d+$|_v\d$", "", name)
+
+
+def known_as(name):
+    """A function's name in counts.py: without what tells the builds of a library apart."""
+    return re.sub(r"^\w+_v\d\.|_v\d$", "", name)
 
 
 def of_text(program, ran, went, nearest):
@@ -110,11 +123,33 @@ def entries(all_, text, name):
     return [entry[2:] for entry in all_ if re.fullmatch(entry[0], text) and re.search("(%s)$" % entry[1], plain(name))]
 
 
-def faults(text, found, with_borders):
-    """What isn't covered, and isn't in the lists."""
-    for name, (idle, one_way, _, apart) in found.items():
-        allowed = [(0, 0, ""), *entries(UNCOVERED, text, name)]
-        if not any(len(idle) <= a and len(one_way) <= b for a, b, _ in allowed):
-            yield "%s: %d instructions that don't run, %d conditional ones that go one way" % (name, len(idle), len(one_way))
-        if with_borders and re.fullmatch(JUDGED, text) and len(apart) > max((n for n, _ in entries(BORDERS, text, name)), default=0):
-            yield "%s: %d comparisons that weren't tried at their border" % (name, len(apart))
+def against_counts(text, name, left, level):
+    """Where the numbers of a function aren't those of counts.py, or have no reason. With PROVE=all fewer may be left uncovered: what didn't
+    run then may go one way, and what went one way may go both, away from its border."""
+    found, listed = tuple(map(len, left)), COUNTS[text].get(known_as(name), NOTHING)
+    if level == "all":
+        if found[0] > listed[0] or sum(found[:3]) > sum(listed[:3]):
+            yield "%s: %s uncovered, more than the %s of counts.py" % (name, found, listed)
+        return
+    if found != listed:
+        yield "%s: %s uncovered, and not the %s of counts.py" % (name, found, listed)
+    for number, reasons, what in (found[2], VALUES, "conditions"), (found[3], BORDERS, "comparisons"):
+        if number and not entries(reasons, text, name):
+            yield "%s: %d %s without a reason in uncovered.py" % (name, number, what)
+
+
+def excess(text, name, left, level):
+    """What isn't covered of a function, and isn't in the lists."""
+    idle, one_way = len(left.idle), len(left.one_way)
+    if not any(idle <= a and one_way <= b for a, b, _ in [(0, 0, ""), *entries(UNCOVERED, text, name)]):
+        yield "%s: %d instructions that don't run, %d conditional ones that go one way" % (name, idle, one_way)
+    if level and re.fullmatch(JUDGED, text):
+        yield from against_counts(text, name, left, level)
+
+
+def faults(text, found, level):
+    """What isn't covered of a text, and isn't in the lists; and what these have although it is covered."""
+    for name in COUNTS.get(text, {}).keys() - set(map(known_as, found)):
+        found = {**found, name: Uncovered((), (), (), {})}
+    for name, left in found.items():
+        yield from excess(text, name, left, level)
