@@ -46,7 +46,7 @@ def edited(text, label, pattern, new):
 
 def uncovered_of(program, function):
     """What the cases that ran don't reach of a function: {its name: what}."""
-    found = uncovered.of_text(program, set(program.cache), program.went, program.distances())
+    found = uncovered.of_text(program, set(program.cache), program.went, program.distances(), True)
     return {name: left for name, left in found.items() if re.search(function, uncovered.plain(name) + ":")}
 
 
@@ -55,7 +55,7 @@ def refuse_unreached(build, found, usual):
     for name, left in found.items():
         before, listed = map(len, usual.get(name, [()] * 4)), COUNTS[build].get(uncovered.known_as(name), uncovered.NOTHING)
         if any(len(now) > max(pair) for now, *pair in zip(left, before, listed)):
-            for fault in uncovered.excess(build, name, left, "builds"):
+            for fault in uncovered.against_counts(build, name, left, "builds"):
                 raise Unproved("unreached: " + fault)
 
 
@@ -76,6 +76,7 @@ class Planted:
             file.write(text)
         keyed.program = assembled(self.build, self.out + ".s", self.out)
         for case in cases:
+            keyed.program.accepts = "refused" not in case
             keyed.proved(self.cases[case]) if self.cases[case] else type(keyed)(keyed.program, 16).set_key()
         refuse_lines(self.out + ".s", BUILDS[self.build])
 

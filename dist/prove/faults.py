@@ -498,7 +498,7 @@ def one_less_at(count, length, how):
 
 
 # Code that no case shows: only what ran is counted, which ways conditions went, and what was tried at its border. The last is a case that runs
-# the function, or several: those of gcm_seal_to leave as much of it uncovered as counts.py has.
+# the function, or several, of which refusals' ways don't count.
 SEAL_TO_CASES = "; ".join(["seal 13 3 _to", *("gcm_seal_to refused %d" % n for n in (1, 5, 9, 10))])
 COPY_OF_TEXT = "(?=%s)" % call("gcm_c::whole_to::copy")
 UNREACHED = {

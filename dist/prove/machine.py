@@ -235,7 +235,7 @@ class Machine(Arithmetic, Borders, Unknowns, Bytewise, Access):
 
     def went(self, way):
         """Notes where a jump led, which carry was added, or what a condition was that chose a value."""
-        self.program.went.add((self.last, way))
+        self.program.went.add((self.last, way, self.program.accepts))
 
     def chosen(self, holds):
         """A condition by which a value was chosen, as it is: 0 or 1; or a value that depends on a secret, so that both are met."""

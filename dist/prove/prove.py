@@ -32,7 +32,8 @@ def say_what_ran(tasks, options):
         texts.setdefault(text_of(task.build), []).append(task)
     for text, own in texts.items():
         program = Program(own[0].path, own[0].machine, suffix_of(own[0].build))
-        found = uncovered.of_text(program, *(set().union(*some) for some in zip(*((task.ran, task.went, task.nearest) for task in own))))
+        noted = [set().union(*some) for some in zip(*((task.ran, task.went, task.nearest) for task in own))]
+        found = uncovered.of_text(program, *noted)
         judged = options.level == "all" or not takes_few(own[0].build, options.level)  # all cases run
         print("%s.s: %s%s" % (text, uncovered.summary(program, found), "" if judged else "; not judged here"))
         if options.lines:
@@ -41,7 +42,7 @@ def say_what_ran(tasks, options):
                 print("%s.s, %s: %d instructions didn't run, %d conditional ones went one way, %d conditions chose one value, %d comparisons "
                       "away from their borders%s" % (text, name, *map(len, one), far))
         if not options.only and options.keys == KEY_SIZES and {b for b in BUILDS if text_of(b) == text} <= {task.build for task in own}:
-            more = uncovered.faults(text, found, options.level) if judged else ()
+            more = uncovered.faults(text, found, uncovered.of_text(program, *noted, True), options.level) if judged else ()
             faults += ["%s.s, %s" % (text, fault) for fault in [*more, *without_case(text, program, own)]]
     for fault in faults:
         print("NOT PROVED: " + fault)

@@ -51,9 +51,11 @@ UNCOVERED = [
 
 # With PROVE, counts.py has how much is uncovered of each function of these texts, and each has a reason, here or above.
 JUDGED = "x86_64/(aes|gcm)"
-# Why a condition chooses the same value each time.
+# Why a condition chooses the same value each time, if refusals aren't counted.
 VALUES = [
-    ("x86_64/.*", r"fotsgure_\w+", "It asks whether a pointer is NULL, in the place of which the header passes another address."),
+    ("x86_64/.*", r"fotsgure_\w+", "It asks whether a pointer is NULL, in the place of which the header passes another address; or whether a "
+     "call is refused."),
+    ("x86_64/.*", r"key_wrap\.\w+\.\w+|ccm\.mode\.\w+|BorrowedGcm\.turn_to", "It asks whether a call is refused."),
     ("x86_64/.*", r"add_in_batches\.add_next", "A text that ends in the block in which it begins goes another way. In AES-GCM-SIV whole batches "
      "come before."),
     ("x86_64/gcm", r"gcm_siv\.message\.apply", "Whole batches come before, so fewer bytes are left."),
@@ -83,12 +85,13 @@ def known_as(name):
     return re.sub(r"^\w+_v\d\.|_v\d$", "", name)
 
 
-def of_text(program, ran, went, nearest):
-    """{a function: Uncovered}, where anything is. `ran` has the addresses that did, `went` pairs of one of these and where it led, which
-    carry was added, or what its condition was, and `nearest` what borders.py notes: an address, an answer, and how far."""
+def of_text(program, ran, went, nearest, by_accepted=False):
+    """{a function: Uncovered}, where anything is. `ran` has the addresses that did, `went` what Program says of it, and `nearest` what
+    borders.py notes: an address, an answer, and how far. `by_accepted`: only ways count that cases went that aren't refusals."""
     ways, sides, out = {}, {}, {}
-    for address, way in went:
-        ways.setdefault(address, set()).add(way)
+    for address, way, accepts in went:
+        if accepts or not by_accepted:
+            ways.setdefault(address, set()).add(way)
     for address, below, far in nearest:
         side = sides.setdefault(address, {})
         side[below] = min(far, side.get(below, far))
@@ -138,18 +141,13 @@ def against_counts(text, name, left, level):
             yield "%s: %d %s without a reason in uncovered.py" % (name, number, what)
 
 
-def excess(text, name, left, level):
-    """What isn't covered of a function, and isn't in the lists."""
-    idle, one_way = len(left.idle), len(left.one_way)
-    if not any(idle <= a and one_way <= b for a, b, _ in [(0, 0, ""), *entries(UNCOVERED, text, name)]):
-        yield "%s: %d instructions that don't run, %d conditional ones that go one way" % (name, idle, one_way)
-    if level and re.fullmatch(JUDGED, text):
-        yield from against_counts(text, name, left, level)
-
-
-def faults(text, found, level):
+def faults(text, found, by_accepted, level):
     """What isn't covered of a text, and isn't in the lists; and what these have although it is covered."""
-    for name in COUNTS.get(text, {}).keys() - set(map(known_as, found)):
-        found = {**found, name: Uncovered((), (), (), {})}
     for name, left in found.items():
-        yield from excess(text, name, left, level)
+        idle, one_way = len(left.idle), len(left.one_way)
+        if not any(idle <= a and one_way <= b for a, b, _ in [(0, 0, ""), *entries(UNCOVERED, text, name)]):
+            yield "%s: %d instructions that don't run, %d conditional ones that go one way" % (name, idle, one_way)
+    if level and re.fullmatch(JUDGED, text):
+        covered = COUNTS[text].keys() - set(map(known_as, by_accepted))
+        for name, left in {**by_accepted, **dict.fromkeys(covered, Uncovered((), (), (), {}))}.items():
+            yield from against_counts(text, name, left, level)
