@@ -127,7 +127,7 @@ def entries(all_, text, name):
 
 
 def against_counts(text, name, left, level):
-    """Where the numbers of a function aren't those of counts.py, or have no reason. With PROVE=all fewer may be left uncovered: what didn't
+    """Where the numbers of a function aren't those of counts.py, or have no reason. With PROVE=all less may be left uncovered: what didn't
     run then may go one way, and what went one way may go both, away from its border."""
     found, listed = tuple(map(len, left)), COUNTS[text].get(known_as(name), NOTHING)
     if level == "all":
@@ -143,11 +143,12 @@ def against_counts(text, name, left, level):
 
 def faults(text, found, by_accepted, level):
     """What isn't covered of a text, and isn't in the lists; and what these have although it is covered."""
-    for name, left in found.items():
+    counted = level and re.fullmatch(JUDGED, text)
+    for name, left in found.items() if not counted or level == "builds" else ():  # (else counts.py allows less)
         idle, one_way = len(left.idle), len(left.one_way)
         if not any(idle <= a and one_way <= b for a, b, _ in [(0, 0, ""), *entries(UNCOVERED, text, name)]):
             yield "%s: %d instructions that don't run, %d conditional ones that go one way" % (name, idle, one_way)
-    if level and re.fullmatch(JUDGED, text):
+    if counted:
         covered = COUNTS[text].keys() - set(map(known_as, by_accepted))
         for name, left in {**by_accepted, **dict.fromkeys(covered, Uncovered((), (), (), {}))}.items():
             yield from against_counts(text, name, left, level)
