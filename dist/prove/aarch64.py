@@ -33,6 +33,7 @@ class Aarch64(Machine):
     red_zone, mark, comment = 0, r"hint\s#0x22", "//"
     jumps = r"b(?:\.\w+)?|cbn?z|tbn?z"
     conditional, padding = r"b\.|cbn?z|tbn?z|adcs?\s|sbcs?\s|csinc\s.*, c[cs]\b", "nop|udf"
+    choosing = r"csel|csinc\s(?!.*, c[cs]\b)|csinv|ccmp"
 
     def enter(self, arguments):
         super().enter(arguments)
@@ -186,10 +187,9 @@ def select(m, name, to, a, b, code):
     except Undefined:
         raise
     except Unproved:  # the choice isn't a branch
+        m.chosen(None)
         return m.put(to, m.lost_bytes(to.size))
-    v = m.get(a if taken else b)
-    if code in ("cs", "cc"):
-        m.went(taken)
+    v = m.get(a if m.chosen(taken) else b)
     if name == "csinc" and not taken:
         v = m.plus(v, 1, 0, to.size)[0]
     elif name == "csinv" and not taken:
@@ -230,7 +230,7 @@ def sub(m, name, to, a, b):
 
 @TABLE.of("ccmp")
 def ccmp(m, name, a, b, flags, code):
-    if m.condition(code):
+    if m.chosen(m.condition(code)):
         x, y = m.get(a), m.get(b)
         m.set_flags(**m.compared(x, y, a.size))
         m.apart = apart(x, y, a.size)

@@ -11,6 +11,7 @@ import sys
 import uncovered
 from bits import Unproved
 from cases import LIBRARIES, statements
+from counts import COUNTS
 from faults import FAULTS, UNREACHED
 from lines import refuse_lines
 from linking import BUILDS, assembled, source, takes_few
@@ -43,12 +44,19 @@ def edited(text, label, pattern, new):
     return text[:found.start()] + put + text[found.end():], text.count("\n", 0, found.start()) + 1
 
 
-def refuse_unreached(build, program, function):
-    """Refuses what the cases that ran don't reach of a function, if that isn't in the list."""
-    found = uncovered.of_text(program, set(program.cache), program.went, program.distances())
-    of_function = {name: one for name, one in found.items() if re.search(function, uncovered.plain(name) + ":")}
-    for fault in uncovered.faults(build, of_function, True):
-        raise Unproved("unreached: " + fault)
+def uncovered_of(program, function):
+    """What the cases that ran don't reach of a function: {its name: what}."""
+    found = uncovered.of_text(program, set(program.cache), program.went, program.distances(), True)
+    return {name: left for name, left in found.items() if re.search(function, uncovered.plain(name) + ":")}
+
+
+def refuse_unreached(build, found, usual):
+    """Refuses what isn't reached, if there is more of it than the lists have, and than the same cases leave of the text as it is."""
+    for name, left in found.items():
+        before, listed = map(len, usual.get(name, [()] * 4)), COUNTS[build].get(uncovered.known_as(name), uncovered.NOTHING)
+        if any(len(now) > max(pair) for now, *pair in zip(left, before, listed)):
+            for fault in uncovered.against_counts(build, name, left, "builds"):
+                raise Unproved("unreached: " + fault)
 
 
 class Planted:
@@ -62,26 +70,31 @@ class Planted:
         level = "all" if takes_few(build) else "builds"
         self.cases = dict(statements(self.keyed, argparse.Namespace(dist=options.dist, level=level, only=""), 0, 1), set_key=None)
 
-    def prove(self, case):
+    def prove(self, text, cases):
         keyed = self.keyed
+        with open(self.out + ".s", "w") as file:
+            file.write(text)
         keyed.program = assembled(self.build, self.out + ".s", self.out)
-        keyed.proved(self.cases[case]) if self.cases[case] else type(keyed)(keyed.program, 16).set_key()
+        for case in cases:
+            keyed.program.accepts = "refused" not in case
+            keyed.proved(self.cases[case]) if self.cases[case] else type(keyed)(keyed.program, 16).set_key()
         refuse_lines(self.out + ".s", BUILDS[self.build])
 
-    def cover(self, case, function):
-        self.prove(case)
-        refuse_unreached(self.build, self.keyed.program, function)
+    def left_by(self, text, cases, function):
+        self.prove(text, cases)
+        return uncovered_of(self.keyed.program, function)
 
     def tried(self, fault, is_unreached):
-        """The verdict on a fault: the case that it names has to refuse it, or has to leave it uncovered."""
+        """The verdict on a fault: the case that it names has to refuse it, or its cases have to leave it uncovered."""
         what, *edit, case = fault
         changed, line = edited(self.text, *edit)
         if changed in (None, self.text):
             return False, "MISSED: %s (%s): there is no such place, or nothing changes" % (what, self.build)
-        with open(self.out + ".s", "w") as file:
-            file.write(changed)
-        what = "%s (%s.s:%d, %s)" % (what, self.build, line, case)
-        return verdict(what, lambda: self.cover(case, edit[0]), "unreached") if is_unreached else verdict(what, lambda: self.prove(case))
+        what, cases = "%s (%s.s:%d, %s)" % (what, self.build, line, case), case.split("; ")
+        if not is_unreached:
+            return verdict(what, lambda: self.prove(changed, cases))
+        usual = self.left_by(self.text, cases, edit[0])
+        return verdict(what, lambda: refuse_unreached(self.build, self.left_by(changed, cases, edit[0]), usual), "unreached")
 
 
 def faults(options, build):
@@ -89,7 +102,7 @@ def faults(options, build):
     planted, unreached, verdicts = Planted(options, build), UNREACHED.get(build, []), []
     for fault in FAULTS.get(build, []) + LONG_FAULTS.get(build, []) + unreached:
         what, *_, case = fault
-        if case not in planted.cases:
+        if not {*case.split("; ")} <= planted.cases.keys():
             raise SystemExit("controls: %s: no such case: %s" % (what, case))
         if options.only in what:
             verdicts.append(planted.tried(fault, fault in unreached))

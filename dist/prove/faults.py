@@ -488,22 +488,40 @@ def one_less_between(count, first, behind):
                    + r"\tandl\t%eax, %r11d\n\tsubq\t%r11, %" + count + r"\n")
 
 
-# Code that no case shows: only what ran is counted, and what was tried at its border. The last is a case that runs the function.
-# The list of uncovered.py allows an export three conditional instructions that go one way, so here are four.
-MORE_THAN_LISTED = 4
+BY_JUMP = r"\tmovl\t$1, %eax\n\tje\t77f\n\txorl\t%eax, %eax\n77:\n"
+BY_SET, BY_MOVE = r"\tmovl\t$0, %eax\n\tsete\t%al\n", r"\tmovl\t$0, %eax\n\tmovl\t$1, %r11d\n\tcmovel\t%r11d, %eax\n"
+
+
+def one_less_at(count, length, how):
+    """One less in a register if it holds a number that no case has; `how` makes rax 1 then, else 0."""
+    return r"\g<0>\tcmpq\t$%d, %%%s\n%s\tsubq\t%%rax, %%%s\n" % (length, count, how, count)
+
+
+# Code that no case shows: only what ran is counted, which ways conditions went, and what was tried at its border. The last is a case that runs
+# the function, or several, of which refusals' ways don't count.
+SEAL_TO_CASES = "; ".join(["seal 13 3 _to", *("gcm_seal_to refused %d" % n for n in (1, 5, 9, 10))])
+COPY_OF_TEXT = "(?=%s)" % call("gcm_c::whole_to::copy")
 UNREACHED = {
     "x86_64/aes": [
-        ("jumps that never go", WIPE, ENTRY, r"\1\txorl\t%eax, %eax\n\ttestl\t%eax, %eax\n" + MORE_THAN_LISTED * r"\tjne\t77f\n77:\n",
-         "wipe"),
+        ("a jump that never goes", WIPE, ENTRY, r"\1\txorl\t%eax, %eax\n\ttestl\t%eax, %eax\n\tjne\t77f\n77:\n", "wipe"),
         ("an instruction that never runs", WIPE, ENTRY, r"\1\tjmp\t77f\n\tmovb\t$1, (%rdi)\n77:\n", "wipe"),
         ("nothing wiped where the code's address has a byte", function("aes_cipher::zeroize::zeroize_words"), ENTRY,
          r"\1\tleaq\t0(%rip), %rax\n"
          r"\tshrq\t$36, %rax\n\tandl\t$255, %eax\n\tcmpl\t$0x55, %eax\n\tjne\t77f\n\tmovq\t$0, (%rdi)\n\tretq\n77:\n", "blocks encrypt 17"),
-        ("carries that never come", WIPE, ENTRY, r"\1\txorl\t%eax, %eax\n" + MORE_THAN_LISTED * r"\tadcq\t$0, %rax\n", "wipe"),
+        ("a carry that never comes", WIPE, ENTRY, r"\1\txorl\t%eax, %eax\n\tadcq\t$0, %rax\n", "wipe"),
+        ("a condition that never holds", WIPE, ENTRY, r"\1\txorl\t%eax, %eax\n\ttestl\t%eax, %eax\n\tsetne\t%al\n", "wipe"),
         ("texts of 942 to 1017 bytes, of which the last one stays", exported("aes_add_keystream"), *one_less_between("rcx", 942, 1018),
+         "any_low_keystream 5 122"),
+        ("a text of 4,100 bytes of which the last one stays", exported("aes_add_keystream"), ENTRY, one_less_at("rcx", 4100, BY_MOVE),
          "any_low_keystream 5 122"),
         ("messages of 52 to 59 bytes without the last one", exported("aes_cmac"), *one_less_between("rdx", 52, 60), "any_cmac 1"),
         ("messages of 52 to 59 bytes compared without the last one", exported("aes_cmac_verify"), *one_less_between("rdx", 52, 60),
          "any_cmac_verify 1 16"),
+    ],
+    "x86_64/gcm": [
+        ("a text of 2^20 bytes, of which the last one isn't sealed, by a jump", exported("gcm_seal_to"), COPY_OF_TEXT,
+         one_less_at("rsi", 1 << 20, BY_JUMP), SEAL_TO_CASES),
+        ("one of 4,096 bytes, of which it isn't, without a jump", exported("gcm_seal_to"), COPY_OF_TEXT,
+         one_less_at("rsi", 4096, BY_SET), SEAL_TO_CASES),
     ],
 }

@@ -25,6 +25,7 @@ Machine, in a file of its own (x86_64.py, aarch64.py, riscv.py), that says:
     mark                   how a line of objdump begins where an indirect call may arrive, if a processor looks for that
     jumps                  how a line of objdump begins that is a jump to an address, and no call
     conditional, padding        how a line of objdump begins that is a conditional jump or adds a carry, or fills up space between others
+    choosing               how one begins that chooses a value by a condition
     decode(text, following)     a line of objdump as an Instruction; `following` is the next address
     leave()                     after libc's function: goes on at the return address
     condition(code)             0 or 1, by the flags (see Machine.decide)"""
@@ -233,8 +234,14 @@ class Machine(Arithmetic, Borders, Unknowns, Bytewise, Access):
         self.went(address)
 
     def went(self, way):
-        """Notes where a jump led, or which carry was added."""
-        self.program.went.add((self.last, way))
+        """Notes where a jump led, which carry was added, or what a condition was that chose a value."""
+        self.program.went.add((self.last, way, self.program.accepts))
+
+    def chosen(self, holds):
+        """A condition by which a value was chosen, as it is: 0 or 1; or a value that depends on a secret, so that both are met."""
+        for way in (holds,) if is_int(holds) else (0, 1):
+            self.went(way)
+        return holds
 
     def external(self, name):
         """A call of libc by its contract. What it may leave in registers is undefined."""

@@ -16,7 +16,9 @@ class Program:
         """`suffix`: what the names of its exports end with."""
         self.path, self.machine = path, machine
         self.lines, self.cache = self.disassembled(), {}
-        self.went = set()  # (where a jump stands, where it led), and (where an add with carry stands, the carry)
+        # (where a jump stands, where it led, `accepts`); the same of an add with carry and the carry, and of a condition that chooses a value.
+        self.went = set()
+        self.accepts = True  # whether the case that runs is of calls that may be done, and not a refusal
         # {(where it is asked whether x is less than y, the answer): (how far from the border at least, the general states before)}, for
         # borders.py.
         self.nearest = {}

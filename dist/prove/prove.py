@@ -24,23 +24,25 @@ KEYLESS = r"fotsgure_\w+_(?:version|wipe|wipe_message|(?:equiv_inv_)?cipher_roun
 
 
 def say_what_ran(tasks, options):
-    """How many instructions of each text ran, how many conditional jumps and adds with carry led both ways, and how many comparisons
-    weren't tried at their border; with --lines, in which functions these are. The result is how many faults there are, of texts of which
-    all cases ran: exports without a case, and what isn't covered and not in the lists of uncovered.py."""
+    """How many instructions of each text ran, how many conditional jumps and adds with carry led both ways, how many conditions chose both
+    values, and how many comparisons weren't tried at their border; with --lines, in which functions these are. The result is how many faults
+    there are, of texts of which all cases ran: exports without a case, and what isn't covered and not in the lists of uncovered.py."""
     texts, faults = {}, []
     for task in (task for task in tasks if task.ran):
         texts.setdefault(text_of(task.build), []).append(task)
     for text, own in texts.items():
         program = Program(own[0].path, own[0].machine, suffix_of(own[0].build))
-        found = uncovered.of_text(program, *(set().union(*some) for some in zip(*((task.ran, task.went, task.nearest) for task in own))))
+        noted = [set().union(*some) for some in zip(*((task.ran, task.went, task.nearest) for task in own))]
+        found = uncovered.of_text(program, *noted)
         judged = options.level == "all" or not takes_few(own[0].build, options.level)  # all cases run
         print("%s.s: %s%s" % (text, uncovered.summary(program, found), "" if judged else "; not judged here"))
         if options.lines:
             for name, one in found.items():
-                print("%s.s, %s: %d instructions didn't run, %d conditional ones went one way, %d comparisons away from their borders%s" % (
-                    text, name, *map(len, one), "".join(": %x by %s" % (address, far) for address, far in one[2].items())))
+                far = "".join(": %x by %s" % of_one for of_one in one.apart.items())
+                print("%s.s, %s: %d instructions didn't run, %d conditional ones went one way, %d conditions chose one value, %d comparisons "
+                      "away from their borders%s" % (text, name, *map(len, one), far))
         if not options.only and options.keys == KEY_SIZES and {b for b in BUILDS if text_of(b) == text} <= {task.build for task in own}:
-            more = uncovered.faults(text, found, options.level) if judged else ()
+            more = uncovered.faults(text, found, uncovered.of_text(program, *noted, True), options.level) if judged else ()
             faults += ["%s.s, %s" % (text, fault) for fault in [*more, *without_case(text, program, own)]]
     for fault in faults:
         print("NOT PROVED: " + fault)

@@ -33,6 +33,7 @@ class Riscv(Machine):
     red_zone, strict, relaxed, flag_names = 0, True, True, ""
     jumps = r"(?:c\.)?(?:j|b[a-z]+)|jal(?=\tzero)"
     conditional, padding = r"(c\.)?b(eq|ne|lt|ge)", r"c\.nop|addi\tzero,zero,0"
+    choosing = "slt"
 
     def enter(self, arguments):
         super().enter(arguments)
@@ -272,8 +273,8 @@ upper = lambda n: (n << 12) - (n >> 19 << 32)  # twenty bits of a number of 32, 
 TABLE = Table({
     "beq": branch(equal), "bne": branch(no(equal)), "bltu": branch(below), "bgeu": branch(no(below)),
     "blt": branch(signed(below)), "bge": branch(no(signed(below))),
-    "sltu": result(lambda m, x, y: m.number_below(x, y)),
-    "slt": result(lambda m, x, y: m.number_below(m.signed(x), m.signed(y))),
+    "sltu": result(lambda m, x, y: m.chosen(m.number_below(x, y))),
+    "slt": result(lambda m, x, y: m.chosen(m.number_below(m.signed(x), m.signed(y)))),
     "lui": result(lambda m, n: upper(n) & m.most),
     "auipc": result(lambda m, n: m.last + upper(n) & m.most),
     "add": result(added),

@@ -52,6 +52,7 @@ class Task:
                 self.vectors = checked(keyed)
             for what, call in statements(keyed, self.options, self.part, self.parts):
                 self.calls |= keyed.calls
+                program.accepts = "refused" not in what
                 self.case(what, lambda seed: keyed.proved(call, seed))
                 if "refused" in what:
                     keyed.calls = set()

@@ -1,5 +1,13 @@
 """What no case of `make prove` covers, and why. A text of which all cases ran is refused where more isn't covered than this list says."""
+import collections
 import re
+
+from counts import COUNTS
+
+# Of a function: the addresses that didn't run; those of conditional jumps and adds with carry that went one way; those where a condition
+# chose the same value each time; and {those of other comparisons that weren't at their border: how far from it, by the answer}.
+Uncovered = collections.namedtuple("Uncovered", "idle one_way one_value apart")
+NOTHING = 0, 0, 0, 0  # how many there are of each
 
 # (a pattern of texts; the ends of names of functions, without what tells functions of other types apart; in each of them how many
 # instructions don't run, and how many conditional jumps and adds with carry go one way only, at most; why)
@@ -41,22 +49,29 @@ UNCOVERED = [
 ]
 
 
-# Of comparisons: in these texts, how many of a function's weren't tried at their border (borders.py), with PROVE, and why.
+# With PROVE, counts.py has how much is uncovered of each function of these texts, and each has a reason, here or above.
 JUDGED = "x86_64/(aes|gcm)"
+# Why a condition chooses the same value each time, if refusals aren't counted.
+VALUES = [
+    ("x86_64/.*", r"fotsgure_\w+", "It asks whether a pointer is NULL, in the place of which the header passes another address; or whether a "
+     "call is refused."),
+    ("x86_64/.*", r"key_wrap\.\w+\.\w+|ccm\.mode\.\w+|BorrowedGcm\.turn_to", "It asks whether a call is refused."),
+    ("x86_64/.*", r"add_in_batches\.add_next", "A text that ends in the block in which it begins goes another way. In AES-GCM-SIV whole batches "
+     "come before."),
+    ("x86_64/gcm", r"gcm_siv\.message\.apply", "Whole batches come before, so fewer bytes are left."),
+    ("x86_64/aes", "key_wrap.padded.wrap_padded", "A key of fewer than eight bytes goes another way."),
+    ("x86_64/aes", "ccm.message.put_tag", "Each key has more than two rounds."),
+    ("x86_64/gcm", "BorrowedGcm.compare", "The export refuses lengths first, and they are asked for once more."),
+]
+# Why a comparison isn't tried at its border (borders.py).
 BORDERS = [
-    ("x86_64/aes", r"add_in_batches\.add_keystream", 1, "The carry between a counter's halves. It has cases in which these may be any."),
-    ("x86_64/aes", "process_in_batches", 1, "The loop's numbers are multiples of eight."),
-    ("x86_64/.*", r"add_in_batches\.add_next", 1, "A text that ends in the block in which it begins goes another way."),
-    ("x86_64/aes", r"add_in_batches\.add_next", 5, "Such a text, and four carries between a counter's halves: cases have any halves."),
-    ("x86_64/.*", "process_planes", 1, "A loop over round keys ends at the numbers that three sizes of keys have."),
-    *(("x86_64/.*", function, n, "The sum of two numbers of bytes carries only in calls that are refused, which is proved for all numbers.")
-      for function, n in (("fotsgure_aes_add_keystream(_with)?", 1), ("fotsgure_aes_add_keystream_to", 2),
-                          (r"BorrowedGcm\.turn_to|fotsgure_gcm_(additional|decrypt)", 1))),
-    ("x86_64/aes", "key_wrap.padded.wrap_padded", 1, "A key of fewer than eight bytes goes another way."),
-    ("x86_64/aes", "ccm.message.put_tag", 1, "Each key has more than two rounds."),
-    ("x86_64/.*", r"fotsgure_\w+_to|whole_to\.copy", 1, "Buffers that are 32 bytes apart, and overlap, have more bytes than that."),
-    ("x86_64/gcm", "BorrowedGcm.compare", 1, "The export refuses lengths first, and they are asked for once more."),
-    ("x86_64/gcm", r"gcm_siv\.message\.apply", 1, "Whole batches come before, so fewer bytes are left."),
+    ("x86_64/aes", r"add_in_batches\.add_keystream", "The carry between a counter's halves. It has cases in which these may be any."),
+    ("x86_64/aes", "process_in_batches", "The loop's numbers are multiples of eight."),
+    ("x86_64/aes", r"add_in_batches\.add_next", "Four carries between a counter's halves: cases have any halves."),
+    ("x86_64/.*", "process_planes", "A loop over round keys ends at the numbers that three sizes of keys have."),
+    ("x86_64/.*", r"fotsgure_aes_add_keystream(_with|_to)?|BorrowedGcm\.turn_to|fotsgure_gcm_(additional|decrypt)",
+     "The sum of two numbers of bytes carries only in calls that are refused, which is proved for all numbers."),
+    ("x86_64/.*", r"fotsgure_\w+_to|whole_to\.copy", "Buffers that are 32 bytes apart, and overlap, have more bytes than that."),
 ]
 
 
@@ -65,32 +80,45 @@ def plain(name):
     return re.sub(r"\.\d+$|_v\d$", "", name)
 
 
-def of_text(program, ran, went, nearest):
-    """{a function: (the addresses that didn't run, those of conditional instructions that went one way, {those of others that weren't at
-    the border of their comparison: how far from it, by the answer})}, where there are any. `ran` has the addresses that did, `went` pairs
-    of one of these and where it led, or which carry was added, and `nearest` what borders.py notes: an address, an answer, and how far."""
+def known_as(name):
+    """A function's name in counts.py: without what tells the builds of a library apart."""
+    return re.sub(r"^\w+_v\d\.|_v\d$", "", name)
+
+
+def of_text(program, ran, went, nearest, by_accepted=False):
+    """{a function: Uncovered}, where anything is. `ran` has the addresses that did, `went` what Program says of it, and `nearest` what
+    borders.py notes: an address, an answer, and how far. `by_accepted`: only ways count that cases went that aren't refusals."""
     ways, sides, out = {}, {}, {}
-    for address, way in went:
-        ways.setdefault(address, set()).add(way)
+    for address, way, accepts in went:
+        if accepts or not by_accepted:
+            ways.setdefault(address, set()).add(way)
     for address, below, far in nearest:
         side = sides.setdefault(address, {})
         side[below] = min(far, side.get(below, far))
+    jumps, values = (some & ran for some in conditional(program))
+    once = {a for a in jumps | values if len(ways.get(a, ())) < 2}
     for name, addresses in program.functions().items():
-        one_way = {a for a in addresses & ran if re.match(program.machine.conditional, program.lines[a]) and len(ways.get(a, ())) < 2}
-        apart = {a: sides[a] for a in addresses & sides.keys() - one_way if sides[a] != {True: 0, False: 0}}
-        if one_way or apart or not addresses <= ran:
-            out[name] = addresses - ran, one_way, apart
+        apart = {a: sides[a] for a in addresses & sides.keys() - once if sides[a] != {True: 0, False: 0}}
+        left = Uncovered(addresses - ran, addresses & jumps & once, addresses & values & once, apart)
+        if any(left):
+            out[name] = left
     return out
+
+
+def conditional(program):
+    """The addresses of a text's conditional jumps and adds with carry, and those where a condition chooses a value."""
+    machine, all_ = program.machine, set().union(*program.functions().values())
+    jumps = {a for a in all_ if re.match(machine.conditional, program.lines[a])}
+    return jumps, {a for a in all_ - jumps if re.match(machine.choosing, program.lines[a])}
 
 
 def summary(program, found):
     """How much of a text is covered."""
-    all_ = set().union(*program.functions().values())
-    conditional = sum(bool(re.match(program.machine.conditional, program.lines[a])) for a in all_)
-    idle, one_way, apart = (set().union(*some) for some in zip(*found.values())) if found else (set(), set(), set())
-    unseen = sum(bool(re.match(program.machine.conditional, program.lines[a])) for a in idle)
-    return "%d of %d instructions ran; %d of %d conditional jumps and adds with carry led both ways; %d comparisons not at their border" % (
-        len(all_ - idle), len(all_), conditional - unseen - len(one_way), conditional, len(apart))
+    all_, kinds = set().union(*program.functions().values()), conditional(program)
+    idle, one_way, one_value, apart = (set().union(*some) for some in zip(*found.values())) if found else [set()] * 4
+    jumps, values = ("%d of %d" % (len(some - idle - once), len(some)) for some, once in zip(kinds, (one_way, one_value)))
+    return ("%d of %d instructions ran; %s conditional jumps and adds with carry led both ways; %s conditions chose both values; "
+            "%d comparisons not at their border" % (len(all_ - idle), len(all_), jumps, values, len(apart)))
 
 
 def entries(all_, text, name):
@@ -98,11 +126,29 @@ def entries(all_, text, name):
     return [entry[2:] for entry in all_ if re.fullmatch(entry[0], text) and re.search("(%s)$" % entry[1], plain(name))]
 
 
-def faults(text, found, with_borders):
-    """What isn't covered, and isn't in the lists."""
-    for name, (idle, one_way, apart) in found.items():
-        allowed = [(0, 0, ""), *entries(UNCOVERED, text, name)]
-        if not any(len(idle) <= a and len(one_way) <= b for a, b, _ in allowed):
-            yield "%s: %d instructions that don't run, %d conditional ones that go one way" % (name, len(idle), len(one_way))
-        if with_borders and re.fullmatch(JUDGED, text) and len(apart) > max((n for n, _ in entries(BORDERS, text, name)), default=0):
-            yield "%s: %d comparisons that weren't tried at their border" % (name, len(apart))
+def against_counts(text, name, left, level):
+    """Where the numbers of a function aren't those of counts.py, or have no reason. With PROVE=all less may be left uncovered: what didn't
+    run then may go one way, and what went one way may go both, away from its border."""
+    found, listed = tuple(map(len, left)), COUNTS[text].get(known_as(name), NOTHING)
+    if level == "all":
+        if found[0] > listed[0] or sum(found[:3]) > sum(listed[:3]):
+            yield "%s: %s uncovered, more than the %s of counts.py" % (name, found, listed)
+        return
+    if found != listed:
+        yield "%s: %s uncovered, and not the %s of counts.py" % (name, found, listed)
+    for number, reasons, what in (found[2], VALUES, "conditions"), (found[3], BORDERS, "comparisons"):
+        if number and not entries(reasons, text, name):
+            yield "%s: %d %s without a reason in uncovered.py" % (name, number, what)
+
+
+def faults(text, found, by_accepted, level):
+    """What isn't covered of a text, and isn't in the lists; and what these have although it is covered."""
+    counted = level and re.fullmatch(JUDGED, text)
+    for name, left in found.items() if not counted or level == "builds" else ():  # (else counts.py allows less)
+        idle, one_way = len(left.idle), len(left.one_way)
+        if not any(idle <= a and one_way <= b for a, b, _ in [(0, 0, ""), *entries(UNCOVERED, text, name)]):
+            yield "%s: %d instructions that don't run, %d conditional ones that go one way" % (name, idle, one_way)
+    if counted:
+        covered = COUNTS[text].keys() - set(map(known_as, by_accepted))
+        for name, left in {**by_accepted, **dict.fromkeys(covered, Uncovered((), (), (), {}))}.items():
+            yield from against_counts(text, name, left, level)

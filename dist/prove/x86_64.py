@@ -32,6 +32,7 @@ class X86_64(Machine):
     scratch = "rcx rdx rsi rdi r8 r9 r10 r11".split()
     red_zone, mark = 128, "endbr64"
     jumps, conditional, padding = r"j\w+", "j(?!mp)|adc|sbb", r"(data16 |cs )*nop|xchg +ax,ax"
+    choosing = "set|cmov"
     # Jumps and calls that have to arrive at a mark; how instructions of AVX-512 begin, of which some have the names of those of AVX2.
     to_mark, avx512 = r"(rex\.\w+ +)*(jmp|call)\b(?! +[0-9a-f]+ <)", b"\x62"
 
@@ -123,8 +124,8 @@ TABLE = Table({
 })
 for _code in CONDITIONS:
     TABLE["j" + _code] = lambda m, name, to, code=_code: m.go_to(to if m.condition(code) else m.next_address)
-    TABLE["set" + _code] = lambda m, name, to, code=_code: m.put(to, m.condition(code))
-    TABLE["cmov" + _code] = lambda m, name, to, source, code=_code: m.put(to, (m.get(to), m.get(source))[m.condition(code)])
+    TABLE["set" + _code] = lambda m, name, to, code=_code: m.put(to, m.chosen(m.condition(code)))
+    TABLE["cmov" + _code] = lambda m, name, to, source, code=_code: m.put(to, (m.get(to), m.get(source))[m.chosen(m.condition(code))])
 
 
 @TABLE.of("lea")
