@@ -6,7 +6,7 @@ import re
 
 import shared
 
-HEAD = "function\tcompares\tjump\tcount"
+HEAD = "function\tcomparison jump:count; .."
 LIST, REASONS = (pathlib.Path(__file__).resolve().parent / it for it in ("jumps.tsv", "reasons.tsv"))
 PLANTED = {("planted", "test r,r", "jne"): 1}
 JUMP = re.compile(r"\s(j(?!mp)\w+|loop\w*)\s")
@@ -64,18 +64,31 @@ def jumps(archive):
     return found
 
 
+def recorded():
+    """The jumps of the list, as `jumps` returns them."""
+    entries = ((name, it.rpartition(":")) for name, line in shared.rows_of(LIST)[1:] for it in line.split("; "))
+    return {(name, *jump.rsplit(" ", 1)): int(count) for name, (jump, _, count) in entries}
+
+
+def record(there):
+    """Writes the list: a line for each function."""
+    lines = {}
+    for (name, before, jump), count in sorted(there.items()):
+        lines.setdefault(name, []).append(f"{before} {jump}:{count}")
+    LIST.write_text("\n".join([HEAD, *(f"{name}\t{'; '.join(entries)}" for name, entries in lines.items())]) + "\n")
+    shared.say(f"recorded: {len(there)} kinds in {LIST}")
+
+
 def speaks_of(row, jump):
     return any(fnmatch.fnmatchcase(jump[0], it) for it in row[0].split(" "))
 
 
-def looked_at(archive, record, found):
+def looked_at(archive, records, found):
     """Compares the jumps of a build with the list, and with the reasons. What is planted is new to both."""
     there = jumps(archive)
-    if record:
-        lines = ["\t".join([*key, str(count)]) for key, count in sorted(there.items())]
-        LIST.write_text("\n".join([HEAD, *lines]) + "\n")
-        shared.say(f"recorded: {len(there)} kinds in {LIST}")
-    was = {tuple(key): int(count) for *key, count in shared.rows_of(LIST)[1:]}
+    if records:
+        record(there)
+    was = recorded()
     new = {key: count for key, count in (there | PLANTED).items() if count > was.get(key, 0)}
     missed, idle = shared.explained(sorted(there | PLANTED), shared.rows_of(REASONS), speaks_of)
     if not (PLANTED.keys() <= new.keys() and PLANTED.keys() <= {*missed}):

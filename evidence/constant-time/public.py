@@ -13,10 +13,6 @@ TOP = shared.TOP
 KIND = r'(?:(?:final|const|unsafe|extern "C") )*'
 
 
-def is_test(path):
-    return "tests" in path.parts or path.name == "tests.rt"
-
-
 def functions_of(text):
     """The names of the public functions of a file, and of the functions of its public traits."""
     found, inside = [], False
@@ -37,7 +33,7 @@ def public_functions():
     for crate in library.CRATES:
         source = TOP / "crates" / crate / "src"
         for path in sorted(source.rglob("*.rt")):
-            if not is_test(path.relative_to(source)):
+            if not {"tests", "tests.rt"} & {*path.relative_to(source).parts}:
                 names = functions_of(path.read_text())
                 found += [(crate, str(path.relative_to(source)), name) for name in names]
     return found
