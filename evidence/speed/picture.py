@@ -38,14 +38,14 @@ def row(name, kind, times, y):
         yield f'<text x="{x + (long + 5 if length else 0):.1f}" y="{y}"{weight}>{escape(text)}</text>'
 
 
-def times_of(rows, key):
+def times_of(rows):
     """The least nanoseconds a block of each engine, in each panel: {(kind, peer, how): times}. This library's are those
     of the process in which its build for AVX2 stands too."""
     times = {}
     for r in rows:
         call = (r["call"], r["amount"])
         is_taken = r["peer"] != "this library" or r["run"] == tables.CONSTANT_TIME
-        if r["key_bytes"] == key and r["kind"] != "planted" and call in tables.PICTURED and is_taken:
+        if call in tables.PICTURED and is_taken:
             of = times.setdefault((r["kind"], r["peer"], r["how"]), {})
             of[call] = min(r["nanoseconds"] / r["amount"], of.get(call, 1e30))
     return {it: [of.get(call) for call in tables.PICTURED] for it, of in times.items()}
@@ -58,10 +58,9 @@ def cell(kind, time, most, ours):
     return time / most, label(time) + (f" ({100 * time / ours:.0f} %)" if kind == "instructions" else "")
 
 
-def drawn(rows, key=16):
-    """The picture of the rows for one size of keys, as text."""
-    title = f"AES encryption with a key of {key} bytes, by this library and those of Debian"
-    times = times_of(rows, key)
+def drawn(rows):
+    """The picture of the rows that are published, as text."""
+    title, times = "AES encryption with a key of 16 bytes, by this library and those of Debian", times_of(rows)
     most = [max(its[at] for its in times.values() if its[at]) for at in range(len(TITLES))]
     ours = next(its for it, its in times.items() if it[2] == tables.BASE)
     parts, y = [f'<text x="0" y="14" class="title">{escape(title)}</text>'], 62

@@ -38,9 +38,9 @@ TABLES = {"it": ((FOR_AVX2, "OpenSSL", "Botan", "Libgcrypt"), BLOCKS), "GCM": ((
 PICTURED = [("encrypt", 4096), ("encrypt", 1), ("key and block", 1)]
 
 
-def summary(rows, key=16):
+def summary(rows):
     """The rows that are published."""
-    return [r for r in rows if r["key_bytes"] == key and r["kind"] != "planted"]
+    return [r for r in rows if r["key_bytes"] == 16 and r["kind"] != "planted"]
 
 
 def place(row):
