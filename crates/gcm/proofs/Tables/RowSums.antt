@@ -192,18 +192,17 @@ reduced_keeps a b c d = ap (bit_xor (bit_xor a b)) (folded_keeps c d)
 nine_zeros : (x : List ℕ) → ((i : ℕ) → 8 ≤ i + 1 → get_or x i 0 ≡ 0)
     → from_be_bytes w128 x ≡ from_be_bytes w128 x / 2 ^ 72 * 2 ^ 72
 nine_zeros x zeros =
-    let at = λ (i : ℕ) (h : 8 ≤ i + 1). zeros i h in
     omega (
       arith,
-      at 7 (omega arith),
-      at 8 (omega arith),
-      at 9 (omega arith),
-      at 10 (omega arith),
-      at 11 (omega arith),
-      at 12 (omega arith),
-      at 13 (omega arith),
-      at 14 (omega arith),
-      at 15 (omega arith),
+      zeros 7 (omega arith),
+      zeros 8 (omega arith),
+      zeros 9 (omega arith),
+      zeros 10 (omega arith),
+      zeros 11 (omega arith),
+      zeros 12 (omega arith),
+      zeros 13 (omega arith),
+      zeros 14 (omega arith),
+      zeros 15 (omega arith),
     )
 
 -- the sums after k steps: of rows 7 to 0 in the lower halves, and of rows 15 to 8 in the upper
