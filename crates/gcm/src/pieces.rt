@@ -379,8 +379,9 @@ impl<'a, C: BlockCipherEncrypt, R: HashRoom> BorrowedGcm<'a, C, R> {
         Ok(())
     }
 
-    // Turns to text of a phase, if it may come, and to so much more of it. A call of its own, so that
-    // GHASH's value after the additional data is nowhere but below the caller's frame, which is wiped.
+    // Moves the message on to a phase, unless it is out of turn or `more` bytes are too many. A call
+    // of its own, so that GHASH's value after the additional data is nowhere but below the caller's
+    // frame, which is wiped.
     #[inline(never)]
     fn turn_to(&self, message: &mut Message, phase: Phase, more: usize) -> Result<(), InvalidPiece>
         requires { phase ≢ Phase.Additional }
