@@ -5,7 +5,7 @@ use Rattle.std.specs.List.{slice_range}
 use Rattle.gcm.specs.Gcm.{product}
 use Rattle.gcm.specs.Hashed.{hashed_as}
 use Rattle.gcm.proofs.Messages.Hashing.{hashed_as_whole, hashed_as_with_rest}
-use Rattle.gcm.proofs.hash.hash_last_group_and.Goals as goal
+use Rattle.gcm.proofs.hash.hash_last_group_and_end.Goals as goal
 
 pub returns-then-left-eq0 : goal.returns-then-left-eq0
 returns-then-left-eq0 g c y is =
