@@ -4,21 +4,23 @@ use Rattle.std.proofs.Common.{◌∷◌, ◌++◌, map, take, drop, get_or, bit_
 use Rattle.std.proofs.Common.{ap, subst, sym, ◌∙◌, arith}
 use Rattle.std.proofs.lemmas.List.{length-map, take_at, drop_at}
 use Rattle.std.proofs.lemmas.Nat.{xor_comm}
-use Rattle.std.specs.Int.{w128, from_be_bytes}
+use Rattle.std.specs.Int.{w128, to_be_bytes, from_be_bytes}
 use Rattle.std.specs.Int.Bits.{xor_assoc, xor_zero_r}
 use lib.Lanes.{zip2}
 use Rattle.aes_planes.specs.Fips197.{IsBlock}
 use Rattle.aes_planes.proofs.Standard.FieldLaws.{add_swap}
+use Rattle.aes_cipher.proofs.BlockNumbers.{block_back}
 use Rattle.aes_permute.specs.Lookup.{by_nibbles}
 use Rattle.aes_permute.proofs.ByHalves.{zip2_take, zip2_drop}
 use Rattle.gcm.specs.Gcm.{v_at}
 use Rattle.gcm.specs.Multiples.{folded, reduced, IsTable, HasRows, subkey_in, row_number}
-use Rattle.gcm.specs.Multiples.{rows_after}
+use Rattle.gcm.specs.Multiples.{rows_after, place_of, multiples_row}
 use Rattle.gcm.proofs.Products.Linear.{v_keeps, v_add}
 use Rattle.gcm.proofs.Messages.Counting.{block_below}
 use Rattle.gcm.proofs.Products.Reduction.{folded_keeps, reduced_next}
 use Rattle.gcm.proofs.Tables.Rows.{zeros_next, value_next, block_moved, block_summed, number_summed}
-use Rattle.gcm.proofs.Tables.Rows.{zeros_block, zero_at, half_found}
+use Rattle.gcm.proofs.Tables.Rows.{zeros_block, zero_at, row_block, row_is}
+use Rattle.gcm.proofs.Tables.Written.{high_row, low_row, nothing_behind}
 
 -- ---- the sum of the last k rows, with the bits that fell out
 
@@ -62,6 +64,24 @@ summed_next row k first second added first' second' inside old block is first_is
     })
 
 -- ---- what two halves look up
+
+-- the half of a vector that was looked up in row r has that row of a product
+half_found : (x half : List ℕ) (rows : List (List ℕ)) (r low high : ℕ) → IsTable rows
+    → r < 16 → IsBlock x
+    → low ≡ 16 + place_of r → high ≡ place_of r
+    → half ≡ map (by_nibbles (get_or rows low []) (get_or rows high [])) x
+    → (IsBlock half) × (from_be_bytes w128 half
+    ≡ row_number (subkey_in rows) (from_be_bytes w128 x) r)
+half_found x half rows r low high is inside block at_low at_high half_is =
+    let h = subkey_in rows in
+    let low_is = ap (λ n. get_or rows n []) at_low ∙ low_row rows h r is inside in
+    let high_is = ap (λ n. get_or rows n []) at_high
+    ∙ high_row rows [] h r (is ∙ nothing_behind h) inside in
+    let y = from_be_bytes w128 x in
+    let looked_up : half
+    ≡ map (by_nibbles (multiples_row (v_at h 4) r) (multiples_row h r)) (to_be_bytes w128 y) =
+    half_is ∙ (λ t. map (by_nibbles (low_is t) (high_is t)) (sym (block_back x block) t)) in
+    (row_block h y r half looked_up, row_is h y r half looked_up)
 
 -- the look-ups of one vector give rows r and 8 + r of a product, since `place_of` puts the two side
 -- by side

@@ -1,6 +1,6 @@
 -- H^2 and H^3 come from the table of H, and each has a table behind it.
 use Rattle.std.proofs.Common.{arith}
-use Rattle.gcm.proofs.Tables.Rows.{is_table, multiples_written, has_multiples, room_block}
+use Rattle.gcm.proofs.Tables.Written.{is_table, multiples_written, has_multiples, room_block}
 use Rattle.gcm.proofs.multiples.put_multiples.Goals as goal
 
 pub next_power-h2-requires-clause-table : goal.next_power-h2-requires-clause-table
