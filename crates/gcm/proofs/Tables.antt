@@ -4,3 +4,4 @@ pub mod Nibbles
 pub mod RowPairs
 pub mod RowSums
 pub mod Rows
+pub mod Written

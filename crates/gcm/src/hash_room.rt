@@ -12,7 +12,7 @@ ghost use Rattle.gcm.specs.Multiples.{subkey_of_words, AreSubkeyWords};
 
 use crate::bitwise::{WithMasks, product_bitwise};
 use crate::byte_order::HighestFirst;
-use crate::hash::{hash_string, hash_string_and};
+use crate::hash::{hash_string, hash_string_and_end};
 use crate::holes::{WithHoles, product_with_holes};
 use crate::multiples::{Multiples, MultiplesRoom, TableRoom, put_multiples, put_one_table};
 use crate::numbers::{number_of, vector_of};
@@ -101,7 +101,7 @@ impl HashRoom for MultiplesRoom {
         let multiples = Multiples::lent(self);
         let value = vector_of(value);
         let end = u8x16::from_array(*end);
-        number_of(hash_string_and::<HighestFirst>(&multiples, value, bytes, end))
+        number_of(hash_string_and_end::<HighestFirst>(&multiples, value, bytes, end))
     }
 }
 

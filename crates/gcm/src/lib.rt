@@ -30,7 +30,7 @@ pub use byte_order::{ByteOrder, HighestFirst};
 pub use counter::Counter;
 pub use errors::{InvalidMessage, InvalidPiece, NotAccepted, OutOfTurn, Refused, TooLong};
 pub use field::next_v;
-pub use hash::{hash_string, hash_string_and};
+pub use hash::{hash_string, hash_string_and_end};
 pub use hash_room::{BorrowedRoom, HashRoom, ProductRoom, SubkeyRoom, SubkeyWordsRoom};
 pub use holes::{WithHoles, product_with_holes};
 pub use laws::{decrypted_parts, kept_parts, text_twice, turns};

@@ -1,28 +1,28 @@
 //! Messages in pieces: however they are cut, the result is that of the whole.
 
-ghost use Rattle.std.specs.Prelude.{◌≡◌, ◌≢◌, ◌↔◌, ◌⊎◌, ◌+◌, ◌-◌, ◌/◌, ◌%◌, ◌^◌, ◌<◌, ◌≤◌, ℕ, List};
-ghost use Rattle.std.specs.Prelude.{[], ◌++◌, length, replicate, drop, IsOk, IsErr, IsErrOf};
-ghost use Rattle.std.specs.Prelude.{IsTrue, IfOk, OnOk, OnErr};
+ghost use Rattle.std.specs.Prelude.{◌≡◌, ◌≢◌, ◌↔◌, ◌⊎◌, ◌+◌, ◌-◌, ◌/◌, ◌%◌, ◌^◌, ◌<◌, ℕ, List, []};
+ghost use Rattle.std.specs.Prelude.{◌++◌, length, replicate, IsErr, IsErrOf, IsTrue, OnOk, OnErr};
 ghost use Rattle.aes_cipher.specs.Blocks.{padded};
 ghost use Rattle.gcm.specs.Gcm as nist;
-ghost use Rattle.gcm.specs.Gcm.{nonce_number, HasFixedLength};
-ghost use Rattle.gcm.specs.Gcm.{IsHashedLength, IsTextLength, IsTooMuchHashed, IsTooMuchText};
-ghost use Rattle.gcm.specs.Pieces.{hashed_padded, IsBegun, IsInText, IsAt, IsEncrypting};
-ghost use Rattle.gcm.specs.Pieces.{IsOutOfTurn, IsTurn, IsVerifying, IsDecrypting, KeepsParts};
-ghost use Rattle.gcm.specs.Pieces.{no_message, phase_of};
+ghost use Rattle.gcm.specs.Gcm.{nonce_number, IsHashedLength, IsTextLength, IsTooMuchHashed};
+ghost use Rattle.gcm.specs.Gcm.{IsTooMuchText};
+ghost use Rattle.gcm.specs.Pieces.{hashed_padded, IsBegun, IsInText, IsAt, IsOutOfTurn, IsTurn};
+ghost use Rattle.gcm.specs.Pieces.{phase_of};
 ghost use Rattle.gcm.specs.declared.message_state.Phase.{Phase};
 
+mod decrypting;
+mod encrypting;
+
 use crate::counter::Counter;
-use crate::errors::{InvalidMessage, InvalidPiece, NotAccepted, OutOfTurn};
-use crate::gctr::{BlockRoom, add_gctr};
+use crate::errors::{InvalidMessage, InvalidPiece};
 use crate::hash_room::{HashRoom, hash_on, hash_piece};
 use crate::lengths::{LONGEST_HASHED, LONGEST_TEXT};
 use crate::message_state::{Message, Phase, number_of_phase, phase_of};
-use crate::mode::{BorrowedGcm, HASH_STACK, TEXT_STACK};
-use crate::tags::{add_masked, hash_lengths, is_expected, is_short_tag, put_mask};
+use crate::mode::{BorrowedGcm, HASH_STACK};
+use crate::tags::{add_masked, hash_lengths, put_mask};
 use aes_cipher::blocks::{block_of_number, number_of_block};
 use aes_cipher::cipher::{Block, BlockCipherEncrypt};
-use aes_cipher::zeroize::{Zeroize, wipe_stack};
+use aes_cipher::zeroize::wipe_stack;
 
 // Returns whether text of a phase may come: the message is in that phase, or additional data may
 // still come.
@@ -45,17 +45,6 @@ fn filled(message: &Message) -> usize
     } else {
         (message.text % 16) as usize
     }
-}
-
-// Writes a claimed tag of 16 bytes or fewer, and behind it what the expected one has there: the two
-// are equal exactly if the claimed one is the first bytes of the expected one.
-#[inline(always)]
-fn put_claimed(tag: &[u8], expected: &Block, claimed: &mut Block)
-    requires { length tag.now ≤ 16 }
-    ensures { claimed.new ≡ tag.now ++ drop (length tag.now) expected.now }
-{
-    *claimed = *expected;
-    claimed[..tag.len()].copy_from_slice(tag);
 }
 
 // Wipes the stack after J_0 was written. A nonce of another length than 12 bytes is hashed, and
@@ -160,227 +149,9 @@ impl<'a, C: BlockCipherEncrypt, R: HashRoom> BorrowedGcm<'a, C, R> {
         Ok(())
     }
 
-    /// Encrypts a piece of the text in place, of any size.
-    ///
-    /// # Errors
-    ///
-    /// `OutOfTurn` exactly if no message has begun, or text has come that is to be decrypted. Else
-    /// `TooLong` exactly if there would be more than 2^36 - 32 bytes of text. Message and text are
-    /// then unchanged.
-    pub fn encrypt_piece(&self, message: &mut Message, text: &mut [u8]) -> Result<(), InvalidPiece>
-        ensures out_of_turn { IsErrOf result InvalidPiece.OutOfTurn
-            ↔ IsOutOfTurn Phase.Encrypting message.old }
-        ensures refusal { IsErr result ↔ (IsOutOfTurn Phase.Encrypting message.old
-            ⊎ IsTooMuchText (message.old.text + length text.old)) }
-        ensures encrypted { OnOk result ((iv a p c : List ℕ)
-            → IsEncrypting self.now iv a c message.old
-            → c ≡ nist.text self.now iv p → c ++ text.new ≡ nist.text self.now iv (p ++ text.old)) }
-        ensures added { OnOk result ((iv a c : List ℕ) → IsEncrypting self.now iv a c message.old
-            → IsInText Phase.Encrypting self.now iv a (c ++ text.new) message.new) }
-        ensures untouched { OnErr result (message.new ≡ message.old) }
-        ensures untouched_text { OnErr result (text.new ≡ text.old) }
-    {
-        self.turn_to(message, Phase::Encrypting, text.len())?;
-        add_gctr(&self.cipher, &message.first, 16 + message.text, text);
-        self.hash_text(message, text);
-        wipe_stack::<TEXT_STACK>();
-        Ok(())
-    }
-
-    /// Ends a message that was encrypted, and returns its tag. Nothing is left of the message.
-    ///
-    /// # Errors
-    ///
-    /// `OutOfTurn` exactly if no message has begun, or text has come that is to be decrypted; the
-    /// message is then unchanged.
-    pub fn finish(&self, message: &mut Message) -> Result<Block, OutOfTurn>
-        ensures out_of_turn { IsErr result
-            ↔ IsOutOfTurn Phase.Encrypting message.old }
-        ensures tag { IfOk result (λ tag. (iv a c : List ℕ)
-            → IsEncrypting self.now iv a c message.old
-            → tag ≡ nist.tag self.now iv a c) }
-        ensures over { OnOk result (message.new ≡ no_message) }
-        ensures untouched { OnErr result (message.new ≡ message.old) }
-    {
-        if !is_turn(message, Phase::Encrypting) {
-            return Err(OutOfTurn);
-        }
-        let mut tag = [0; 16];
-        self.put_tag_so_far(message, &mut tag);
-        wipe_stack::<HASH_STACK>();
-        message.zeroize();
-        Ok(tag)
-    }
-
-    /// Takes a piece of a cipher text whose tag is to be compared, of any size, and writes nothing
-    /// to it.
-    ///
-    /// # Errors
-    ///
-    /// `OutOfTurn` exactly if no message has begun, or text has come that was encrypted or
-    /// accepted. Else `TooLong` exactly if there would be more than 2^36 - 32 bytes of text. The
-    /// message is then unchanged.
-    pub fn verify_piece(&self, message: &mut Message, text: &[u8]) -> Result<(), InvalidPiece>
-        ensures out_of_turn { IsErrOf result InvalidPiece.OutOfTurn
-            ↔ IsOutOfTurn Phase.Verifying message.old }
-        ensures refusal { IsErr result ↔ (IsOutOfTurn Phase.Verifying message.old
-            ⊎ IsTooMuchText (message.old.text + length text.now)) }
-        ensures added { OnOk result ((iv a c : List ℕ) → IsVerifying self.now iv a c message.old
-            → IsInText Phase.Verifying self.now iv a (c ++ text.now) message.new) }
-        ensures untouched { OnErr result (message.new ≡ message.old) }
-    {
-        self.turn_to(message, Phase::Verifying, text.len())?;
-        self.hash_text(message, text);
-        wipe_stack::<HASH_STACK>();
-        Ok(())
-    }
-
-    /// Compares a tag with that of the additional data and the cipher text that have come, without
-    /// an early exit. If it is right, the cipher text may come once more, to be decrypted.
-    ///
-    /// # Errors
-    ///
-    /// `OutOfTurn` exactly if no message has begun, or text has come that was encrypted or
-    /// accepted. Else `Refused` exactly if the tag is wrong. The message is then unchanged.
-    pub fn accept(&self, message: &mut Message, tag: &Block) -> Result<(), NotAccepted>
-        ensures out_of_turn { IsErrOf result NotAccepted.OutOfTurn
-            ↔ IsOutOfTurn Phase.Verifying message.old }
-        ensures accepted { (iv a c : List ℕ) → IsVerifying self.now iv a c message.old
-            → IsOk result ↔ (tag.now ≡ nist.tag self.now iv a c) }
-        ensures decrypting { OnOk result ((iv a c : List ℕ) → IsVerifying self.now iv a c message.old
-            → IsDecrypting self.now iv (length c) [] message.new) }
-        ensures phase { OnOk result (phase_of message.new.phase ≡ Phase.Decrypting) }
-        ensures kept { OnOk result (KeepsParts message.old message.new) }
-        ensures untouched { OnErr result (message.new ≡ message.old) }
-    {
-        if !is_turn(message, Phase::Verifying) {
-            return Err(NotAccepted::OutOfTurn);
-        }
-        let is_right = self.is_tag_so_far(message, tag);
-        wipe_stack::<TEXT_STACK>();
-        if !is_right {
-            return Err(NotAccepted::Refused);
-        }
-        message.phase = number_of_phase(Phase::Decrypting);
-        message.decrypted = 0;
-        Ok(())
-    }
-
-    /// Compares a tag of fewer than 16 bytes as `accept` does one of 16. How many bytes all tags
-    /// under a key have is fixed with the key (5.2.1.2), and comes with no message. A forged tag of
-    /// n bytes is right with a chance of 1 in 256^n and more; of 4 and 8 bytes a key may check few
-    /// (appendix C).
-    ///
-    /// # Errors
-    ///
-    /// `OutOfTurn` exactly as `accept`. Else `Refused` exactly if the tag doesn't have this many
-    /// bytes, if no tag may, or if the tag isn't the first bytes of that of 16. The message is then
-    /// unchanged.
-    pub fn accept_short(
-        &self,
-        message: &mut Message,
-        fixed_length: usize,
-        tag: &[u8],
-    ) -> Result<(), NotAccepted>
-        ensures out_of_turn { IsErrOf result NotAccepted.OutOfTurn
-            ↔ IsOutOfTurn Phase.Verifying message.old }
-        ensures accepted { (iv a c : List ℕ) → IsVerifying self.now iv a c message.old
-            → IsOk result ↔ (HasFixedLength fixed_length tag.now
-            × (tag.now ≡ nist.short_tag (length tag.now) self.now iv a c)) }
-        ensures decrypting { OnOk result ((iv a c : List ℕ) → IsVerifying self.now iv a c message.old
-            → IsDecrypting self.now iv (length c) [] message.new) }
-        ensures phase { OnOk result (phase_of message.new.phase ≡ Phase.Decrypting) }
-        ensures kept { OnOk result (KeepsParts message.old message.new) }
-        ensures untouched { OnErr result (message.new ≡ message.old) }
-    {
-        if !is_turn(message, Phase::Verifying) {
-            return Err(NotAccepted::OutOfTurn);
-        }
-        if !is_short_tag(fixed_length, tag) {
-            return Err(NotAccepted::Refused);
-        }
-        let is_right = self.is_short_tag_so_far(message, tag);
-        wipe_stack::<TEXT_STACK>();
-        if !is_right {
-            return Err(NotAccepted::Refused);
-        }
-        message.phase = number_of_phase(Phase::Decrypting);
-        message.decrypted = 0;
-        Ok(())
-    }
-
-    /// Decrypts a piece in place, of any size, of the cipher text whose tag was right: give it the
-    /// same cipher text once more, from its beginning. Nothing of a message is given out before its
-    /// tag was found right.
-    ///
-    /// # Errors
-    ///
-    /// `OutOfTurn` exactly if no tag was accepted. Else `TooLong` exactly if there would be more
-    /// text than was accepted, or more than 2^36 - 32 bytes. Message and text are then unchanged.
-    pub fn decrypt_piece(&self, message: &mut Message, text: &mut [u8]) -> Result<(), InvalidPiece>
-        ensures out_of_turn { IsErrOf result InvalidPiece.OutOfTurn ↔
-            (phase_of message.old.phase ≢ Phase.Decrypting) }
-        ensures refusal { IsErr result ↔ ((phase_of message.old.phase ≢ Phase.Decrypting)
-            ⊎ ((message.old.text < message.old.decrypted + length text.old)
-            ⊎ IsTooMuchText (message.old.decrypted + length text.old))) }
-        ensures decrypted { OnOk result ((n : ℕ) (iv c : List ℕ)
-            → IsDecrypting self.now iv n c message.old
-            → nist.text self.now iv c ++ text.new ≡ nist.text self.now iv (c ++ text.old)) }
-        ensures added { OnOk result ((n : ℕ) (iv c : List ℕ)
-            → IsDecrypting self.now iv n c message.old
-            → IsDecrypting self.now iv n (c ++ text.old) message.new) }
-        ensures phase { OnOk result (phase_of message.new.phase ≡ Phase.Decrypting) }
-        ensures kept { OnOk result (KeepsParts message.old message.new) }
-        ensures counted { OnOk result (message.new.decrypted
-            ≡ message.old.decrypted + length text.old) }
-        ensures untouched { OnErr result (message.new ≡ message.old) }
-        ensures untouched_text { OnErr result (text.new ≡ text.old) }
-    {
-        if phase_of(message.phase) != Phase::Decrypting {
-            return Err(InvalidPiece::OutOfTurn);
-        }
-        if message.decrypted.saturating_add(text.len() as u64) > message.text.min(LONGEST_TEXT) {
-            return Err(InvalidPiece::TooLong);
-        }
-        add_gctr(&self.cipher, &message.first, 16 + message.decrypted, text);
-        message.decrypted += text.len() as u64;
-        wipe_stack::<TEXT_STACK>();
-        Ok(())
-    }
-
-    /// Takes a piece of a cipher text whose tag is to be compared, and decrypts it in place at
-    /// once. **What it gives out isn't authenticated**: use none of it before `accept` has found
-    /// the tag right, and forget it if it doesn't.
-    ///
-    /// # Errors
-    ///
-    /// Those of `verify_piece`; message and text are then unchanged.
-    pub fn decrypt_unverified_piece(
-        &self,
-        message: &mut Message,
-        text: &mut [u8],
-    ) -> Result<(), InvalidPiece>
-        ensures out_of_turn { IsErrOf result InvalidPiece.OutOfTurn
-            ↔ IsOutOfTurn Phase.Verifying message.old }
-        ensures refusal { IsErr result ↔ (IsOutOfTurn Phase.Verifying message.old
-            ⊎ IsTooMuchText (message.old.text + length text.old)) }
-        ensures decrypted { OnOk result ((iv a c : List ℕ) → IsVerifying self.now iv a c message.old
-            → nist.text self.now iv c ++ text.new ≡ nist.text self.now iv (c ++ text.old)) }
-        ensures added { OnOk result ((iv a c : List ℕ) → IsVerifying self.now iv a c message.old
-            → IsInText Phase.Verifying self.now iv a (c ++ text.old) message.new) }
-        ensures untouched { OnErr result (message.new ≡ message.old) }
-        ensures untouched_text { OnErr result (text.new ≡ text.old) }
-    {
-        self.turn_to(message, Phase::Verifying, text.len())?;
-        let position = 16 + message.text;
-        self.hash_text(message, text);
-        add_gctr(&self.cipher, &message.first, position, text);
-        wipe_stack::<TEXT_STACK>();
-        Ok(())
-    }
-
-    // Turns to text of a phase, if it may come, and to so much more of it. A call of its own, so that
-    // GHASH's value after the additional data is nowhere but below the caller's frame, which is wiped.
+    // Moves the message on to a phase, unless it is out of turn or `more` bytes are too many. A call
+    // of its own, so that GHASH's value after the additional data is nowhere but below the caller's
+    // frame, which is wiped.
     #[inline(never)]
     fn turn_to(&self, message: &mut Message, phase: Phase, more: usize) -> Result<(), InvalidPiece>
         requires { phase ≢ Phase.Additional }
@@ -442,40 +213,6 @@ impl<'a, C: BlockCipherEncrypt, R: HashRoom> BorrowedGcm<'a, C, R> {
             text,
         );
         message.text += text.len() as u64;
-    }
-
-    // Whether a tag is that of what has come so far. A call of its own, so that its caller, which then
-    // wipes the stack, has nothing of the right tag in a register.
-    #[inline(never)]
-    fn is_tag_so_far(&self, message: &Message, tag: &Block) -> bool
-        ensures { (phase : Phase) (iv a c : List ℕ) → phase ≢ Phase.Additional
-            → IsAt phase self.now iv a c message.now
-            → IsTrue result ↔ (tag.now ≡ nist.tag self.now iv a c) }
-    {
-        let mut expected = BlockRoom::zeroed();
-        self.put_tag_so_far(message, &mut expected.value_mut()[0]);
-        let is_equal = is_expected(tag, &expected.value()[0]);
-        expected.wipe();
-        is_equal
-    }
-
-    // Whether a tag of 16 bytes or fewer is the first bytes of that of what has come so far. A call of
-    // its own, as `is_tag_so_far`.
-    #[inline(never)]
-    fn is_short_tag_so_far(&self, message: &Message, tag: &[u8]) -> bool
-        requires { length tag.now ≤ 16 }
-        ensures { (phase : Phase) (iv a c : List ℕ) → phase ≢ Phase.Additional
-            → IsAt phase self.now iv a c message.now
-            → IsTrue result ↔ (tag.now ≡ nist.short_tag (length tag.now) self.now iv a c) }
-    {
-        let mut expected = BlockRoom::zeroed();
-        let mut claimed = BlockRoom::zeroed();
-        self.put_tag_so_far(message, &mut expected.value_mut()[0]);
-        put_claimed(tag, &expected.value()[0], &mut claimed.value_mut()[0]);
-        let is_equal = is_expected(&claimed.value()[0], &expected.value()[0]);
-        expected.wipe();
-        claimed.wipe();
-        is_equal
     }
 
     // Writes the tag of what has come so far (7.1, steps 4 to 6). In a call of its own, so that its

@@ -9,7 +9,8 @@ use aes_cipher::blocks::{block_of_halves, number_of_block};
 use aes_cipher::cipher::Block;
 use gcm::{
     ByteOrder, Factor, Multiples, MultiplesRoom, ProductRoom, SubkeyRoom, SubkeyWordsRoom, Table,
-    TableRoom, WithHoles, WithMasks, hash_singly, hash_string, hash_string_and, number_of_words,
+    TableRoom, WithHoles, WithMasks, hash_singly, hash_string, hash_string_and_end,
+    number_of_words,
 };
 use std::simd::prelude::*;
 
@@ -92,7 +93,7 @@ impl PolyvalRoom for MultiplesRoom {
         let multiples = Multiples::lent(self);
         let value = hash_string::<LowestFirst>(&multiples, u8x16::splat(0), additional);
         let end = last_block(additional, text);
-        bytes_of(hash_string_and::<LowestFirst>(&multiples, value, text, end))
+        bytes_of(hash_string_and_end::<LowestFirst>(&multiples, value, text, end))
     }
 }
 

@@ -12,7 +12,7 @@ use Rattle.aes_permute.specs.Lookup.{looked, is_index, AreIndices}
 use Rattle.gcm.specs.declared.multiples.TheConstants.{WITHOUT}
 use Rattle.gcm.specs.Gcm.{next_v, v_at}
 use Rattle.gcm.specs.Multiples.{sum_of, byte_of, nibble_multiple, bit_row, multiples_row}
-use Rattle.gcm.proofs.Tables.Rows.{by_sixteen, byte_of_sum, byte_at}
+use Rattle.gcm.proofs.Tables.Rows.{by_sixteen, byte_of_sum, byte_of_bytes}
 
 -- ---- a byte that is looked up for each nibble
 
@@ -34,7 +34,7 @@ masked_entry x r block false inside is =
     by_sixteen (λ r. looked block (bit_or r 0) ≡ get_or block r 0)
     (by_eight _ refl refl refl refl refl refl refl refl)
     (by_eight _ refl refl refl refl refl refl refl refl) r inside
-    ∙ ap (λ l. get_or l r 0) is ∙ byte_at x r inside
+    ∙ ap (λ l. get_or l r 0) is ∙ byte_of_bytes x r inside
 
 -- byte r of a number, or 0, is byte r of that number or of 0
 byte_if : (t : Bool) (y r : ℕ) → (if t then 0 else byte_of y r) ≡ byte_of (if t then 0 else y) r

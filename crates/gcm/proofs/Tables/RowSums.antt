@@ -3,22 +3,24 @@ use Rattle.std.proofs.Common.{◌≡◌, ℕ, zero, suc, ◌+◌, ◌-◌, ◌*�
 use Rattle.std.proofs.Common.{◌∷◌, ◌++◌, map, take, drop, get_or, bit_xor, length, replicate, refl}
 use Rattle.std.proofs.Common.{ap, subst, sym, ◌∙◌, arith}
 use Rattle.std.proofs.lemmas.List.{length-map, take_at, drop_at}
-use Rattle.std.proofs.lemmas.Nat.{xor_comm}
-use Rattle.std.specs.Int.{w128, from_be_bytes}
+use Rattle.std.proofs.lemmas.Nat.{xor_comm, pow-add}
+use Rattle.std.specs.Int.{w128, to_be_bytes, from_be_bytes}
 use Rattle.std.specs.Int.Bits.{xor_assoc, xor_zero_r}
 use lib.Lanes.{zip2}
 use Rattle.aes_planes.specs.Fips197.{IsBlock}
 use Rattle.aes_planes.proofs.Standard.FieldLaws.{add_swap}
+use Rattle.aes_cipher.proofs.BlockNumbers.{block_back}
 use Rattle.aes_permute.specs.Lookup.{by_nibbles}
 use Rattle.aes_permute.proofs.ByHalves.{zip2_take, zip2_drop}
 use Rattle.gcm.specs.Gcm.{v_at}
 use Rattle.gcm.specs.Multiples.{folded, reduced, IsTable, HasRows, subkey_in, row_number}
-use Rattle.gcm.specs.Multiples.{rows_after}
+use Rattle.gcm.specs.Multiples.{rows_after, place_of, multiples_row}
 use Rattle.gcm.proofs.Products.Linear.{v_keeps, v_add}
 use Rattle.gcm.proofs.Messages.Counting.{block_below}
 use Rattle.gcm.proofs.Products.Reduction.{folded_keeps, reduced_next}
 use Rattle.gcm.proofs.Tables.Rows.{zeros_next, value_next, block_moved, block_summed, number_summed}
-use Rattle.gcm.proofs.Tables.Rows.{zeros_block, zero_at, half_found}
+use Rattle.gcm.proofs.Tables.Rows.{zeros_block, zero_at, row_block, row_is}
+use Rattle.gcm.proofs.Tables.Written.{high_row, low_row, nothing_behind}
 
 -- ---- the sum of the last k rows, with the bits that fell out
 
@@ -63,6 +65,24 @@ summed_next row k first second added first' second' inside old block is first_is
 
 -- ---- what two halves look up
 
+-- the half of a vector that was looked up in row r has that row of a product
+half_found : (x half : List ℕ) (rows : List (List ℕ)) (r low high : ℕ) → IsTable rows
+    → r < 16 → IsBlock x
+    → low ≡ 16 + place_of r → high ≡ place_of r
+    → half ≡ map (by_nibbles (get_or rows low []) (get_or rows high [])) x
+    → (IsBlock half) × (from_be_bytes w128 half
+    ≡ row_number (subkey_in rows) (from_be_bytes w128 x) r)
+half_found x half rows r low high is inside block at_low at_high half_is =
+    let h = subkey_in rows in
+    let low_is = ap (λ n. get_or rows n []) at_low ∙ low_row rows h r is inside in
+    let high_is = ap (λ n. get_or rows n []) at_high
+    ∙ high_row rows [] h r (is ∙ nothing_behind h) inside in
+    let y = from_be_bytes w128 x in
+    let looked_up : half
+    ≡ map (by_nibbles (multiples_row (v_at h 4) r) (multiples_row h r)) (to_be_bytes w128 y) =
+    half_is ∙ (λ t. map (by_nibbles (low_is t) (high_is t)) (sym (block_back x block) t)) in
+    (row_block h y r half looked_up, row_is h y r half looked_up)
+
 -- the look-ups of one vector give rows r and 8 + r of a product, since `place_of` puts the two side
 -- by side
 pub rows_found : (x found : List ℕ) (rows : List (List ℕ)) (r : ℕ) → IsTable rows
@@ -103,59 +123,52 @@ rows_summed f g r p q a b =
 
 -- ---- eight bytes on
 
--- the two blocks, moved one byte on, stand for the same number times x ^ 8
-one_byte_on : (y n k l k' l' t : ℕ) → reduced k l ≡ v_at y n → k' ≡ k / 256
-    → l' ≡ k % 256 * 2 ^ 120 + l / 256 → l ≡ t * 2 ^ 16
-    → l < 2 ^ 128 → reduced k' l' ≡ v_at y (n + 8)
-one_byte_on y n k l k' l' t before k_is l_is is small =
-    (λ u. reduced ((k_is ∙ sym (xor_zero_r (k / 256))) u) (l_is u))
+-- the two blocks, moved one byte on, stand for their number times x ^ 8
+one_byte_on : (k l t : ℕ) → l ≡ t * 2 ^ 16 → l < 2 ^ 128
+    → reduced (k / 256) (k % 256 * 2 ^ 120 + l / 256) ≡ v_at (reduced k l) 8
+one_byte_on k l t is small =
+    ap (λ j. reduced j (k % 256 * 2 ^ 120 + l / 256)) (sym (xor_zero_r (k / 256)))
     ∙ reduced_next k l t 0 is small ∙ xor_zero_r (v_at (reduced k l) 8)
-    ∙ ap (λ z. v_at z 8) before ∙ v_add y n 8
+
+-- what the two blocks stand for after they are moved n bytes on, one by one
+moved_on : ℕ → ℕ → ℕ → ℕ
+moved_on zero k l = reduced k l
+moved_on (suc n) k l = moved_on n (k / 256) (k % 256 * 2 ^ 120 + l / 256)
+
+-- that is their number times x ^ (8 n), if the last n + 1 bytes are zeros: nothing falls out
+bytes_on : (n k l q : ℕ) → n ≤ 8 → l ≡ q * 2 ^ (8 * n) * 2 ^ 8 → l < 2 ^ 128
+    → moved_on n k l ≡ v_at (reduced k l) (8 * n)
+unfolding v_at moved_on
+bytes_on zero k l q few is small = refl
+bytes_on (suc n) k l q few is small =
+    let c : ℕ = k % 256 in
+    let r : ℕ = 2 ^ (112 - 8 * n) in
+    let p : ℕ = 2 ^ (8 * n) in
+    let bits : 8 + 8 * n ≡ 8 * suc n = omega arith in
+    let all : 112 - 8 * n + 8 * n ≡ 112 = omega (arith, few) in
+    let whole : r * p ≡ 2 ^ 112 = sym (pow-add 2 (112 - 8 * n) (8 * n)) ∙ ap (λ j. 2 ^ j) all in
+    let zeros : l ≡ q * p * 2 ^ 16 =
+    is ∙ ap (λ z. q * z * 2 ^ 8) (ap (λ j. 2 ^ j) (sym bits) ∙ pow-add 2 8 (8 * n)) ∙ omega arith in
+    let left : c * 2 ^ 120 + l / 256 ≡ (c * r + q) * p * 2 ^ 8 =
+    omega (arith, zeros, ap (λ z. c * z) whole) in
+    bytes_on n (k / 256) (c * 2 ^ 120 + l / 256) (c * r + q) (omega (arith, few)) left
+    (omega (arith, small))
+    ∙ ap (λ y. v_at y (8 * n)) (one_byte_on k l (q * p) zeros small)
+    ∙ v_add (reduced k l) 8 (8 * n) ∙ ap (v_at (reduced k l)) bits
+
+-- equal parts are reduced to equal numbers
+same_reduced : (a b c d : ℕ) → a ≡ c → b ≡ d → reduced a b ≡ reduced c d
+same_reduced a b c d left right = λ t. reduced (left t) (right t)
 
 -- the two blocks, moved eight bytes on in one shift, stand for their number times x ^ 64: the
 -- upper half's sum has to be moved so far before it is added to the lower's
 eight_bytes_on : (k l q : ℕ) → l ≡ q * 2 ^ 72 → l < 2 ^ 128
     → reduced (k / 2 ^ 64) (k % 2 ^ 64 * 2 ^ 64 + l / 2 ^ 64) ≡ v_at (reduced k l) 64
-unfolding v_at
+unfolding moved_on
 eight_bytes_on k l q is small =
-    let y = reduced k l in
-    let e1 : reduced (k / 2 ^ 8) (k % 2 ^ 8 * 2 ^ 120 + l / 2 ^ 8) ≡ v_at y 8 =
-    one_byte_on y 0 k l (k / 2 ^ 8) (k % 2 ^ 8 * 2 ^ 120 + l / 2 ^ 8) (q * 2 ^ 56) refl
-    (omega arith) (omega arith) (omega (arith, is)) small in
-    let e2 : reduced (k / 2 ^ 16) (k % 2 ^ 16 * 2 ^ 112 + l / 2 ^ 16) ≡ v_at y 16 =
-    one_byte_on y 8 (k / 2 ^ 8) (k % 2 ^ 8 * 2 ^ 120 + l / 2 ^ 8) (k / 2 ^ 16)
-    (k % 2 ^ 16 * 2 ^ 112 + l / 2 ^ 16)
-    (k % 2 ^ 8 * 2 ^ 104 + q * 2 ^ 48) e1 (omega arith) (omega arith) (omega (arith, is))
-    (omega (arith, small)) in
-    let e3 : reduced (k / 2 ^ 24) (k % 2 ^ 24 * 2 ^ 104 + l / 2 ^ 24) ≡ v_at y 24 =
-    one_byte_on y 16 (k / 2 ^ 16) (k % 2 ^ 16 * 2 ^ 112 + l / 2 ^ 16) (k / 2 ^ 24)
-    (k % 2 ^ 24 * 2 ^ 104 + l / 2 ^ 24)
-    (k % 2 ^ 16 * 2 ^ 96 + q * 2 ^ 40) e2 (omega arith) (omega arith) (omega (arith, is))
-    (omega (arith, small)) in
-    let e4 : reduced (k / 2 ^ 32) (k % 2 ^ 32 * 2 ^ 96 + l / 2 ^ 32) ≡ v_at y 32 =
-    one_byte_on y 24 (k / 2 ^ 24) (k % 2 ^ 24 * 2 ^ 104 + l / 2 ^ 24) (k / 2 ^ 32)
-    (k % 2 ^ 32 * 2 ^ 96 + l / 2 ^ 32)
-    (k % 2 ^ 24 * 2 ^ 88 + q * 2 ^ 32) e3 (omega arith) (omega arith) (omega (arith, is))
-    (omega (arith, small)) in
-    let e5 : reduced (k / 2 ^ 40) (k % 2 ^ 40 * 2 ^ 88 + l / 2 ^ 40) ≡ v_at y 40 =
-    one_byte_on y 32 (k / 2 ^ 32) (k % 2 ^ 32 * 2 ^ 96 + l / 2 ^ 32) (k / 2 ^ 40)
-    (k % 2 ^ 40 * 2 ^ 88 + l / 2 ^ 40)
-    (k % 2 ^ 32 * 2 ^ 80 + q * 2 ^ 24) e4 (omega arith) (omega arith) (omega (arith, is))
-    (omega (arith, small)) in
-    let e6 : reduced (k / 2 ^ 48) (k % 2 ^ 48 * 2 ^ 80 + l / 2 ^ 48) ≡ v_at y 48 =
-    one_byte_on y 40 (k / 2 ^ 40) (k % 2 ^ 40 * 2 ^ 88 + l / 2 ^ 40) (k / 2 ^ 48)
-    (k % 2 ^ 48 * 2 ^ 80 + l / 2 ^ 48)
-    (k % 2 ^ 40 * 2 ^ 72 + q * 2 ^ 16) e5 (omega arith) (omega arith) (omega (arith, is))
-    (omega (arith, small)) in
-    let e7 : reduced (k / 2 ^ 56) (k % 2 ^ 56 * 2 ^ 72 + l / 2 ^ 56) ≡ v_at y 56 =
-    one_byte_on y 48 (k / 2 ^ 48) (k % 2 ^ 48 * 2 ^ 80 + l / 2 ^ 48) (k / 2 ^ 56)
-    (k % 2 ^ 56 * 2 ^ 72 + l / 2 ^ 56)
-    (k % 2 ^ 48 * 2 ^ 64 + q * 2 ^ 8) e6 (omega arith) (omega arith) (omega (arith, is))
-    (omega (arith, small)) in
-    one_byte_on y 56 (k / 2 ^ 56) (k % 2 ^ 56 * 2 ^ 72 + l / 2 ^ 56) (k / 2 ^ 64)
-    (k % 2 ^ 64 * 2 ^ 64 + l / 2 ^ 64)
-    (k % 2 ^ 56 * 2 ^ 56 + q) e7 (omega arith) (omega arith) (omega (arith, is))
-    (omega (arith, small))
+    let one_by_one : reduced (k / 2 ^ 64) (k % 2 ^ 64 * 2 ^ 64 + l / 2 ^ 64) ≡ moved_on 8 k l =
+    same_reduced _ _ _ _ (omega arith) (omega (arith, is)) in
+    one_by_one ∙ bytes_on 8 k l q (omega arith) (omega (arith, is)) small
 
 -- ---- the sum of both halves
 
@@ -192,18 +205,17 @@ reduced_keeps a b c d = ap (bit_xor (bit_xor a b)) (folded_keeps c d)
 nine_zeros : (x : List ℕ) → ((i : ℕ) → 8 ≤ i + 1 → get_or x i 0 ≡ 0)
     → from_be_bytes w128 x ≡ from_be_bytes w128 x / 2 ^ 72 * 2 ^ 72
 nine_zeros x zeros =
-    let at = λ (i : ℕ) (h : 8 ≤ i + 1). zeros i h in
     omega (
       arith,
-      at 7 (omega arith),
-      at 8 (omega arith),
-      at 9 (omega arith),
-      at 10 (omega arith),
-      at 11 (omega arith),
-      at 12 (omega arith),
-      at 13 (omega arith),
-      at 14 (omega arith),
-      at 15 (omega arith),
+      zeros 7 (omega arith),
+      zeros 8 (omega arith),
+      zeros 9 (omega arith),
+      zeros 10 (omega arith),
+      zeros 11 (omega arith),
+      zeros 12 (omega arith),
+      zeros 13 (omega arith),
+      zeros 14 (omega arith),
+      zeros 15 (omega arith),
     )
 
 -- the sums after k steps: of rows 7 to 0 in the lower halves, and of rows 15 to 8 in the upper

@@ -2,7 +2,7 @@
 use Rattle.std.proofs.Common.{ℕ, ◌*◌, ◌^◌, ◌∙◌, arith, bit_and, bit_xor, refl}
 use Rattle.gcm.specs.Carryless.{holes}
 use Rattle.gcm.specs.Multiples.{sum_of}
-use Rattle.gcm.proofs.WithoutCarries.Digits.{every_fourth, lower_at, lower_at_sum, sum_of_four, lower_sum}
+use Rattle.gcm.proofs.WithoutCarries.Fourths.{every_fourth, lower_at, lower_at_sum, sum_of_four, lower_sum}
 use Rattle.gcm.proofs.holes.lower_product.Goals as goal
 
 pub returns : goal.returns

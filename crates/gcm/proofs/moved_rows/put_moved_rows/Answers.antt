@@ -7,7 +7,7 @@ use Rattle.aes_permute.specs.Vectors.{half}
 use Rattle.aes_permute.proofs.Lookups.{nibbles_are_indices, low_is}
 use Rattle.gcm.specs.Gcm.{v_at}
 use Rattle.gcm.specs.Multiples.{multiples_row, multiples_rows, row_at}
-use Rattle.gcm.proofs.Tables.Rows.{two_more}
+use Rattle.gcm.proofs.Tables.Written.{two_more}
 use Rattle.gcm.proofs.Tables.MovedRows.{first_row, second_row, later_row, lane_in_pair}
 use Rattle.gcm.proofs.Tables.MovedRows.{zeros_and_row}
 use Rattle.gcm.proofs.moved_rows.put_moved_rows.Goals as goal

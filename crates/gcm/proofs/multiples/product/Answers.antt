@@ -3,7 +3,7 @@ use Rattle.std.proofs.Common.{◌∙◌, ap}
 use Rattle.std.specs.Int.{w128, from_be_bytes}
 use Rattle.gcm.specs.Multiples.{subkey_in, row_number, rows_after}
 use Rattle.gcm.proofs.Products.Reduction.{all_rows}
-use Rattle.gcm.proofs.Tables.Rows.{table_below}
+use Rattle.gcm.proofs.Tables.Written.{table_below}
 use Rattle.gcm.proofs.multiples.product.Goals as goal
 
 pub returns : goal.returns

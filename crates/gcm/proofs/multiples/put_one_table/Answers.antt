@@ -1,6 +1,6 @@
 -- What was written is a table, and its block is H.
 use Rattle.std.proofs.Common.{arith}
-use Rattle.gcm.proofs.Tables.Rows.{is_table, table_block}
+use Rattle.gcm.proofs.Tables.Written.{is_table, table_block}
 use Rattle.gcm.proofs.multiples.put_one_table.Goals as goal
 
 pub returns-clause-table : goal.returns-clause-table

@@ -13,7 +13,7 @@ returns c =
     let x : List ℕ = padded c.args.bytes.now in
     let n : ℕ = length x / 16 in
     let h = c.lent-multiples.ensures in
-    c.number_of.ensures ∙ c.hash_string_and.ensures
+    c.number_of.ensures ∙ c.hash_string_and_end.ensures
     ∙ (λ t. product (bit_xor ((
     (λ u. hashed_as (from_be_bytes w128) (h u) (c.vector_of-value.ensures.back u) x n)
     ∙ hashed_is (subkey_in c.args.self.now) c.args.value x n) t)

@@ -2,7 +2,7 @@
 use Rattle.std.proofs.Common.{◌∙◌, ap, refl}
 use Rattle.std.specs.Int.{w128, from_be_bytes}
 use Rattle.gcm.specs.Gcm.{product}
-use Rattle.gcm.proofs.Tables.Rows.{first_in}
+use Rattle.gcm.proofs.Tables.Written.{first_in}
 use Rattle.gcm.proofs.multiples.Multiples.block_product.Goals as goal
 
 pub product-requires-clause-table : goal.product-requires-clause-table

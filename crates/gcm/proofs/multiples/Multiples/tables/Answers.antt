@@ -1,7 +1,7 @@
 -- Which part of the room is the table of H, of H^2 and of H^3.
 use Rattle.std.proofs.Common.{◌∙◌, ap, sym, take, drop}
 use Rattle.gcm.specs.Gcm.{product}
-use Rattle.gcm.proofs.Tables.Rows.{first_in, second_in, third_in, room_below}
+use Rattle.gcm.proofs.Tables.Written.{first_in, second_in, third_in, room_below}
 use Rattle.gcm.proofs.multiples.Multiples.tables.Goals as goal
 
 pub lent-requires-clause-table : goal.lent-requires-clause-table

@@ -15,6 +15,6 @@ returns c h small is =
     let on = λ (s : ℕ) (x : List ℕ). hashed_as (from_le_bytes w128) g s (padded x)
     (length (padded x) / 16) in
     c.bytes_of.ensures
-    ∙ ap (to_le_bytes w128) (c.hash_string_and.ensures
+    ∙ ap (to_le_bytes w128) (c.hash_string_and_end.ensures
     ∙ (λ t. product (bit_xor (on (c.hash_string-value.ensures t) p) (c.last_block-end.ensures t)) g)
     ∙ hash_is h g a p (c.lent-multiples.ensures ∙ is) small)
