@@ -54,8 +54,8 @@ plain_is x h =
     sym (inv_sbox_of_sbox (plain b) (ltb-true _ _ t.0)) ∙ ap inv_sbox (eqb-true _ _ t.1)) x h
     ∙ sym (map-map inv_sbox inv_untower x)
 
--- what is looked up of a byte for the coefficients 1, 4, 9 and 15, and
--- the constant that is in the product with 14
+-- what is looked up of a byte for the coefficients 1, 4, 9 and 15, and the constant that is in the
+-- product with 14
 pub record LookUps : Type 0 where
   pub by_1 : ℕ → ℕ
   pub by_4 : ℕ → ℕ
@@ -169,8 +169,8 @@ sums_are = same_on_blocks
     (λ x k. add_round_key (inv_mix_columns (inv_shift_rows (map plain x))) (map inv_untower k))
     (λ f g. refl)
 
--- a round on lanes is InvSubBytes, InvShiftRows, InvMixColumns and
--- AddRoundKey of what the lanes stand for
+-- a round on lanes is InvSubBytes, InvShiftRows, InvMixColumns and AddRoundKey of what the lanes
+-- stand for
 pub round_is : (x k : List ℕ) {one four nine fifteen a b c : List ℕ} → IsBlock x → length k ≡ 16
     → AreLooked of_bytes x one four nine fifteen a b c
     → map inv_untower (inv_round_of a b c nine k)
@@ -222,8 +222,8 @@ last_shifted : (y k : List ℕ) → length y ≡ 16 → length k ≡ 16
 unfolding state build add_round_key inv_shift_rows
 last_shifted = same_on_blocks last_of (λ y k. add_round_key (inv_shift_rows y) k) (λ f g. refl)
 
--- the last round on lanes is InvSubBytes, InvShiftRows and
--- AddRoundKey, and its bytes stand for themselves
+-- the last round on lanes is InvSubBytes, InvShiftRows and AddRoundKey, and its bytes stand for
+-- themselves
 pub last_is : (x k : List ℕ) {p : List ℕ} → IsBlock x → length k ≡ 16 → p ≡ map plain x
     → last_of p k ≡ add_round_key (inv_shift_rows (inv_sub_bytes (map inv_untower x))) (map as_is k)
 last_is x k {p = p} h m e =

@@ -36,8 +36,8 @@ low_sum a b = xor_mod a b 4
 high_sum : (a b : ℕ) → high_nibble (bit_xor a b) ≡ bit_xor (high_nibble a) (high_nibble b)
 high_sum a b = ap (λ v. v % 16) (xor_shr a b 4) ∙ xor_mod (a / 16) (b / 16) 4
 
--- a look-up by nibbles in linear tables takes the sum of two
--- bytes to the sum of what it makes of each
+-- a look-up by nibbles in linear tables takes the sum of two bytes to the sum of what it makes of
+-- each
 by_nibbles_sum : (t u : List ℕ) → is_linear t → is_linear u → (a b : ℕ)
     → by_nibbles t u (bit_xor a b)
     ≡ bit_xor (by_nibbles t u a) (by_nibbles t u b)
@@ -179,8 +179,8 @@ row a b c d i = get_or (a ∷ b ∷ c ∷ d ∷ []) i a
 abbrev made : (ℕ → ℕ) → (ℕ → ℕ) → (ℕ → Product) → ℕ → ℕ → Bool
 made v g p i b = v ((p i).look_up b) == bit_xor (field_mul (p i).coefficient (g b)) (p i).constant
 
--- v of what each look-up makes of a byte is the product of its
--- coefficient and g of the byte, but for its constant
+-- v of what each look-up makes of a byte is the product of its coefficient and g of the byte, but
+-- for its constant
 abbrev pub Makes : (ℕ → ℕ) → (ℕ → ℕ) → (ℕ → Product) → Type 0
 Makes v g p = all_pairs 4 256 (made v g p) ≡ true
 

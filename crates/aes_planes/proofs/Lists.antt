@@ -27,8 +27,8 @@ build_from_each P d past a zero f h i = past
 build_from_each P d past a (suc n) f h zero = h a
 build_from_each P d past a (suc n) f h (suc i) = build_from_each P d past (a + 1) n f h i
 
--- what holds of each f i, and of what stands past the end,
--- holds at every place of the list built of f
+-- what holds of each f i, and of what stands past the end, holds at every place of the list built
+-- of f
 pub build_each : {A : Type 0} (P : A → Type 0) (d : A) → P d → (n : ℕ) (f : ℕ → A)
     → ((i : ℕ) → P (f i)) → (i : ℕ)
     → P (get_or (build n f) i d)

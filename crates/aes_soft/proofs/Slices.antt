@@ -21,16 +21,16 @@ one_batch_less r m s some le =
     let e : m / s ≡ (m - s) / s + 1 = ap (λ v. v / s) (sym same) ∙ add-div_right (m - s) some in
     ap (λ v. r * v) e ∙ grind arith
 
--- a loop that applies f to each element of a list, `size` at a
--- time, and has come to the place `done`
+-- a loop that applies f to each element of a list, `size` at a time, and has come to the place
+-- `done`
 pub record Batched {X : Type 0} (f : X → X) (size done : ℕ) (old now : List X) : Type 0 where
   pub some : 0 < size
   pub within : done ≤ length now
   pub whole : (length now - done) % size ≡ 0
   pub value : finished f done now ≡ map f old
 
--- one more whole batch is replaced by f of each of its elements,
--- and the loop has come that much further
+-- one more whole batch is replaced by f of each of its elements, and the loop has come that much
+-- further
 pub next_batch : {X : Type 0} (f : X → X) (size done k : ℕ) (old now ys : List X)
     → Batched f size done old now
     → done < length now → k ≡ size → ys ≡ map f (take k (drop done now))

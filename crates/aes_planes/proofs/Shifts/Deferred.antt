@@ -1,5 +1,5 @@
--- A round on a state whose ShiftRows are deferred, with 0x63 left out of
--- the substitution and put into the round keys.
+-- A round on a state whose ShiftRows are deferred, with 0x63 left out of the substitution and put
+-- into the round keys.
 use Rattle.std.proofs.Common.{◌≡◌, ℕ, zero, suc, ◌<◌, List, [], ◌∷◌, length, map, get_or, refl, ap}
 use Rattle.std.proofs.Common.{sym, subst, ◌∙◌}
 use Rattle.std.specs.Int.Bits.{xor_assoc, xor_zero_r}
@@ -199,8 +199,8 @@ last_deferred s key l m =
 
 -- ---- rounds of the inverse cipher, whose substitution takes 0x63 out by itself
 
--- 0x63 added to the round key and again before the inverse S-box
--- cancel: InvSubBytes of the sum is left
+-- 0x63 added to the round key and again before the inverse S-box cancel: InvSubBytes of the sum is
+-- left
 pub inv_start_deferred : (s key : List ℕ) → length key ≡ 16
     → map (λ b. inv_sbox (plus63 b)) (add_round_key s (map plus63 key))
     ≡ inv_sub_bytes (add_round_key s key)

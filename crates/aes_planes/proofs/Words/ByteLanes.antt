@@ -71,8 +71,8 @@ funneled n p q a b = zip2 bit_or (zip2 shr8 a (replicate n p)) (zip2 shl8 b (rep
 
 -- ---- words of w bits
 
--- bit i of the word is bit i % 8 of lane `lane i`, which is one
--- of n, and the same for the bits of a byte
+-- bit i of the word is bit i % 8 of lane `lane i`, which is one of n, and the same for the bits of
+-- a byte
 pub record IsLayout (n w : ℕ) (lane : ℕ → ℕ) : Type 0 where
   pub sized : w ≡ 8 * n
   pub within : (i : ℕ) → i < w → lane i < n
