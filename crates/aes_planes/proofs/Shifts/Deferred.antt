@@ -17,7 +17,8 @@ use Rattle.aes_planes.proofs.Shifts.ColumnSwaps.{shifted_back_3}
 use Rattle.aes_planes.proofs.Standard.FieldLaws.{add_swap, add_twice}
 use Rattle.aes_planes.proofs.Standard.LinearSteps.{shift_map, inv_sub_shift}
 use Rattle.aes_planes.proofs.Standard.Steps.{add_length, inv_shift_length, map_length, shift_length}
-use Rattle.aes_planes.proofs.Standard.Steps.{shift_of_inv_shift}
+use Rattle.aes_planes.proofs.Standard.Steps.{shift_of_inv_shift, inv_shift_of_shift}
+use Rattle.aes_planes.proofs.Standard.Steps.{shift_times_length}
 
 -- ---- 0x63 added to each byte
 
@@ -117,6 +118,16 @@ shift_times_of_inv_shift_times (suc k) s l =
     ap (λ v. shift_rows (shift_times k v)) (inv_shift_first k s)
     ∙ ap shift_rows (shift_times_of_inv_shift_times k (inv_shift_rows s) (inv_shift_length s))
     ∙ shift_of_inv_shift s l
+
+-- k InvShiftRows after k ShiftRows leave a list of sixteen as it was
+pub inv_shift_times_of_shift_times : (k : ℕ) (s : List ℕ) → length s ≡ 16
+    → inv_shift_times k (shift_times k s) ≡ s
+unfolding shift_times inv_shift_times
+inv_shift_times_of_shift_times zero s l = refl
+inv_shift_times_of_shift_times (suc k) s l =
+    inv_shift_first k (shift_rows (shift_times k s))
+    ∙ ap (inv_shift_times k) (inv_shift_of_shift (shift_times k s) (shift_times_length k s l))
+    ∙ inv_shift_times_of_shift_times k s l
 
 -- two shifts forth where one is deferred: three are
 pub two_more : (s : List ℕ) → length s ≡ 16
