@@ -1,7 +1,7 @@
 -- Words in byte lanes, in any order of the lanes: their bits through the operations on vectors.
 use Rattle.std.proofs.Common.{◌≡◌, ℕ, ◌+◌, ◌-◌, ◌*◌, ◌/◌, ◌%◌, ◌^◌, ◌<◌, ◌≤◌, Bool, true, false}
 use Rattle.std.proofs.Common.{◌&&◌, cond, nat_lt, bit_or, List, length, get_or, replicate, refl, ap}
-use Rattle.std.proofs.Common.{sym, ◌∙◌, arith, w8, Fits, T}
+use Rattle.std.proofs.Common.{sym, ◌∙◌, arith, w8, Fits}
 use Rattle.std.proofs.lemmas.Simd.{swz_l, get_or-swz_l, get_or-zip2, get_or-replicate, length-zip2}
 use Rattle.std.proofs.lemmas.Simd.{length-replicate, Each1-get_or, below_from_Fits}
 use Rattle.std.proofs.lemmas.Bool.{lt-ltb, le-ltb}
