@@ -10,7 +10,7 @@ use Rattle.aes_planes.specs.Fips197.{row_by_column, inv_sub_bytes, inv_shift_row
 use Rattle.aes_planes.specs.Fips197.{add_round_key, IsBytes, IsBlock}
 use Rattle.aes_planes.specs.Planes.{plus63}
 use Rattle.aes_planes.proofs.Bits.ByteCases.{all_below, all_below_tells}
-use Rattle.aes_planes.proofs.Lists.{map-same}
+use Rattle.aes_planes.proofs.Lists.{map-same, same_on_block, same_on_blocks}
 use Rattle.aes_planes.proofs.Mixing.MixColumns.{inv_mix_block}
 use Rattle.aes_planes.proofs.SBox.InverseSBox.{inv_sbox_of_sbox}
 use Rattle.aes_planes.proofs.Standard.FieldLaws.{add_zero}
@@ -28,7 +28,7 @@ use Rattle.aes_permute.specs.declared.tables.TheConstants.{KEY_1_HIGH, KEY_4_LOW
 use Rattle.aes_permute.specs.declared.tables.TheConstants.{KEY_9_LOW, KEY_9_HIGH, KEY_15_LOW}
 use Rattle.aes_permute.specs.declared.tables.TheConstants.{KEY_15_HIGH}
 use Rattle.aes_permute.proofs.Linear.{inv_untower_three, Product, row, Makes, rows_added}
-use Rattle.aes_permute.proofs.Linear.{rows_multiplied, rows_mixed, same_on_block, same_on_blocks}
+use Rattle.aes_permute.proofs.Linear.{rows_multiplied, rows_mixed}
 use Rattle.aes_permute.proofs.Lookups.{maps_same, maps_agree}
 use Rattle.aes_permute.proofs.RoundLanes.{through, permuted, zip_sum_bytes}
 

@@ -6,14 +6,13 @@ use Rattle.aes_planes.specs.Fips197.{add_round_key, build, mix_columns, shift_ro
 use Rattle.aes_planes.specs.Fips197.{state, sub_bytes, IsBlock}
 use Rattle.aes_planes.specs.Planes.{plus63}
 use Rattle.aes_planes.proofs.Bits.ByteCases.{by_four}
-use Rattle.aes_planes.proofs.Lists.{built}
+use Rattle.aes_planes.proofs.Lists.{built, same_on_block}
 use Rattle.aes_planes.proofs.Standard.LinearSteps.{shift_map}
 use Rattle.aes_planes.proofs.Standard.Steps.{map_length, shift_times_length, shift_times_bytes}
 use Rattle.aes_permute.specs.Lookup.{is_index, AreIndices}
 use Rattle.aes_permute.specs.Stored.{untower, key_untower}
 use Rattle.aes_permute.specs.declared.tables.TheConstants.{SHIFTED_ROWS, NEXT_ROW, ROW_BEFORE}
 use Rattle.aes_permute.proofs.ExpandedLanes.{inner_is}
-use Rattle.aes_permute.proofs.Linear.{same_on_block}
 use Rattle.aes_permute.proofs.RoundLanes.{one, two, plain, permuted, paired, round_of, last_of}
 use Rattle.aes_permute.proofs.RoundLanes.{round_is, last_is}
 

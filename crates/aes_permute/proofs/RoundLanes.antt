@@ -10,6 +10,7 @@ use Rattle.aes_planes.specs.Fips197.{sub_bytes, shift_rows, mix_columns, add_rou
 use Rattle.aes_planes.specs.Fips197.{IsBlock}
 use Rattle.aes_planes.specs.Planes.{plus63}
 use Rattle.aes_planes.proofs.Bits.ByteCases.{all_below}
+use Rattle.aes_planes.proofs.Lists.{same_on_block, same_on_blocks}
 use Rattle.aes_planes.proofs.Standard.FieldLaws.{add_swap}
 use Rattle.aes_planes.proofs.Standard.States.{state_same}
 use Rattle.aes_planes.proofs.Standard.Steps.{map_length, add_block}
@@ -21,7 +22,7 @@ use Rattle.aes_permute.specs.declared.tables.TheConstants.{TOWER_LOW, TOWER_HIGH
 use Rattle.aes_permute.specs.declared.tables.TheConstants.{SBOX_SECOND, ONE_FIRST, ONE_SECOND}
 use Rattle.aes_permute.specs.declared.tables.TheConstants.{TWO_FIRST, TWO_SECOND}
 use Rattle.aes_permute.proofs.Linear.{untower_three, Product, row, Makes, rows_added}
-use Rattle.aes_permute.proofs.Linear.{rows_multiplied, rows_mixed, same_on_block, same_on_blocks}
+use Rattle.aes_permute.proofs.Linear.{rows_multiplied, rows_mixed}
 use Rattle.aes_permute.proofs.Lookups.{maps_same}
 
 -- ---- what is looked up
