@@ -1,6 +1,6 @@
 -- Sums on lanes: maps by nibbles, which are linear where their tables are, and rows of a matrix.
 use Rattle.std.proofs.Common.{◌≡◌, ℕ, ◌+◌, ◌-◌, ◌/◌, ◌%◌, ◌<◌, ◌==◌, Bool, true, bit_xor, List, []}
-use Rattle.std.proofs.Common.{◌∷◌, length, get_or, refl, ap, sym, ◌∙◌, arith}
+use Rattle.std.proofs.Common.{◌∷◌, get_or, refl, ap, sym, ◌∙◌, arith}
 use Rattle.std.specs.Int.Bits.{xor_assoc}
 use Rattle.std.proofs.Math.Nat.{mod-lt}
 use Rattle.std.proofs.lemmas.Bool.{eqb-true}
