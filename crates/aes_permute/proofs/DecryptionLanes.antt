@@ -35,23 +35,26 @@ use Rattle.aes_permute.proofs.RoundLanes.{through, permuted, zip_sum_bytes}
 -- ---- what is looked up
 
 -- the inverse S-box of what a byte in the tower basis stands for, by two look-ups
-abbrev pub plain : ℕ → ℕ
-plain b = through INV_SBOX_FIRST INV_SBOX_SECOND b
+abbrev pub plain_inv_sbox : ℕ → ℕ
+plain_inv_sbox b = through INV_SBOX_FIRST INV_SBOX_SECOND b
 
 -- the inverse S-box is a search, so the test is on what the S-box makes of the result
-plain_cases : all_below 256 (λ b. nat_lt (plain b) 256 && (sbox (plain b) == inv_untower b)) ≡ true
+plain_inv_sbox_cases : all_below 256 (λ b. nat_lt (plain_inv_sbox b) 256
+    && (sbox (plain_inv_sbox b) == inv_untower b)) ≡ true
 unfolding all_below first_of second_of inv_untower sbox
-plain_cases = refl
+plain_inv_sbox_cases = refl
 
--- what is looked up for `plain` is InvSubBytes
-plain_is : (x : List ℕ) → IsBytes x → map plain x ≡ inv_sub_bytes (map inv_untower x)
+-- what is looked up for `plain_inv_sbox` is InvSubBytes
+plain_inv_sbox_is : (x : List ℕ) → IsBytes x
+    → map plain_inv_sbox x ≡ inv_sub_bytes (map inv_untower x)
 unfolding inv_sub_bytes
-plain_is x h =
-    maps_agree plain (λ b. inv_sbox (inv_untower b)) (λ b l.
-    let t = and_parts (nat_lt (plain b) 256) (sbox (plain b) == inv_untower b)
-    (all_below_tells 256 (λ b. nat_lt (plain b) 256 && (sbox (plain b) == inv_untower b))
-    plain_cases b l) in
-    sym (inv_sbox_of_sbox (plain b) (ltb-true _ _ t.0)) ∙ ap inv_sbox (eqb-true _ _ t.1)) x h
+plain_inv_sbox_is x h =
+    maps_agree plain_inv_sbox (λ b. inv_sbox (inv_untower b)) (λ b l.
+    let t = and_parts (nat_lt (plain_inv_sbox b) 256) (sbox (plain_inv_sbox b) == inv_untower b)
+    (all_below_tells 256 (λ b. nat_lt (plain_inv_sbox b) 256
+    && (sbox (plain_inv_sbox b) == inv_untower b)) plain_inv_sbox_cases b l) in
+    sym (inv_sbox_of_sbox (plain_inv_sbox b) (ltb-true _ _ t.0))
+    ∙ ap inv_sbox (eqb-true _ _ t.1)) x h
     ∙ sym (map-map inv_sbox inv_untower x)
 
 -- what is looked up of a byte for the coefficients 1, 4, 9 and 15, and the constant that is in the
@@ -113,7 +116,7 @@ of_bytes = record {
 }
 
 -- the products with the inverse S-box
-products_made : Makes inv_untower plain (products of_bytes)
+products_made : Makes inv_untower plain_inv_sbox (products of_bytes)
 unfolding all_below first_of second_of inv_untower field_mul
 products_made = refl
 
@@ -160,13 +163,15 @@ lanes_are = same_on_blocks on_lanes
 
 -- the sums of products of a round are those of InvMixColumns and AddRoundKey
 sums_are : (x k : List ℕ) → length x ≡ 16 → length k ≡ 16
-    → rows_multiplied plain (products of_bytes) (inv_shifted x) (λ r c. inv_untower (byte_at k r c))
-    ≡ add_round_key (inv_mix_columns (inv_shift_rows (map plain x))) (map inv_untower k)
+    → rows_multiplied plain_inv_sbox (products of_bytes) (inv_shifted x)
+    (λ r c. inv_untower (byte_at k r c))
+    ≡ add_round_key (inv_mix_columns (inv_shift_rows (map plain_inv_sbox x))) (map inv_untower k)
 unfolding state build add_round_key inv_mix_columns row_by_column inv_shift_rows
 sums_are = same_on_blocks
-    (λ x k. rows_multiplied plain (products of_bytes) (inv_shifted x)
+    (λ x k. rows_multiplied plain_inv_sbox (products of_bytes) (inv_shifted x)
     (λ r c. inv_untower (byte_at k r c)))
-    (λ x k. add_round_key (inv_mix_columns (inv_shift_rows (map plain x))) (map inv_untower k))
+    (λ x k. add_round_key (inv_mix_columns (inv_shift_rows (map plain_inv_sbox x)))
+    (map inv_untower k))
     (λ f g. refl)
 
 -- a round on lanes is InvSubBytes, InvShiftRows, InvMixColumns and AddRoundKey of what the lanes
@@ -179,13 +184,13 @@ pub round_is : (x k : List ℕ) {one four nine fifteen a b c : List ℕ} → IsB
 round_is x k h m l =
     looked_up (λ a b c d. inv_round_of a b c d k) l
     ∙ lanes_are x k h.0 m
-    ∙ rows_mixed inv_untower plain (products of_bytes) inv_untower_three products_made
+    ∙ rows_mixed inv_untower plain_inv_sbox (products of_bytes) inv_untower_three products_made
     (inv_shifted x) (byte_at k)
     (λ r c. inv_untower (byte_at k r c)) (λ c j. h.1 _)
     (λ r c. add_zero (inv_untower (byte_at k r c)))
     ∙ sums_are x k h.0 m
     ∙ ap (λ v. add_round_key (inv_mix_columns (inv_shift_rows v)) (map inv_untower k))
-    (plain_is x h.1)
+    (plain_inv_sbox_is x h.1)
 
 -- ---- the first round key, and the last round
 
@@ -224,11 +229,11 @@ last_shifted = same_on_blocks last_of (λ y k. add_round_key (inv_shift_rows y) 
 
 -- the last round on lanes is InvSubBytes, InvShiftRows and AddRoundKey, and its bytes stand for
 -- themselves
-pub last_is : (x k : List ℕ) {p : List ℕ} → IsBlock x → length k ≡ 16 → p ≡ map plain x
+pub last_is : (x k : List ℕ) {p : List ℕ} → IsBlock x → length k ≡ 16 → p ≡ map plain_inv_sbox x
     → last_of p k ≡ add_round_key (inv_shift_rows (inv_sub_bytes (map inv_untower x))) (map as_is k)
 last_is x k {p = p} h m e =
-    last_shifted p k (ap length e ∙ map_length plain x ∙ h.0) m
-    ∙ ap (λ v. add_round_key (inv_shift_rows v) k) (e ∙ plain_is x h.1)
+    last_shifted p k (ap length e ∙ map_length plain_inv_sbox x ∙ h.0) m
+    ∙ ap (λ v. add_round_key (inv_shift_rows v) k) (e ∙ plain_inv_sbox_is x h.1)
     ∙ ap (add_round_key (inv_shift_rows (inv_sub_bytes (map inv_untower x)))) (sym (map-id k))
 
 -- ---- InvMixColumns of a round key
