@@ -33,8 +33,8 @@ four_words a b c d = slice_index a 0 ∷ slice_index a 1 ∷ slice_index a 2 ∷
     ∷ slice_index c 2
     ∷ slice_index c 3 ∷ slice_index d 0 ∷ slice_index d 1 ∷ slice_index d 2 ∷ slice_index d 3 ∷ []
 
--- four words, each the sum of a block's word and the one made
--- before, are the sums of the block's columns
+-- four words, each the sum of a block's word and the one made before, are the sums of the block's
+-- columns
 pub summed_is : (x s a b c d : List ℕ) → a ≡ fips.add_words (word_at x 0) s
     → b ≡ fips.add_words (word_at x 4) a
     → c ≡ fips.add_words (word_at x 8) b → d ≡ fips.add_words (word_at x 12) c
@@ -46,8 +46,8 @@ summed_is x s a b c d ea eb ec ed =
     let fd = ed ∙ ap (fips.add_words (word_at x 12)) fc in
     λ i. four_words (ea i) (fb i) (fc i) (fd i)
 
--- the last word of a block, after SubBytes, from a round under
--- the zero key whose mixing is taken back
+-- the last word of a block, after SubBytes, from a round under the zero key whose mixing is taken
+-- back
 pub last_word_substituted : (x a b : List ℕ)
     → a ≡ fips.add_round_key (fips.mix_columns (fips.shift_rows (fips.sub_bytes x)))
     (replicate 16 0)
@@ -86,8 +86,8 @@ module _ (x y z u v : List ℕ) (hx : u ≡ x) (hy : v ≡ y) where
   unfolding fips.state fips.build fips.build_from columns_summed
   plain_is e = e ∙ (λ i. columns_summed 0 1 (hx i) (hy i))
 
--- the last eight bytes of one block and the first eight of the
--- next are the block that straddles them
+-- the last eight bytes of one block and the first eight of the next are the block that straddles
+-- them
 pub straddled_is : (x y u v : List ℕ) → u ≡ x → v ≡ y
     → slice_index u 8 ∷ slice_index u 9 ∷ slice_index u 10
     ∷ slice_index u 11 ∷ slice_index u 12 ∷ slice_index u 13 ∷ slice_index u 14 ∷ slice_index u 15

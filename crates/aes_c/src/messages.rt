@@ -10,8 +10,8 @@ use crate::status::{DONE, NO_KEY, NONCE_LENGTH, REFUSED, TAG_LENGTH, TOO_LONG};
 use aes_cipher::zeroize::wipe_stack;
 use ccm::{InvalidMessage, NotDecrypted, decrypt, encrypt};
 
-// The most bytes of stack of a call that encrypts or decrypts a message. Values of the
-// chain are left there, blocks of the keystream, and the right tag of a message that is refused.
+// The most bytes of stack of a call that encrypts or decrypts a message. Values of the chain are
+// left there, blocks of the keystream, and the right tag of a message that is refused.
 const MESSAGE_STACK: usize = 1024;
 
 // Returns the status of lengths that no message has.

@@ -12,8 +12,7 @@ use crate::status::{DONE, INVALID_COUNT, NO_KEY, REFUSED};
 use aes_cipher::zeroize::wipe_stack;
 use key_wrap::{InvalidCount, NotUnwrapped, Semiblock, unwrap, unwrap_padded, wrap, wrap_padded};
 
-// The most bytes of stack of a call that wraps or unwraps. Parts of the key are left
-// there.
+// The most bytes of stack of a call that wraps or unwraps. Parts of the key are left there.
 const WRAPPING_STACK: usize = 512;
 
 /// Wraps a key from one buffer to another (KW-AE, SP 800-38F, 6.2). Returns `NO_KEY` exactly if the

@@ -1,5 +1,5 @@
-//! The value at the end of a chain, by a definition that counts its
-//! steps: the loop's invariant is the definition.
+//! The value at the end of a chain, by a definition that counts its steps: the loop's invariant is
+//! the definition.
 
 ghost use Rattle.std.specs.Prelude.{◌≡◌, ℕ, List, [], ◌∷◌, length, replicate};
 ghost use Rattle.aes_planes.specs.Fips197 as fips;

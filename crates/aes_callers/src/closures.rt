@@ -1,5 +1,5 @@
-//! Closures as users write them, which work with a backend of
-//! any batch size, each for both directions.
+//! Closures as users write them, which work with a backend of any batch size, each for both
+//! directions.
 
 ghost use Rattle.std.specs.Prelude.{◌≡◌, length};
 ghost use Rattle.aes_planes.specs.Each.{Each};
@@ -85,8 +85,8 @@ impl<'a> BlockCipherDecClosure for Row<'a> {
     }
 }
 
-/// Processes 24 blocks of its own: a single one, then batches while
-/// a whole one is left, then single blocks.
+/// Processes 24 blocks of its own: a single one, then batches while a whole one is left, then
+/// single blocks.
 #[derive(Drop)]
 pub struct Mixed {
     pub blocks: [Block; 24],

@@ -8,8 +8,8 @@ ghost use Rattle.aes_ctr.specs.CounterMode.{keystream_byte, plus_stream};
 use aes_cipher::cipher::{Block, BlockCipherEncrypt, KeyInit};
 use aes_ctr::{Ctr128BE, KeystreamEnd, stream_cut};
 
-/// Adds the keystream of a key to a message, as one side does,
-/// and adds it once more, as the other does.
+/// Adds the keystream of a key to a message, as one side does, and adds it once more, as the other
+/// does.
 ///
 /// # Errors
 ///
@@ -29,13 +29,13 @@ pub fn there_and_back<C: KeyInit + BlockCipherEncrypt + Drop>(
     Ok(())
 }
 
-/// Adds the keystream to a message that lies in two parts: joined, they
-/// are the joined message plus the keystream.
+/// Adds the keystream to a message that lies in two parts: joined, they are the joined message plus
+/// the keystream.
 ///
 /// # Errors
 ///
-/// `KeystreamEnd` exactly if the keystream ends before the second
-/// part does; the first may be changed by then.
+/// `KeystreamEnd` exactly if the keystream ends before the second part does; the first may be
+/// changed by then.
 pub fn apply_to_parts<C: BlockCipherEncrypt>(
     mode: &mut Ctr128BE<C>,
     head: &mut [u8],

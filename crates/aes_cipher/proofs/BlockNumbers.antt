@@ -1,5 +1,5 @@
--- What the operations on blocks compute: sums, and the bytes of a
--- number below 2 ^ 128, the highest first.
+-- What the operations on blocks compute: sums, and the bytes of a number below 2 ^ 128, the highest
+-- first.
 use Rattle.std.proofs.Common.{◌≡◌, ℕ, zero, suc, ◌+◌, ◌*◌, ◌/◌, ◌%◌, ◌^◌, ◌<◌, List, [], ◌∷◌, map}
 use Rattle.std.proofs.Common.{get_or, refl, sym, ap, ◌∙◌, arith, bit_xor, length}
 use Rattle.std.proofs.Math.Nat.{div-div-eq-div-mul, pow-suc}

@@ -119,8 +119,8 @@ byte_of_joined bs i h lt =
 -- what relates bytes and blocks: joining and cutting undo each other, and where each byte stands
 pub ruleset byte_laws = (chunks_joined, parted, length-chunks, byte_in_chunk, byte_of_joined)
 
--- what a loop that has come to block i leaves in the end: the
--- blocks before it, and f of each from it on
+-- what a loop that has come to block i leaves in the end: the blocks before it, and f of each from
+-- it on
 abbrev pub processed_from : (List ℕ → List ℕ) → ℕ → ℕ → List ℕ → List (List ℕ)
 processed_from f m i xs = first_chunks 16 i xs ++ map f (first_chunks 16 (m - i) (drop (16 * i) xs))
 

@@ -1,5 +1,5 @@
--- The first elements of a list, each made f of what it was; each of
--- the others is that too, or what it was.
+-- The first elements of a list, each made f of what it was; each of the others is that too, or what
+-- it was.
 use Rattle.std.proofs.Common.{◌≡◌, ◌⊎◌, inl, inr, ℕ, ◌-◌, ◌<◌, ◌≤◌, List, [], ◌∷◌, map, take, set}
 use Rattle.std.proofs.Common.{get_or, length, sym, ap, ◌∙◌, arith, get_or-set_other}
 use Rattle.std.proofs.lemmas.Bool.{cases_eq, cases_lt}

@@ -1,5 +1,5 @@
--- Loops that leave f of every element of a slice, a run of elements at a
--- time or one: what stays the same while they run.
+-- Loops that leave f of every element of a slice, a run of elements at a time or one: what stays
+-- the same while they run.
 use Rattle.std.proofs.Common.{◌≡◌, ℕ, ◌+◌, ◌≤◌, ◌<◌, List, [], ◌∷◌, ◌++◌, map, take, drop, set}
 use Rattle.std.proofs.Common.{get_or, length, sym, ap, ◌∙◌, ◌-◌, arith, append_assoc, refl}
 use Rattle.std.proofs.lemmas.List.{map-append, drop-drop, take-append-drop, take_more_set}
@@ -8,8 +8,8 @@ use Rattle.std.proofs.lemmas.List.{take_all, drop_all, append-nil}
 use Rattle.std.proofs.lemmas.Slice.{take-put_mid, drop-put_mid}
 use borrow.Rule.Slice.PartMut.{put_mid, same_len_mid}
 
--- what a loop that has come to place i leaves in the end: the
--- elements before it, and f of each from it on
+-- what a loop that has come to place i leaves in the end: the elements before it, and f of each
+-- from it on
 abbrev pub finished : {X : Type 0} → (X → X) → ℕ → List X → List X
 finished f i xs = take i xs ++ map f (drop i xs)
 

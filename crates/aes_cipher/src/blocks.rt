@@ -1,5 +1,5 @@
-//! Operations on blocks for modes of operation: sums, a comparison
-//! for tags, numbers and halves as blocks.
+//! Operations on blocks for modes of operation: sums, a comparison for tags, numbers and halves as
+//! blocks.
 
 ghost use Rattle.std.specs.Prelude.{◌≡◌, ◌↔◌, ℕ, ◌<◌, ◌^◌, List, ◌++◌, length, take, drop, IsTrue};
 ghost use Rattle.std.specs.Int.{w128, to_be_bytes, from_be_bytes};
@@ -96,8 +96,8 @@ pub fn halves_of_block(block: &Block) -> ([u8; 8], [u8; 8])
     (first, second)
 }
 
-/// No effect; states that numbers below 2^128 and blocks correspond:
-/// converting there and back changes neither.
+/// No effect; states that numbers below 2^128 and blocks correspond: converting there and back
+/// changes neither.
 pub fn numbers_as_blocks()
     ensures block { (number : ℕ) → fips.IsBlock (to_be_bytes w128 number) }
     ensures number { (number : ℕ) → number < 2 ^ 128

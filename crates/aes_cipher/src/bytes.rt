@@ -1,5 +1,5 @@
-//! Bytes as blocks, one after another: calls that encrypt and
-//! decrypt them in place, and their laws.
+//! Bytes as blocks, one after another: calls that encrypt and decrypt them in place, and their
+//! laws.
 
 ghost use Rattle.std.specs.Prelude.{◌≡◌, ◌≢◌, ◌↔◌, ℕ, ◌*◌, ◌+◌, ◌/◌, ◌%◌, ◌<◌, List, [], length};
 ghost use Rattle.std.specs.Prelude.{slice_index, slice_index_or, IsErr, OnOk, OnErr};
@@ -34,8 +34,8 @@ pub fn encrypt_bytes<C: BlockCipherEncrypt>(
     process_bytes::<Encrypt, C>(cipher, bytes)
 }
 
-/// Decrypts bytes in place, block by block, under the value's
-/// round keys (InvCipher, FIPS 197, 5.3).
+/// Decrypts bytes in place, block by block, under the value's round keys (InvCipher, FIPS 197,
+/// 5.3).
 ///
 /// # Errors
 ///

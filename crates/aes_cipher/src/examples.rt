@@ -11,8 +11,8 @@ ghost use Rattle.aes_cipher.specs.Blocks.{blocks_of, EachOrUnchanged};
 use crate::cipher::{Block, Decrypt, Direction, Encrypt};
 use crate::zeroize::{Element, Zeroize};
 
-/// The bytes 00 to 21 are two blocks and two bytes that are left out, and
-/// fifteen bytes are no block (FIPS 197, 3.1).
+/// The bytes 00 to 21 are two blocks and two bytes that are left out, and fifteen bytes are no
+/// block (FIPS 197, 3.1).
 #[tactic(auto, unfolding(aes_planes::specs::BigEndian::bytes))]
 pub fn block_examples()
     ensures two { blocks_of

@@ -2,9 +2,9 @@
 
 use crate::zeroize::{MustWipe, Wiped, Zeroize};
 
-/// Marks a type whose values are never copied. The mark is refused at a type that can be
-/// cloned or copied, since all of these have it: `impl NotClone for Counter {}`
-/// conflicts with that impl once `Counter` is `Clone`.
+/// Marks a type whose values are never copied. The mark is refused at a type that can be cloned or
+/// copied, since all of these have it: `impl NotClone for Counter {}` conflicts with that impl once
+/// `Counter` is `Clone`.
 pub trait NotClone {}
 
 impl<T: Clone> NotClone for T {}

@@ -97,9 +97,9 @@ fn overwrite<E: Copy>(elements: &mut [E], element: E)
     }
 }
 
-/// A value that is overwritten with zeros when it is dropped: what stands
-/// inside has a drop of its own, which requires that it is zero by then. It is
-/// neither `Copy` nor `Clone`. Contracts see the value.
+/// A value that is overwritten with zeros when it is dropped: what stands inside has a drop of its
+/// own, which requires that it is zero by then. It is neither `Copy` nor `Clone`. Contracts see the
+/// value.
 pub struct Wiped<V: Zeroize> {
     inside: MustWipe<V>,
 }

@@ -1,5 +1,5 @@
--- Counter mode on literals: what a lemma unfolds to compute it, and a
--- keystream block by the table of the S-box.
+-- Counter mode on literals: what a lemma unfolds to compute it, and a keystream block by the table
+-- of the S-box.
 use Rattle.std.specs.Prelude.{⊤}
 use Rattle.aes_planes.specs.Fips197.{build}
 use Rattle.aes_planes.proofs.OnLiterals.{aes_on_literals, aes_by_table}

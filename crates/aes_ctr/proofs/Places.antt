@@ -37,8 +37,8 @@ byte_of_keystream w block blocks n p i filled inside =
     ∙ ap (λ m. slice_index (cipher_with w (block m)) ((p % 16 + i) % 16)) same
     ∙ ap (slice_index (cipher_with w (block ((p + i) / 16)))) place
 
--- data from place p on plus the keystream is the data plus the
--- keystream blocks from the one of place p on
+-- data from place p on plus the keystream is the data plus the keystream blocks from the one of
+-- place p on
 pub plus_blocks : (w : List (List ℕ)) (block : ℕ → List ℕ) (blocks : List (List ℕ)) (p : ℕ)
     (data_bytes : List ℕ)
     → ((m : ℕ) → m < length blocks → slice_index_or blocks m []

@@ -1,5 +1,5 @@
--- Loops that add a stream to a list, a run of bytes at a time or
--- one: what stays the same while they run.
+-- Loops that add a stream to a list, a run of bytes at a time or one: what stays the same while
+-- they run.
 use Rattle.std.proofs.Common.{◌≡◌, ℕ, ◌+◌, ◌≤◌, ◌<◌, List, [], ◌∷◌, ◌++◌, take, drop, set, get_or}
 use Rattle.std.proofs.Common.{length, bit_xor, sym, ap, subst, refl, ◌∙◌, arith, append_assoc}
 use Rattle.std.proofs.lemmas.List.{append-nil, drop-drop, take-append-drop, take_more_set}

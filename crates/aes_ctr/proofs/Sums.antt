@@ -31,8 +31,8 @@ plus_is s p xs ys l h = build_is (length xs) _ ys 0 l h
 pub plus-nil : (s : ℕ → ℕ) (p : ℕ) → plus_stream s p [] ≡ []
 plus-nil s p = plus_is s p [] [] refl (λ i h. absurd (omega arith))
 
--- the first byte is summed with the stream's first, and the rest
--- with the stream from the next place on
+-- the first byte is summed with the stream's first, and the rest with the stream from the next
+-- place on
 pub plus-cons : (s : ℕ → ℕ) (p x : ℕ) (xs : List ℕ) → plus_stream s p (x ∷ xs) ≡ bit_xor x (s p)
     ∷ plus_stream s (p + 1) xs
 plus-cons s p x xs = plus_is s p (x ∷ xs) (bit_xor x (s p) ∷ plus_stream s (p + 1) xs)

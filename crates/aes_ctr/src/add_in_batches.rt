@@ -66,9 +66,9 @@ fn add_batch<B: BlockCipherEncBackend, K: CounterBlocks>(
     add_blocks(blocks, 0, bytes);
 }
 
-// Adds the keystream from one position on to the bytes from place `done` on, up to
-// the end of a batch that begins with the block of the first, or to all if there
-// are fewer. Returns the place that follows.
+// Adds the keystream from one position on to the bytes from place `done` on, up to the end of a
+// batch that begins with the block of the first, or to all if there are fewer. Returns the place
+// that follows.
 fn add_next<B: BlockCipherEncBackend, K: CounterBlocks>(
     backend: &B,
     counters: &K,

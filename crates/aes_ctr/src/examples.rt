@@ -8,8 +8,8 @@ ghost use Rattle.aes_planes.specs.Fips197 as fips;
 ghost use Rattle.aes_ctr.specs.CounterMode.{counter, counter_block, keystream_byte, plus_stream};
 ghost use Rattle.aes_ctr.specs.CounterMode.{pieces_plus_stream};
 
-/// The counter blocks of SP 800-38A, F.5.1, and counters that carry
-/// into the upper 64 bits and over the end (B.1).
+/// The counter blocks of SP 800-38A, F.5.1, and counters that carry into the upper 64 bits and over
+/// the end (B.1).
 #[tactic(auto, unfolding(crate::proofs::OnLiterals::ctr_on_literals))]
 pub fn counter_examples()
     ensures first { counter_block (bytes 16 0xf0f1f2f3f4f5f6f7f8f9fafbfcfdfeff) 0

@@ -39,8 +39,8 @@ pub(crate) fn fill_by_backend<B: BlockCipherEncBackend, K: CounterBlocks>(
         (K.block counters.now (first + i)))
         ⊎ (slice_index_or blocks.new i [] ≡ K.block counters.now (first + i)) }
 {
-    // All of the batch gets counters: blocks of zeros would be
-    // encrypted with it, and their cipher is H of GCM.
+    // All of the batch gets counters: blocks of zeros would be encrypted with it, and their cipher
+    // is H of GCM.
     counters.put(first, blocks);
     if blocks.len() == B::PAR_BLOCKS {
         backend.encrypt_first_blocks(count, blocks);

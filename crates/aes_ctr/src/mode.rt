@@ -97,8 +97,8 @@ impl<C: BlockCipherEncrypt> Ctr128BE<C> {
     ///
     /// # Errors
     ///
-    /// `KeystreamEnd` exactly if the position would exceed 2^64 - 1;
-    /// bytes and position are then unchanged.
+    /// `KeystreamEnd` exactly if the position would exceed 2^64 - 1; bytes and position are then
+    /// unchanged.
     pub fn try_apply(&mut self, bytes: &mut [u8]) -> Result<(), KeystreamEnd>
         ensures refusal { IsErr result ↔ (2 ^ 64 - 1 < self.old.position + length bytes.old) }
         ensures added { OnOk result

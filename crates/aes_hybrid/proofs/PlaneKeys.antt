@@ -4,8 +4,7 @@ use Rattle.std.proofs.Common.{length, map, map-id, replicate, refl, ap, subst, s
 use Rattle.std.proofs.lemmas.Bool.{cases_lt}
 use Rattle.aes_planes.specs.Fips197 as fips
 use Rattle.aes_planes.specs.Planes.{held, plus63, words_at}
-use Rattle.aes_planes.proofs.Bits.ByteCases.{by_four}
-use Rattle.aes_planes.proofs.Shifts.Deferred.{plus63_twice}
+use Rattle.aes_planes.proofs.Shifts.Deferred.{inv_shift_times_of_shift_times, plus63_twice}
 use Rattle.aes_planes.proofs.Standard.Steps.{map_length}
 use Rattle.aes_soft.specs.Stored.{full, key_of_planes, rounds_of, size_of, stored_key}
 use Rattle.aes_soft.specs.Stored.{IsFullSchedule, IsSchedule, HoldsBlocks}
@@ -16,20 +15,7 @@ use Rattle.aes_soft.proofs.WordsInPlace.{held_at, key_kept, HoldsAt}
 use Rattle.aes_permute.specs.Keys.{encrypting, cipher_form, key_of_lanes, IsCipherSchedule}
 use Rattle.aes_permute.specs.Stored.{untower, key_untower}
 use Rattle.aes_permute.proofs.ExpandedLanes.{last_key_is}
-use Rattle.aes_permute.proofs.Linear.{same_on_block}
 use Rattle.aes_permute.proofs.States.{keys_length, first_key, inner_key, last_key}
-
--- up to three ShiftRows are undone by as many InvShiftRows
-times_undone : (k : ℕ) → k < 4 → (x : List ℕ) → length x ≡ 16
-    → fips.inv_shift_times k (fips.shift_times k x) ≡ x
-unfolding fips.build fips.state fips.shift_rows fips.inv_shift_rows fips.shift_times
-    fips.inv_shift_times
-times_undone = by_four
-    (λ k. (x : List ℕ) → length x ≡ 16 → fips.inv_shift_times k (fips.shift_times k x) ≡ x)
-    (same_on_block (λ x. x) (λ x. x) (λ f. refl))
-    (same_on_block (λ x. fips.inv_shift_times 1 (fips.shift_times 1 x)) (λ x. x) (λ f. refl))
-    (same_on_block (λ x. fips.inv_shift_times 2 (fips.shift_times 2 x)) (λ x. x) (λ f. refl))
-    (same_on_block (λ x. fips.inv_shift_times 3 (fips.shift_times 3 x)) (λ x. x) (λ f. refl))
 
 module _ (stored : List (List ℕ)) (two : 2 ≤ length stored) where
   -- how many rounds the stored round keys serve
@@ -58,7 +44,7 @@ module _ (stored : List (List ℕ)) (two : 2 ≤ length stored) where
       (deferred_below rounds_made 4 i (i % 4) below refl)
       ∙ ap (λ v. map plus63 (fips.inv_shift_times (i % 4) v))
       (inner_key cipher_form stored i some below)
-      ∙ ap (map plus63) (times_undone (i % 4) (omega arith) (map key_untower s) long)
+      ∙ ap (map plus63) (inv_shift_times_of_shift_times (i % 4) (map key_untower s) long)
       ∙ last_key_is s)
 
   -- the last stored round key is as planes store it

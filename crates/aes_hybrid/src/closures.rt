@@ -14,8 +14,8 @@ use aes_cipher::cipher::{BlockCipherDecClosure, BlockCipherEncClosure, Decrypt, 
 use aes_cipher::zeroize::wipe_stack;
 use aes_planes::soft::word::Block;
 
-// The most bytes of stack of a closure that works on batches, as those of this library's
-// modes do. From 2 KB on libc's memset is slower.
+// The most bytes of stack of a closure that works on batches, as those of this library's modes do.
+// From 2 KB on libc's memset is slower.
 const CLOSURE_STACK: usize = 2032;
 
 // Calls a closure with planes to encrypt. In a call of its own, so that its stack can be wiped.

@@ -37,8 +37,8 @@ fn store_in_every_slot<W: Word>(words: &mut [W], i: usize, block: &Block)
     store_round_key(words, i, &W::in_every_slot(block));
 }
 
-/// Writes stored round keys of Cipher to words, as the full layout
-/// of planes stores those of the same key.
+/// Writes stored round keys of Cipher to words, as the full layout of planes stores those of the
+/// same key.
 pub fn store_planes<W: Word>(words: &mut [W], keys: &[Block])
     requires sized { length words.old ≡ 8 * length keys.now }
     requires keyed { IsCipherSchedule keys.now }

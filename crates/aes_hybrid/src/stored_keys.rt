@@ -1,5 +1,5 @@
-//! The forms of the nine types: round keys of vector permutations, of which
-//! planes are made where there are many blocks.
+//! The forms of the nine types: round keys of vector permutations, of which planes are made where
+//! there are many blocks.
 
 ghost use Rattle.std.specs.Prelude.{◌≡◌, replicate};
 ghost use Rattle.aes_permute.specs.Keys.{key_of_lanes, stored_keys, AreInverse, IsCipherSchedule};

@@ -9,8 +9,8 @@ use aes_planes::soft::word::{Batch, Word};
 use aes_soft::soft::blocks::BatchWord;
 use std::simd::prelude::*;
 
-/// A width of vectors and words. Callers name one of the two
-/// below; contracts are the same for both.
+/// A width of vectors and words. Callers name one of the two below; contracts are the same for
+/// both.
 pub trait Width {
     /// The vectors on which few blocks are processed.
     type Vectors: Lanes;
@@ -32,16 +32,16 @@ pub trait Width {
     /// The number of blocks from which a caller's closure gets a backend that has planes.
     const LEAST_FOR_CLOSURES: usize;
 
-    /// The most blocks after whole batches that take less time by
-    /// vector permutations than as one batch more.
+    /// The most blocks after whole batches that take less time by vector permutations than as one
+    /// batch more.
     const MOST_AFTER_BATCHES: usize;
 
     /// The type for the number of blocks has the number of the word.
     ghost same_number: { Self.Par.PAR_BLOCKS ≡ Self.PlaneWord.Blocks.LEN };
 }
 
-/// Vectors and words of 128 bits: two blocks at a time by vector
-/// permutations, eight on planes. For every processor.
+/// Vectors and words of 128 bits: two blocks at a time by vector permutations, eight on planes. For
+/// every processor.
 pub struct Narrow;
 
 impl Width for Narrow {

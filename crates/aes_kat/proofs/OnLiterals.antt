@@ -1,5 +1,5 @@
--- What a lemma unfolds to compute the reply to a literal line, but for
--- what the standard makes of blocks and keys.
+-- What a lemma unfolds to compute the reply to a literal line, but for what the standard makes of
+-- blocks and keys.
 use Rattle.std.specs.Prelude.{⊤}
 use Rattle.hex.specs.Hex.{decode_pairs, encode_with}
 use Rattle.aes_planes.specs.BigEndian.{bytes}

@@ -201,8 +201,8 @@ held-ended r s t text buffer count P h more none ended p =
     let all = Consumes-trans r s t text (take count buffer) h more in
     Consumes-whole r t text P (subst (Consumes r t) whole all) ended p
 
--- what stops within the answers to the bytes that were read stops
--- within the answers to all that the reader held
+-- what stops within the answers to the bytes that were read stops within the answers to all that
+-- the reader held
 pub stops-held : (r s a b : Option (List ℕ)) (text : List ℕ) → Consumes r s text
     → StopsWithin a b text
     → IfSome r (λ held. AppendsBeginning a b (answers_to held))

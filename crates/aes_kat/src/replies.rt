@@ -109,8 +109,8 @@ fn answer(line: &[u8], out: &mut ReplyBuffer) -> Result<usize, Fault>
     answer_asked(&asked, out)
 }
 
-/// Writes the reply to a line, without its line end, at the front of
-/// `out`, which is as long as the longest reply.
+/// Writes the reply to a line, without its line end, at the front of `out`, which is as long as the
+/// longest reply.
 ///
 /// Returns the length of the reply, and whether it reports a fault.
 #[tactic(auto, unfolding(crate::specs::Reply::reply_to, crate::specs::Reply::is_fault))]

@@ -141,8 +141,8 @@ fn finish<A: Allocator, W: Write>(
     Ok(fault)
 }
 
-// A buffer of `size` zeros. No clause says that they are zeros, since
-// a proof that reads them all needs gigabytes.
+// A buffer of `size` zeros. No clause says that they are zeros, since a proof that reads them all
+// needs gigabytes.
 fn zeros<A: Allocator>(alloc: A, size: usize) -> Result<Vec<u8, A>, Failed>
     ensures { IfOk result (λ room. vec_len room ≡ size) }
 {
@@ -195,8 +195,8 @@ pub fn run_in<A: Allocator, R: Read, W: Write>(
     Err(Failed)
 }
 
-/// Returns the program's exit status: 0 if every line was answered, 1 if
-/// some line was invalid, 2 if the run failed.
+/// Returns the program's exit status: 0 if every line was answered, 1 if some line was invalid, 2
+/// if the run failed.
 pub fn status(answer: &Result<bool, Failed>) -> u8
     ensures { result ≡ status_of answer.now }
 {

@@ -18,8 +18,8 @@ Unmixed old new k = map inv_untower (get_or new k [])
 abbrev pub Moved : List (List ℕ) → List (List ℕ) → ℕ → Type 0
 Moved old new k = get_or new k [] ≡ get_or old (length old - 1 - k) []
 
--- stored round keys of Cipher, in reverse and mixed back
--- between the ends, stand for the inverted ones
+-- stored round keys of Cipher, in reverse and mixed back between the ends, stand for the inverted
+-- ones
 pub inverted_stored : (old new : List (List ℕ)) → 2 ≤ length old → length new ≡ length old
     → ((k : ℕ) → 1 ≤ k → k < length old - 1 → Unmixed old new k)
     → Moved old new 0 → Moved old new (length old - 1)

@@ -10,7 +10,7 @@ use Rattle.aes_planes.specs.Fips197.{row_by_column, inv_sub_bytes, inv_shift_row
 use Rattle.aes_planes.specs.Fips197.{add_round_key, IsBytes, IsBlock}
 use Rattle.aes_planes.specs.Planes.{plus63}
 use Rattle.aes_planes.proofs.Bits.ByteCases.{all_below, all_below_tells}
-use Rattle.aes_planes.proofs.Lists.{map-same}
+use Rattle.aes_planes.proofs.Lists.{map-same, same_on_block, same_on_blocks}
 use Rattle.aes_planes.proofs.Mixing.MixColumns.{inv_mix_block}
 use Rattle.aes_planes.proofs.SBox.InverseSBox.{inv_sbox_of_sbox}
 use Rattle.aes_planes.proofs.Standard.FieldLaws.{add_zero}
@@ -28,34 +28,37 @@ use Rattle.aes_permute.specs.declared.tables.TheConstants.{KEY_1_HIGH, KEY_4_LOW
 use Rattle.aes_permute.specs.declared.tables.TheConstants.{KEY_9_LOW, KEY_9_HIGH, KEY_15_LOW}
 use Rattle.aes_permute.specs.declared.tables.TheConstants.{KEY_15_HIGH}
 use Rattle.aes_permute.proofs.Linear.{inv_untower_three, Product, row, Makes, rows_added}
-use Rattle.aes_permute.proofs.Linear.{rows_multiplied, rows_mixed, same_on_block, same_on_blocks}
+use Rattle.aes_permute.proofs.Linear.{rows_multiplied, rows_mixed}
 use Rattle.aes_permute.proofs.Lookups.{maps_same, maps_agree}
 use Rattle.aes_permute.proofs.RoundLanes.{through, permuted, zip_sum_bytes}
 
 -- ---- what is looked up
 
 -- the inverse S-box of what a byte in the tower basis stands for, by two look-ups
-abbrev pub plain : ℕ → ℕ
-plain b = through INV_SBOX_FIRST INV_SBOX_SECOND b
+abbrev pub plain_inv_sbox : ℕ → ℕ
+plain_inv_sbox b = through INV_SBOX_FIRST INV_SBOX_SECOND b
 
 -- the inverse S-box is a search, so the test is on what the S-box makes of the result
-plain_cases : all_below 256 (λ b. nat_lt (plain b) 256 && (sbox (plain b) == inv_untower b)) ≡ true
+plain_inv_sbox_cases : all_below 256 (λ b. nat_lt (plain_inv_sbox b) 256
+    && (sbox (plain_inv_sbox b) == inv_untower b)) ≡ true
 unfolding all_below first_of second_of inv_untower sbox
-plain_cases = refl
+plain_inv_sbox_cases = refl
 
--- what is looked up for `plain` is InvSubBytes
-plain_is : (x : List ℕ) → IsBytes x → map plain x ≡ inv_sub_bytes (map inv_untower x)
+-- what is looked up for `plain_inv_sbox` is InvSubBytes
+plain_inv_sbox_is : (x : List ℕ) → IsBytes x
+    → map plain_inv_sbox x ≡ inv_sub_bytes (map inv_untower x)
 unfolding inv_sub_bytes
-plain_is x h =
-    maps_agree plain (λ b. inv_sbox (inv_untower b)) (λ b l.
-    let t = and_parts (nat_lt (plain b) 256) (sbox (plain b) == inv_untower b)
-    (all_below_tells 256 (λ b. nat_lt (plain b) 256 && (sbox (plain b) == inv_untower b))
-    plain_cases b l) in
-    sym (inv_sbox_of_sbox (plain b) (ltb-true _ _ t.0)) ∙ ap inv_sbox (eqb-true _ _ t.1)) x h
+plain_inv_sbox_is x h =
+    maps_agree plain_inv_sbox (λ b. inv_sbox (inv_untower b)) (λ b l.
+    let t = and_parts (nat_lt (plain_inv_sbox b) 256) (sbox (plain_inv_sbox b) == inv_untower b)
+    (all_below_tells 256 (λ b. nat_lt (plain_inv_sbox b) 256
+    && (sbox (plain_inv_sbox b) == inv_untower b)) plain_inv_sbox_cases b l) in
+    sym (inv_sbox_of_sbox (plain_inv_sbox b) (ltb-true _ _ t.0))
+    ∙ ap inv_sbox (eqb-true _ _ t.1)) x h
     ∙ sym (map-map inv_sbox inv_untower x)
 
--- what is looked up of a byte for the coefficients 1, 4, 9 and 15, and
--- the constant that is in the product with 14
+-- what is looked up of a byte for the coefficients 1, 4, 9 and 15, and the constant that is in the
+-- product with 14
 pub record LookUps : Type 0 where
   pub by_1 : ℕ → ℕ
   pub by_4 : ℕ → ℕ
@@ -113,7 +116,7 @@ of_bytes = record {
 }
 
 -- the products with the inverse S-box
-products_made : Makes inv_untower plain (products of_bytes)
+products_made : Makes inv_untower plain_inv_sbox (products of_bytes)
 unfolding all_below first_of second_of inv_untower field_mul
 products_made = refl
 
@@ -160,17 +163,19 @@ lanes_are = same_on_blocks on_lanes
 
 -- the sums of products of a round are those of InvMixColumns and AddRoundKey
 sums_are : (x k : List ℕ) → length x ≡ 16 → length k ≡ 16
-    → rows_multiplied plain (products of_bytes) (inv_shifted x) (λ r c. inv_untower (byte_at k r c))
-    ≡ add_round_key (inv_mix_columns (inv_shift_rows (map plain x))) (map inv_untower k)
+    → rows_multiplied plain_inv_sbox (products of_bytes) (inv_shifted x)
+    (λ r c. inv_untower (byte_at k r c))
+    ≡ add_round_key (inv_mix_columns (inv_shift_rows (map plain_inv_sbox x))) (map inv_untower k)
 unfolding state build add_round_key inv_mix_columns row_by_column inv_shift_rows
 sums_are = same_on_blocks
-    (λ x k. rows_multiplied plain (products of_bytes) (inv_shifted x)
+    (λ x k. rows_multiplied plain_inv_sbox (products of_bytes) (inv_shifted x)
     (λ r c. inv_untower (byte_at k r c)))
-    (λ x k. add_round_key (inv_mix_columns (inv_shift_rows (map plain x))) (map inv_untower k))
+    (λ x k. add_round_key (inv_mix_columns (inv_shift_rows (map plain_inv_sbox x)))
+    (map inv_untower k))
     (λ f g. refl)
 
--- a round on lanes is InvSubBytes, InvShiftRows, InvMixColumns and
--- AddRoundKey of what the lanes stand for
+-- a round on lanes is InvSubBytes, InvShiftRows, InvMixColumns and AddRoundKey of what the lanes
+-- stand for
 pub round_is : (x k : List ℕ) {one four nine fifteen a b c : List ℕ} → IsBlock x → length k ≡ 16
     → AreLooked of_bytes x one four nine fifteen a b c
     → map inv_untower (inv_round_of a b c nine k)
@@ -179,13 +184,13 @@ pub round_is : (x k : List ℕ) {one four nine fifteen a b c : List ℕ} → IsB
 round_is x k h m l =
     looked_up (λ a b c d. inv_round_of a b c d k) l
     ∙ lanes_are x k h.0 m
-    ∙ rows_mixed inv_untower plain (products of_bytes) inv_untower_three products_made
+    ∙ rows_mixed inv_untower plain_inv_sbox (products of_bytes) inv_untower_three products_made
     (inv_shifted x) (byte_at k)
     (λ r c. inv_untower (byte_at k r c)) (λ c j. h.1 _)
     (λ r c. add_zero (inv_untower (byte_at k r c)))
     ∙ sums_are x k h.0 m
     ∙ ap (λ v. add_round_key (inv_mix_columns (inv_shift_rows v)) (map inv_untower k))
-    (plain_is x h.1)
+    (plain_inv_sbox_is x h.1)
 
 -- ---- the first round key, and the last round
 
@@ -222,13 +227,13 @@ last_shifted : (y k : List ℕ) → length y ≡ 16 → length k ≡ 16
 unfolding state build add_round_key inv_shift_rows
 last_shifted = same_on_blocks last_of (λ y k. add_round_key (inv_shift_rows y) k) (λ f g. refl)
 
--- the last round on lanes is InvSubBytes, InvShiftRows and
--- AddRoundKey, and its bytes stand for themselves
-pub last_is : (x k : List ℕ) {p : List ℕ} → IsBlock x → length k ≡ 16 → p ≡ map plain x
+-- the last round on lanes is InvSubBytes, InvShiftRows and AddRoundKey, and its bytes stand for
+-- themselves
+pub last_is : (x k : List ℕ) {p : List ℕ} → IsBlock x → length k ≡ 16 → p ≡ map plain_inv_sbox x
     → last_of p k ≡ add_round_key (inv_shift_rows (inv_sub_bytes (map inv_untower x))) (map as_is k)
 last_is x k {p = p} h m e =
-    last_shifted p k (ap length e ∙ map_length plain x ∙ h.0) m
-    ∙ ap (λ v. add_round_key (inv_shift_rows v) k) (e ∙ plain_is x h.1)
+    last_shifted p k (ap length e ∙ map_length plain_inv_sbox x ∙ h.0) m
+    ∙ ap (λ v. add_round_key (inv_shift_rows v) k) (e ∙ plain_inv_sbox_is x h.1)
     ∙ ap (add_round_key (inv_shift_rows (inv_sub_bytes (map inv_untower x)))) (sym (map-id k))
 
 -- ---- InvMixColumns of a round key

@@ -6,16 +6,15 @@ use Rattle.aes_planes.specs.Fips197.{add_round_key, build, mix_columns, shift_ro
 use Rattle.aes_planes.specs.Fips197.{state, sub_bytes, IsBlock}
 use Rattle.aes_planes.specs.Planes.{plus63}
 use Rattle.aes_planes.proofs.Bits.ByteCases.{by_four}
-use Rattle.aes_planes.proofs.Lists.{built}
+use Rattle.aes_planes.proofs.Lists.{built, same_on_block}
 use Rattle.aes_planes.proofs.Standard.LinearSteps.{shift_map}
 use Rattle.aes_planes.proofs.Standard.Steps.{map_length, shift_times_length, shift_times_bytes}
 use Rattle.aes_permute.specs.Lookup.{is_index, AreIndices}
 use Rattle.aes_permute.specs.Stored.{untower, key_untower}
 use Rattle.aes_permute.specs.declared.tables.TheConstants.{SHIFTED_ROWS, NEXT_ROW, ROW_BEFORE}
 use Rattle.aes_permute.proofs.ExpandedLanes.{inner_is}
-use Rattle.aes_permute.proofs.Linear.{same_on_block}
-use Rattle.aes_permute.proofs.RoundLanes.{one, two, plain, permuted, paired, round_of, last_of}
-use Rattle.aes_permute.proofs.RoundLanes.{round_is, last_is}
+use Rattle.aes_permute.proofs.RoundLanes.{by_1, by_2, plain_sbox, permuted, paired, round_of}
+use Rattle.aes_permute.proofs.RoundLanes.{last_of, round_is, last_is}
 
 -- ---- tables of places
 
@@ -152,7 +151,7 @@ earlier n some = omega arith
 
 -- a round is the standard's of what the bytes stand for in their places
 pub deferred_is : (n : ℕ) (x key : List ℕ) {o t p : List ℕ} → 1 ≤ n → IsBlock x → length key ≡ 16
-    → o ≡ map one x → t ≡ map two x → p ≡ pairs_at (n % 4) o t
+    → o ≡ map by_1 x → t ≡ map by_2 x → p ≡ pairs_at (n % 4) o t
     → shift_times (n % 4) (map untower (round_at (n % 4) o p key))
     ≡ add_round_key (mix_columns (shift_rows (sub_bytes
     (shift_times ((n - 1) % 4) (map untower x)))))
@@ -161,17 +160,17 @@ deferred_is n x key some block long is_o is_t is_p =
     let k : ℕ = n % 4 in
     let small : k < 4 = omega arith in
     let l : length x ≡ 16 = block.0 in
-    let a : List ℕ = map one x in
-    let b : List ℕ = map two x in
+    let a : List ℕ = map by_1 x in
+    let b : List ℕ = map by_2 x in
     let sum : List ℕ = round_at k a (pairs_at k a b) key in
     let y : List ℕ = shift_times (before k) x in
-    let made = made_up k a b key small (map_length one x ∙ l) (map_length two x ∙ l) long in
+    let made = made_up k a b key small (map_length by_1 x ∙ l) (map_length by_2 x ∙ l) long in
     (λ i. shift_times k (map untower
     (round_at k (is_o i) ((is_p ∙ (λ j. pairs_at k (is_o j) (is_t j))) i) key)))
     ∙ sym (times_map untower k sum made.1)
     ∙ ap (map untower) (made.0
-    ∙ (λ i. round_of (sym (times_map one (before k) x l) i)
-    (paired (sym (times_map one (before k) x l) i) (sym (times_map two (before k) x l) i))
+    ∙ (λ i. round_of (sym (times_map by_1 (before k) x l) i)
+    (paired (sym (times_map by_1 (before k) x l) i) (sym (times_map by_2 (before k) x l) i))
     (shift_times k key)))
     ∙ round_is y (shift_times k key) (times_block (before k) x block)
     (shift_times_length k key long) refl refl refl
@@ -200,7 +199,7 @@ made_up_last = by_four (λ k. (p : List ℕ) → length p ≡ 16
 -- the last round is the standard's of what the bytes stand for in their places
 pub deferred_last_is : (n : ℕ) (x key : List ℕ) {p : List ℕ} → 1 ≤ n → IsBlock x
     → length key ≡ 16
-    → p ≡ map plain x → zip2 bit_xor (permuted p (places_in SHIFTED_ROWS (n % 4))) key
+    → p ≡ map plain_sbox x → zip2 bit_xor (permuted p (places_in SHIFTED_ROWS (n % 4))) key
     ≡ add_round_key (shift_rows (sub_bytes (shift_times ((n - 1) % 4) (map untower x))))
     (map plus63 key)
 deferred_last_is n x key some block long is_p =
@@ -208,8 +207,8 @@ deferred_last_is n x key some block long is_p =
     let l : length x ≡ 16 = block.0 in
     (λ i. zip2 bit_xor (permuted (is_p i) (places_in SHIFTED_ROWS k)) key)
     ∙ (λ i. zip2 bit_xor
-    (made_up_last k (omega arith) (map plain x) (map_length plain x ∙ l) i) key)
-    ∙ (λ i. last_of (sym (times_map plain (before k) x l) i) key)
+    (made_up_last k (omega arith) (map plain_sbox x) (map_length plain_sbox x ∙ l) i) key)
+    ∙ (λ i. last_of (sym (times_map plain_sbox (before k) x l) i) key)
     ∙ last_is (shift_times (before k) x) key (times_block (before k) x block) long refl
     ∙ (λ i. add_round_key (shift_rows (sub_bytes
     ((times_map untower (before k) x l ∙ ap (λ m. shift_times m (map untower x)) (earlier n some))

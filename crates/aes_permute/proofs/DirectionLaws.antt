@@ -11,8 +11,8 @@ use Rattle.aes_planes.proofs.Standard.EquivalentInverse.{eq_inv_is_inv}
 pub same_forward : (w : List (List ℕ)) → length w ≡ length w
 same_forward w = refl
 
--- the rounds of Cipher, one after another under a list of round
--- keys, are the standard's cipher under it
+-- the rounds of Cipher, one after another under a list of round keys, are the standard's cipher
+-- under it
 pub is_encrypted : (w : List (List ℕ)) (b : List ℕ) → 2 ≤ length w
     → all_rounds (λ b. fips.mix_columns (fips.shift_rows (fips.sub_bytes b)))
     (λ b. fips.shift_rows (fips.sub_bytes b))
@@ -21,8 +21,8 @@ is_encrypted w b two = is_cipher w b
 
 -- ---- EqInvCipher
 
--- the rounds of EqInvCipher, under inverted round keys, are the
--- standard's inverse cipher under the list
+-- the rounds of EqInvCipher, under inverted round keys, are the standard's inverse cipher under the
+-- list
 pub is_decrypted : (w : List (List ℕ)) (b : List ℕ) → 2 ≤ length w
     → all_rounds (λ b. fips.inv_mix_columns (fips.inv_shift_rows (fips.inv_sub_bytes b)))
     (λ b. fips.inv_shift_rows (fips.inv_sub_bytes b)) (fips.inverted_keys w) b

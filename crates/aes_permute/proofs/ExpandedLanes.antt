@@ -15,7 +15,7 @@ use Rattle.aes_planes.specs.Fips197.{sub_bytes}
 use Rattle.aes_planes.specs.Planes.{plus63, constant_block, summed, columns_summed}
 use Rattle.aes_planes.specs.Planes.{columns_straddled}
 use Rattle.aes_planes.proofs.Bits.ByteCases.{all_below, all_below_tells, by_four}
-use Rattle.aes_planes.proofs.Lists.{built}
+use Rattle.aes_planes.proofs.Lists.{built, same_on_block, same_on_blocks}
 use Rattle.aes_planes.proofs.Shifts.Deferred.{plus63_twice}
 use Rattle.aes_planes.proofs.Standard.FieldLaws.{add_zero, add_twice}
 use Rattle.aes_planes.proofs.Standard.States.{state_same}
@@ -24,7 +24,7 @@ use Rattle.aes_permute.specs.Lookup.{looked}
 use Rattle.aes_permute.specs.Stored.{untower, key_untower}
 use Rattle.aes_permute.specs.declared.tables.TheConstants.{TOWER_LOW, TOWER_HIGH}
 use Rattle.aes_permute.specs.declared.lane_keys.TheConstants.{COLUMN_BEFORE, TWO_COLUMNS_BEFORE}
-use Rattle.aes_permute.proofs.Linear.{untower_sum, same_on_block, same_on_blocks}
+use Rattle.aes_permute.proofs.Linear.{untower_sum}
 
 -- ---- sums of columns
 

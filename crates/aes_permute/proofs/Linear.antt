@@ -1,14 +1,13 @@
 -- Sums on lanes: maps by nibbles, which are linear where their tables are, and rows of a matrix.
 use Rattle.std.proofs.Common.{◌≡◌, ℕ, ◌+◌, ◌-◌, ◌/◌, ◌%◌, ◌<◌, ◌==◌, Bool, true, bit_xor, List, []}
-use Rattle.std.proofs.Common.{◌∷◌, length, get_or, refl, ap, sym, ◌∙◌, subst, arith}
+use Rattle.std.proofs.Common.{◌∷◌, get_or, refl, ap, sym, ◌∙◌, arith}
 use Rattle.std.specs.Int.Bits.{xor_assoc}
 use Rattle.std.proofs.Math.Nat.{mod-lt}
 use Rattle.std.proofs.lemmas.Bool.{eqb-true}
 use Rattle.std.proofs.lemmas.Nat.{xor_comm, xor_mod, xor_shr}
-use Rattle.aes_planes.specs.Fips197.{field_mul, build, state}
+use Rattle.aes_planes.specs.Fips197.{field_mul, state}
 use Rattle.aes_planes.specs.Planes.{plus63}
 use Rattle.aes_planes.proofs.Bits.ByteCases.{all_below, all_pairs, all_pairs_tell, by_four}
-use Rattle.aes_planes.proofs.Lists.{built}
 use Rattle.aes_planes.proofs.Standard.FieldLaws.{add_swap, add_zero}
 use Rattle.aes_planes.proofs.Standard.States.{state_same}
 use Rattle.aes_permute.specs.Lookup.{looked, low_nibble, high_nibble, by_nibbles}
@@ -36,8 +35,8 @@ low_sum a b = xor_mod a b 4
 high_sum : (a b : ℕ) → high_nibble (bit_xor a b) ≡ bit_xor (high_nibble a) (high_nibble b)
 high_sum a b = ap (λ v. v % 16) (xor_shr a b 4) ∙ xor_mod (a / 16) (b / 16) 4
 
--- a look-up by nibbles in linear tables takes the sum of two
--- bytes to the sum of what it makes of each
+-- a look-up by nibbles in linear tables takes the sum of two bytes to the sum of what it makes of
+-- each
 by_nibbles_sum : (t u : List ℕ) → is_linear t → is_linear u → (a b : ℕ)
     → by_nibbles t u (bit_xor a b)
     ≡ bit_xor (by_nibbles t u a) (by_nibbles t u b)
@@ -179,8 +178,8 @@ row a b c d i = get_or (a ∷ b ∷ c ∷ d ∷ []) i a
 abbrev made : (ℕ → ℕ) → (ℕ → ℕ) → (ℕ → Product) → ℕ → ℕ → Bool
 made v g p i b = v ((p i).look_up b) == bit_xor (field_mul (p i).coefficient (g b)) (p i).constant
 
--- v of what each look-up makes of a byte is the product of its
--- coefficient and g of the byte, but for its constant
+-- v of what each look-up makes of a byte is the product of its coefficient and g of the byte, but
+-- for its constant
 abbrev pub Makes : (ℕ → ℕ) → (ℕ → ℕ) → (ℕ → Product) → Type 0
 Makes v g p = all_pairs 4 256 (made v g p) ≡ true
 
@@ -208,20 +207,3 @@ rows_mixed v g p l m at y z h e = state_same _ _ (λ r c i j.
     ∙ constants_gathered product (λ i. (p i).constant) (v (y r c))
     ∙ ap (in_order product) (e r c)
     ∙ rows_turned (λ n j. field_mul (p n).coefficient (g (at c j))) (z r c) r i)
-
--- ---- blocks lane by lane
-
--- what is the same of blocks that are built of functions is the same of all
-pub same_on_blocks : (F G : List ℕ → List ℕ → List ℕ)
-    → ((f g : ℕ → ℕ) → F (build 16 f) (build 16 g) ≡ G (build 16 f) (build 16 g))
-    → (x k : List ℕ) → length x ≡ 16 → length k ≡ 16 → F x k ≡ G x k
-same_on_blocks F G h x k l m =
-    subst (λ v. F v k ≡ G v k) (built 16 x 0 l) (subst (λ w. F (build 16 (λ i. get_or x i 0)) w
-    ≡ G (build 16 (λ i. get_or x i 0)) w) (built 16 k 0 m)
-    (h (λ i. get_or x i 0) (λ i. get_or k i 0)))
-
--- what is the same of a block that is built of a function is the same of all
-pub same_on_block : (F G : List ℕ → List ℕ) → ((f : ℕ → ℕ) → F (build 16 f) ≡ G (build 16 f))
-    → (x : List ℕ)
-    → length x ≡ 16 → F x ≡ G x
-same_on_block F G h x l = subst (λ v. F v ≡ G v) (built 16 x 0 l) (h (λ i. get_or x i 0))

@@ -22,8 +22,8 @@ zeroed_or_same : (b c : Bool) (x y : ℕ) → (b || c) ≡ true → (c ≡ true 
 zeroed_or_same true c x y h same = refl
 zeroed_or_same false c x y h same = same h
 
--- lanes that are read at indices within sixteen, from lane 16 * o on,
--- are looked up in a table that has those lanes
+-- lanes that are read at indices within sixteen, from lane 16 * o on, are looked up in a table that
+-- has those lanes
 pub looked_from : (xs t : List ℕ) (o : ℕ)
     → ((j : ℕ) → j < 16 → get_or xs (16 * o + j) 0 ≡ get_or t j 0) → (js : List ℕ) (i : ℕ)
     → 16 * o ≤ i → i + length js ≤ 16 * o + 16 → AreIndices js

@@ -10,6 +10,7 @@ use Rattle.aes_planes.specs.Fips197.{sub_bytes, shift_rows, mix_columns, add_rou
 use Rattle.aes_planes.specs.Fips197.{IsBlock}
 use Rattle.aes_planes.specs.Planes.{plus63}
 use Rattle.aes_planes.proofs.Bits.ByteCases.{all_below}
+use Rattle.aes_planes.proofs.Lists.{same_on_block, same_on_blocks}
 use Rattle.aes_planes.proofs.Standard.FieldLaws.{add_swap}
 use Rattle.aes_planes.proofs.Standard.States.{state_same}
 use Rattle.aes_planes.proofs.Standard.Steps.{map_length, add_block}
@@ -21,7 +22,7 @@ use Rattle.aes_permute.specs.declared.tables.TheConstants.{TOWER_LOW, TOWER_HIGH
 use Rattle.aes_permute.specs.declared.tables.TheConstants.{SBOX_SECOND, ONE_FIRST, ONE_SECOND}
 use Rattle.aes_permute.specs.declared.tables.TheConstants.{TWO_FIRST, TWO_SECOND}
 use Rattle.aes_permute.proofs.Linear.{untower_three, Product, row, Makes, rows_added}
-use Rattle.aes_permute.proofs.Linear.{rows_multiplied, rows_mixed, same_on_block, same_on_blocks}
+use Rattle.aes_permute.proofs.Linear.{rows_multiplied, rows_mixed}
 use Rattle.aes_permute.proofs.Lookups.{maps_same}
 
 -- ---- what is looked up
@@ -37,16 +38,16 @@ through_lanes t u x a b e = e ∙ (λ i. zip2 (at_places t u) (a i) (b i))
     ∙ zip2-map (at_places t u) first_of second_of x
 
 -- what is looked up for the coefficient 1 of MixColumns
-abbrev pub one : ℕ → ℕ
-one b = through ONE_FIRST ONE_SECOND b
+abbrev pub by_1 : ℕ → ℕ
+by_1 b = through ONE_FIRST ONE_SECOND b
 
 -- what is looked up for the coefficient 2
-abbrev pub two : ℕ → ℕ
-two b = through TWO_FIRST TWO_SECOND b
+abbrev pub by_2 : ℕ → ℕ
+by_2 b = through TWO_FIRST TWO_SECOND b
 
 -- for the coefficient 3, the sum of what is looked up for 1 and 2
-abbrev pub three : ℕ → ℕ
-three b = bit_xor (one b) (two b)
+abbrev pub by_3 : ℕ → ℕ
+by_3 b = bit_xor (by_1 b) (by_2 b)
 
 -- the S-box of what a byte stands for
 abbrev boxed : ℕ → ℕ
@@ -55,10 +56,10 @@ boxed b = sbox (untower b)
 -- row 0 of MixColumns: the products with it, each with what the constant makes of it
 abbrev products : ℕ → Product
 products = row
-    (record { coefficient = 2; look_up = two; constant = 0xc6 })
-    (record { coefficient = 3; look_up = three; constant = 0xa5 })
-    (record { coefficient = 1; look_up = one; constant = 0x63 })
-    (record { coefficient = 1; look_up = one; constant = 0x63 })
+    (record { coefficient = 2; look_up = by_2; constant = 0xc6 })
+    (record { coefficient = 3; look_up = by_3; constant = 0xa5 })
+    (record { coefficient = 1; look_up = by_1; constant = 0x63 })
+    (record { coefficient = 1; look_up = by_1; constant = 0x63 })
 
 -- `products` are right, by all bytes
 products_made : Makes untower boxed products
@@ -103,7 +104,7 @@ round_of o p k =
 
 -- the round on lanes, from what it looks up
 abbrev on_lanes : List ℕ → List ℕ → List ℕ
-on_lanes x k = map untower (round_of (map one x) (paired (map one x) (map two x)) k)
+on_lanes x k = map untower (round_of (map by_1 x) (paired (map by_1 x) (map by_2 x)) k)
 
 -- the round as the standard has it, of what the lanes stand for
 abbrev standard : List ℕ → List ℕ → List ℕ
@@ -130,9 +131,9 @@ pairs_parted a o t c d y =
 abbrev rows_by_pairs : List ℕ → List ℕ → List ℕ
 rows_by_pairs x k =
     state (λ r c. untower
-    (pairs_summed (two (shifted x c (r % 4))) (one (shifted x c ((r + 1) % 4)))
-    (two (shifted x c ((r + 1) % 4))) (one (shifted x c ((r + 2) % 4)))
-    (one (shifted x c ((r + 3) % 4))) (byte_at k r c)))
+    (pairs_summed (by_2 (shifted x c (r % 4))) (by_1 (shifted x c ((r + 1) % 4)))
+    (by_2 (shifted x c ((r + 1) % 4))) (by_1 (shifted x c ((r + 2) % 4)))
+    (by_1 (shifted x c ((r + 3) % 4))) (byte_at k r c)))
 
 -- the round on lanes is a sum of four products in each byte, by the places that the lanes come from
 lanes_are : (x k : List ℕ) → length x ≡ 16 → length k ≡ 16
@@ -141,9 +142,9 @@ unfolding state build
 lanes_are x k l m =
     same_on_blocks on_lanes rows_by_pairs (λ f g. refl) x k l m
     ∙ state_same _ _ (λ r c i j. ap untower
-    (pairs_parted (two (shifted x c (r % 4))) (one (shifted x c ((r + 1) % 4)))
-    (two (shifted x c ((r + 1) % 4))) (one (shifted x c ((r + 2) % 4)))
-    (one (shifted x c ((r + 3) % 4))) (byte_at k r c)))
+    (pairs_parted (by_2 (shifted x c (r % 4))) (by_1 (shifted x c ((r + 1) % 4)))
+    (by_2 (shifted x c ((r + 1) % 4))) (by_1 (shifted x c ((r + 2) % 4)))
+    (by_1 (shifted x c ((r + 3) % 4))) (byte_at k r c)))
 
 -- the sums of products of a round are those of MixColumns and AddRoundKey
 sums_are : (x k : List ℕ) → length x ≡ 16 → length k ≡ 16
@@ -154,8 +155,8 @@ sums_are = same_on_blocks
     standard (λ f g. refl)
 
 -- a round on lanes is SubBytes, ShiftRows, MixColumns and AddRoundKey of what the lanes stand for
-pub round_is : (x k : List ℕ) {o t p : List ℕ} → IsBlock x → length k ≡ 16 → o ≡ map one x
-    → t ≡ map two x
+pub round_is : (x k : List ℕ) {o t p : List ℕ} → IsBlock x → length k ≡ 16 → o ≡ map by_1 x
+    → t ≡ map by_2 x
     → p ≡ paired o t → map untower (round_of o p k)
     ≡ add_round_key (mix_columns (shift_rows (sub_bytes (map untower x)))) (map key_untower k)
 unfolding key_untower
@@ -195,13 +196,13 @@ first_is b k h m =
     ∙ ap (add_round_key b) (sym (map-id k))
 
 -- the S-box without its constant, by two look-ups, of what a byte stands for
-abbrev pub plain : ℕ → ℕ
-plain b = through SBOX_FIRST SBOX_SECOND b
+abbrev pub plain_sbox : ℕ → ℕ
+plain_sbox b = through SBOX_FIRST SBOX_SECOND b
 
--- `plain` is the S-box without its constant, by all bytes
-plain_cases : all_below 256 (λ b. plain b == plus63 (boxed b)) ≡ true
+-- `plain_sbox` is the S-box without its constant, by all bytes
+plain_sbox_cases : all_below 256 (λ b. plain_sbox b == plus63 (boxed b)) ≡ true
 unfolding all_below first_of second_of untower sbox
-plain_cases = refl
+plain_sbox_cases = refl
 
 -- SubBytes but for the constant is made of each byte, if a test of all bytes says so
 but_constant : (f : ℕ → ℕ) → all_below 256 (λ b. f b == plus63 (boxed b)) ≡ true → (x : List ℕ)
@@ -237,24 +238,25 @@ plus63_across (x ∷ xs) (y ∷ ys) =
     λ i. (xor_assoc x 0x63 y ∙ ap (bit_xor x) (xor_comm 0x63 y)) i ∷ plus63_across xs ys i
 
 -- the last round on lanes is SubBytes, ShiftRows and AddRoundKey of a round key with 0x63 in it
-pub last_is : (x k : List ℕ) {p : List ℕ} → IsBlock x → length k ≡ 16 → p ≡ map plain x
+pub last_is : (x k : List ℕ) {p : List ℕ} → IsBlock x → length k ≡ 16 → p ≡ map plain_sbox x
     → last_of p k ≡ add_round_key (shift_rows (sub_bytes (map untower x))) (map plus63 k)
 unfolding sub_bytes
 last_is x k h m e =
     let y = sub_bytes (map untower x) in
     let l : length y ≡ 16 = map_length sbox (map untower x) ∙ map_length untower x ∙ h.0 in
-    ap (λ v. last_of v k) (e ∙ but_constant plain plain_cases x h.1) ∙ ap (λ v. zip2 bit_xor v k) (permuted_plus63 y l)
+    ap (λ v. last_of v k) (e ∙ but_constant plain_sbox plain_sbox_cases x h.1)
+    ∙ ap (λ v. zip2 bit_xor v k) (permuted_plus63 y l)
     ∙ plus63_across (permuted y same_row) k
     ∙ last_shifted y (map plus63 k) l (map_length plus63 k ∙ m)
 
 -- ---- SubBytes in the tower basis
 
 -- what is looked up for 1 stands for the S-box without its constant, by all bytes
-sub_cases : all_below 256 (λ b. untower (one b) == plus63 (boxed b)) ≡ true
+sub_cases : all_below 256 (λ b. untower (by_1 b) == plus63 (boxed b)) ≡ true
 unfolding all_below first_of second_of untower sbox
 sub_cases = refl
 
 -- what is looked up for 1 stands for SubBytes without its constant
 pub sub_bytes_is : (x : List ℕ) → IsBytes x
-    → map untower (map one x) ≡ map plus63 (sub_bytes (map untower x))
-sub_bytes_is x h = map-map untower one x ∙ but_constant (λ b. untower (one b)) sub_cases x h
+    → map untower (map by_1 x) ≡ map plus63 (sub_bytes (map untower x))
+sub_bytes_is x h = map-map untower by_1 x ∙ but_constant (λ b. untower (by_1 b)) sub_cases x h

@@ -1,5 +1,5 @@
-//! Blocks processed under stored round keys: those of a vector, of
-//! two vectors at once, and slices of them.
+//! Blocks processed under stored round keys: those of a vector, of two vectors at once, and slices
+//! of them.
 
 ghost use Rattle.std.specs.Prelude.{◌≡◌, ◌≤◌, ℕ, length};
 ghost use Rattle.aes_planes.specs.Each.{Each};
@@ -29,8 +29,8 @@ fn process_vector<D: LaneRounds, L: Lanes>(keys: &[Block], blocks: L) -> L
     D::last(x, last_key, last)
 }
 
-// Processes the blocks of two vectors, round by round: the
-// steps of one fill the waits of the other.
+// Processes the blocks of two vectors, round by round: the steps of one fill the waits of the
+// other.
 #[inline(always)]
 fn process_two<D: LaneRounds, L: Lanes>(keys: &[Block], one: L, other: L) -> (L, L)
     requires two { 2 ≤ length keys.now }
@@ -65,8 +65,8 @@ pub fn process_one<D: LaneRounds>(keys: &[Block], block: &mut Block)
     *block = processed.to_array();
 }
 
-/// Processes each block of a slice under stored round keys: two
-/// vectors at once, then one, and then one block.
+/// Processes each block of a slice under stored round keys: two vectors at once, then one, and then
+/// one block.
 pub fn process_on_lanes<D: LaneRounds, L: Lanes>(keys: &[Block], blocks: &mut [Block])
     requires two { 2 ≤ length keys.now }
     ensures { Each (all_rounds D.step D.last_step (round_keys_of D.form keys.now))

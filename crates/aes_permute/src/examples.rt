@@ -13,8 +13,8 @@ ghost use Rattle.aes_permute.specs.Keys.{stored_keys, AreInverse, AreZeroAfter, 
 ghost use Rattle.aes_permute.specs.Lookup.{looked};
 ghost use Rattle.aes_permute.specs.Stored.{untower, inv_untower, key_untower};
 
-// The stored round keys of Cipher for the key of FIPS 197, C.1,
-// each as one number, highest byte first.
+// The stored round keys of Cipher for the key of FIPS 197, C.1, each as one number, highest byte
+// first.
 const ENCRYPTING: [u128; 11] = [
     0x000102030405060708090a0b0c0d0e0f,
     0x20debcd70ddfaaed2af3b6fa20d587e7,
@@ -44,9 +44,9 @@ const DECRYPTING: [u128; 11] = [
     0x000102030405060708090a0b0c0d0e0f,
 ];
 
-/// What bytes stand for. 0x15 is 0x53 in the tower basis; in a state of
-/// decryption it stands for the affine transformation of 0x53 (FIPS 197, 5.1.1),
-/// and in a round key for the sum of 0x53 and 0x63.
+/// What bytes stand for. 0x15 is 0x53 in the tower basis; in a state of decryption it stands for
+/// the affine transformation of 0x53 (FIPS 197, 5.1.1), and in a round key for the sum of 0x53 and
+/// 0x63.
 #[tactic(auto, unfolding(crate::proofs::OnLiterals::stored_on_literals))]
 pub fn byte_examples()
     ensures tower { untower 0x15 ≡ 0x53 }
@@ -69,8 +69,8 @@ pub fn encrypting_keys()
         ≡ fips.key_expansion (bytes 16 0x000102030405060708090a0b0c0d0e0f) }
 {}
 
-/// The stored round keys of EqInvCipher for the same key, and
-/// the round keys that C.1 prints for it.
+/// The stored round keys of EqInvCipher for the same key, and the round keys that C.1 prints for
+/// it.
 #[tactic(auto, unfolding(crate::proofs::OnLiterals::stored_on_literals))]
 pub fn decrypting_keys()
     ensures stored { decrypting (map (bytes 16) DECRYPTING) ≡ map (bytes 16) (
@@ -97,8 +97,8 @@ pub fn inverse_examples()
     ensures in_order { ¬ AreInverse (bytes 16 1 ∷ bytes 16 2 ∷ []) (bytes 16 1 ∷ bytes 16 2 ∷ []) }
 {}
 
-/// Eleven, thirteen and fifteen round keys are those of keys of
-/// 16, 24 and 32 bytes; twelve are of none.
+/// Eleven, thirteen and fifteen round keys are those of keys of 16, 24 and 32 bytes; twelve are of
+/// none.
 pub fn size_examples()
     ensures sizes { map (λ n. lane_key_size (replicate n [])) (11 ∷ 13 ∷ 15 ∷ [])
         ≡ 16 ∷ 24 ∷ 32 ∷ [] }

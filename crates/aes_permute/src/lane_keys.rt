@@ -1,5 +1,5 @@
-//! The key schedules (FIPS 197, 5.2), four words at a time, and
-//! the form in which round keys are stored.
+//! The key schedules (FIPS 197, 5.2), four words at a time, and the form in which round keys are
+//! stored.
 
 ghost use Rattle.std.specs.Prelude.{◌≡◌, ◌+◌, ◌/◌, ◌%◌, ◌<◌, ◌≤◌, ◌∷◌, length, map, replicate, bit_xor};
 ghost use Rattle.std.specs.Simd.Lanes.{zip2};
@@ -26,8 +26,8 @@ const TWO_COLUMNS_BEFORE: [u8; 16] = [
     0x80, 0x80, 0x80, 0x80, 0x80, 0x80, 0x80, 0x80, 0, 1, 2, 3, 4, 5, 6, 7,
 ];
 
-// In the tower basis, each column of the result is the sum of the columns up to it,
-// of `start` there, and of `addend` there.
+// In the tower basis, each column of the result is the sum of the columns up to it, of `start`
+// there, and of `addend` there.
 #[tactic(auto, unfolding(crate::specs::Lookup::is_index))]
 #[inline(always)]
 fn summed_columns(before: u8x16, start: u8x16, addend: u8x16) -> u8x16
@@ -169,8 +169,8 @@ pub fn invert_lanes(inverse: &mut [Block], keys: &[Block])
     ensures keys { AreInverse inverse.new keys.now }
     ensures same_length { length inverse.new ≡ length inverse.old }
 {
-    // Each is written once, in its place: a list that is turned where
-    // it stands leaves a round key on the stack.
+    // Each is written once, in its place: a list that is turned where it stands leaves a round key
+    // on the stack.
     let last = keys.len() - 1;
     'keys: for i in 1..last {
         let key = keys[last - i];

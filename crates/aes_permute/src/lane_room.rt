@@ -1,5 +1,5 @@
-//! Room for stored round keys of a key of any size, and the first
-//! of its blocks, which are the round keys.
+//! Room for stored round keys of a key of any size, and the first of its blocks, which are the
+//! round keys.
 
 ghost use Rattle.std.specs.Prelude.{◌≡◌, ◌+◌, ◌/◌, drop, length};
 ghost use Rattle.aes_cipher.specs.KeySizes.{IsKeySize};
@@ -33,8 +33,8 @@ pub fn expand_in_room(room: &mut LaneRoom, key: &[u8])
     expand_lanes(&mut room[..key.len() / 4 + 7], key);
 }
 
-/// Writes the round keys of EqInvCipher, of the same key of `size`
-/// bytes as those of Cipher (FIPS 197, 5.3.5).
+/// Writes the round keys of EqInvCipher, of the same key of `size` bytes as those of Cipher (FIPS
+/// 197, 5.3.5).
 #[inline(always)]
 pub fn invert_in_room(inverse: &mut LaneRoom, room: &LaneRoom, size: usize)
     requires { IsKeySize size }

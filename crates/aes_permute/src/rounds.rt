@@ -39,8 +39,8 @@ impl LaneRounds for Encrypt {
         let at = places_of(x);
         let one = looked_up(at, ONE_FIRST, ONE_SECOND);
         let two = looked_up(at, TWO_FIRST, TWO_SECOND);
-        // A byte's double with the next row's byte: a row further on, the same
-        // sums hold the rest of the product with 3.
+        // A byte's double with the next row's byte: a row further on, the same sums hold the rest
+        // of the product with 3.
         let next = one.permuted(NEXT_ROW[number % 4]);
         let pairs = two.sum(next);
         let second = pairs.permuted(NEXT_ROW[number % 4]);
@@ -120,8 +120,8 @@ impl LaneRounds for Decrypt {
     fn processes() {}
 }
 
-// The products with the coefficients 14, 11 and 13 of InvMixColumns
-// (FIPS 197, 5.3.3), of those with 1, 4, 9 and 15.
+// The products with the coefficients 14, 11 and 13 of InvMixColumns (FIPS 197, 5.3.3), of those
+// with 1, 4, 9 and 15.
 #[inline(always)]
 fn coefficients<L: Lanes>(by_1: L, by_4: L, by_9: L, by_15: L) -> (L, L, L)
     ensures by_14 { (i : ℕ) → L.block result.0 i ≡ zip2 bit_xor (L.block by_1 i) (L.block by_15 i) }

@@ -1,5 +1,5 @@
-//! The S-box and its inverse on lanes: the inverse in the field by
-//! its two places, and tables read there.
+//! The S-box and its inverse on lanes: the inverse in the field by its two places, and tables read
+//! there.
 
 ghost use Rattle.std.specs.Prelude.{◌≡◌, ℕ, map};
 ghost use Rattle.std.specs.Simd.Lanes.{zip2};

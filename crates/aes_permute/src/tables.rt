@@ -15,8 +15,8 @@
 //! so zero needs no case of its own. A linear function of a byte is the sum of its values at the
 //! two nibbles.
 
-/// A byte in the tower basis, in which states of Cipher are kept: by
-/// its low nibble, and by its high nibble.
+/// A byte in the tower basis, in which states of Cipher are kept: by its low nibble, and by its
+/// high nibble.
 pub const TOWER_LOW: [u8; 16] = [
     0x00, 0x01, 0x1c, 0x1d, 0x2d, 0x2c, 0x31, 0x30, 0x27, 0x26, 0x3b, 0x3a, 0x0a, 0x0b, 0x16, 0x17,
 ];

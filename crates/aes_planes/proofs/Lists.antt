@@ -1,6 +1,6 @@
 -- Lists that are built of a function, and lists with the same elements.
 use Rattle.std.proofs.Common.{◌≡◌, ℕ, zero, suc, ◌+◌, ◌<◌, List, [], ◌∷◌, length, get_or, map, refl}
-use Rattle.std.proofs.Common.{ap, ◌∙◌, arith}
+use Rattle.std.proofs.Common.{ap, subst, ◌∙◌, arith}
 use Rattle.aes_planes.specs.Fips197.{build, build_from}
 pub use Rattle.aes_planes.specs.Private.BuiltLength.{length-build}
 
@@ -27,8 +27,8 @@ build_from_each P d past a zero f h i = past
 build_from_each P d past a (suc n) f h zero = h a
 build_from_each P d past a (suc n) f h (suc i) = build_from_each P d past (a + 1) n f h i
 
--- what holds of each f i, and of what stands past the end,
--- holds at every place of the list built of f
+-- what holds of each f i, and of what stands past the end, holds at every place of the list built
+-- of f
 pub build_each : {A : Type 0} (P : A → Type 0) (d : A) → P d → (n : ℕ) (f : ℕ → A)
     → ((i : ℕ) → P (f i)) → (i : ℕ)
     → P (get_or (build n f) i d)
@@ -59,6 +59,23 @@ build_is n f xs d l h =
 pub built : {A : Type 0} (n : ℕ) (xs : List A) (d : A) → length xs ≡ n
     → build n (λ i. get_or xs i d) ≡ xs
 built n xs d l = build_is n (λ i. get_or xs i d) xs d l (λ i lt. refl)
+
+-- ---- lists of sixteen elements
+
+-- what is the same of blocks that are built of functions is the same of all
+pub same_on_blocks : (F G : List ℕ → List ℕ → List ℕ)
+    → ((f g : ℕ → ℕ) → F (build 16 f) (build 16 g) ≡ G (build 16 f) (build 16 g))
+    → (x k : List ℕ) → length x ≡ 16 → length k ≡ 16 → F x k ≡ G x k
+same_on_blocks F G h x k l m =
+    subst (λ v. F v k ≡ G v k) (built 16 x 0 l) (subst (λ w. F (build 16 (λ i. get_or x i 0)) w
+    ≡ G (build 16 (λ i. get_or x i 0)) w) (built 16 k 0 m)
+    (h (λ i. get_or x i 0) (λ i. get_or k i 0)))
+
+-- what is the same of a block that is built of a function is the same of all
+pub same_on_block : (F G : List ℕ → List ℕ) → ((f : ℕ → ℕ) → F (build 16 f) ≡ G (build 16 f))
+    → (x : List ℕ)
+    → length x ≡ 16 → F x ≡ G x
+same_on_block F G h x l = subst (λ v. F v ≡ G v) (built 16 x 0 l) (h (λ i. get_or x i 0))
 
 -- ---- what a function makes of lists
 

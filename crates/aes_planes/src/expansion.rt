@@ -1,5 +1,5 @@
-//! The key expansion (FIPS 197, 5.2), four words at a time, once for every
-//! form in which round keys are made and stored.
+//! The key expansion (FIPS 197, 5.2), four words at a time, once for every form in which round keys
+//! are made and stored.
 
 ghost use Rattle.std.specs.Prelude.{◌≡◌, ◌≢◌, ◌⊎◌, ◌+◌, ◌*◌, ◌≤◌, ℕ, List, length, take, drop};
 ghost use Rattle.aes_planes.specs.Expansion.{substitutions};
@@ -8,8 +8,8 @@ ghost use Rattle.aes_planes.specs.Planes.{constant_block, columns_summed, column
 
 use crate::soft::sbox::Layers;
 
-// The powers of x in the field, from 0 to 9: the bytes that
-// round constants begin with (FIPS 197, 5.2).
+// The powers of x in the field, from 0 to 9: the bytes that round constants begin with (FIPS 197,
+// 5.2).
 const POWERS_OF_X: [u8; 10] = [0x01, 0x02, 0x04, 0x08, 0x10, 0x20, 0x40, 0x80, 0x1b, 0x36];
 
 /// What four words of the key expansion are (planes, a vector or a block): how they are made, and
@@ -57,8 +57,8 @@ pub trait FourWords {
             → AreWords result (columns_summed 0 3 x (fips.sub_bytes y)) }
         ensures layers { layers.new ≡ layers.old + LAYERS };
 
-    /// Four words, the first of which needs neither: column 1 of
-    /// `last` has the word just before them.
+    /// Four words, the first of which needs neither: column 1 of `last` has the word just before
+    /// them.
     fn plain(before: Self::Words, last: Self::Words) -> Self::Words
         ensures { (x y : List ℕ) → AreWords before x → AreWords last y
             → AreWords result (columns_summed 0 1 x y) };
@@ -68,8 +68,8 @@ pub trait FourWords {
         ensures { (x y : List ℕ) → AreWords left x → AreWords right y
             → AreWords result (columns_straddled x y) };
 
-    /// The four words of round key `i` of those from 0 to `last` once more:
-    /// read back, where it is slower to keep them.
+    /// The four words of round key `i` of those from 0 to `last` once more: read back, where it is
+    /// slower to keep them.
     fn read_back(
         stored: &[Self::StoredIn],
         i: usize,

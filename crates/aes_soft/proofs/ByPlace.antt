@@ -3,8 +3,8 @@ use Rattle.std.proofs.Common.{◌≡◌, ℕ, zero, suc, ◌+◌, ◌<◌, List,
 use Rattle.std.proofs.Common.{drop, get_or, set, refl, ap, ◌∙◌, arith}
 use Rattle.aes_planes.specs.Planes.{zip_with}
 
--- what a loop that has come to place i leaves in the end: the
--- elements before it, and f of both from it on
+-- what a loop that has come to place i leaves in the end: the elements before it, and f of both
+-- from it on
 abbrev pub zipped_from : {X : Type 0} → (X → X → X) → ℕ → List X → List X → List X
 zipped_from f i xs ys = take i xs ++ zip_with f (drop i xs) (drop i ys)
 
@@ -27,8 +27,8 @@ zipped_next f zero (x ∷ xs) (y ∷ ys) d lt le = refl
 zipped_next f (suc i) (x ∷ xs) (y ∷ ys) d lt le =
     ap (λ zs. x ∷ zs) (zipped_next f i xs ys d (omega arith) (omega arith))
 
--- once place i has f of both elements there, the loop leaves the
--- same from place i + 1 on as it did from i
+-- once place i has f of both elements there, the loop leaves the same from place i + 1 on as it did
+-- from i
 pub zipped_step : (f : List ℕ → List ℕ → List ℕ) (i : ℕ) (xs ys : List (List ℕ)) (x : List ℕ)
     → i < length xs
     → i < length ys → x ≡ f (get_or xs i []) (get_or ys i [])

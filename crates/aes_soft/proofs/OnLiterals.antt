@@ -1,5 +1,5 @@
--- Stored round keys on literals: what a lemma unfolds to compute them,
--- and a claim at each number below another.
+-- Stored round keys on literals: what a lemma unfolds to compute them, and a claim at each number
+-- below another.
 use Rattle.std.proofs.Common.{◌≡◌, ◌⊎◌, inl, inr, ℕ, zero, suc, ◌<◌, ◌≤◌, subst, arith}
 use Rattle.std.proofs.lemmas.Bool.{cases_lt}
 use Rattle.std.specs.Prelude.{⊤}

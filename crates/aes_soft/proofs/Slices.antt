@@ -21,32 +21,46 @@ one_batch_less r m s some le =
     let e : m / s ≡ (m - s) / s + 1 = ap (λ v. v / s) (sym same) ∙ add-div_right (m - s) some in
     ap (λ v. r * v) e ∙ grind arith
 
--- a loop that applies f to each element of a list, `size` at a
--- time, and has come to the place `done`
-pub record Batched {X : Type 0} (f : X → X) (size done : ℕ) (old now : List X) : Type 0 where
-  pub some : 0 < size
+-- a loop that applies f to each element of a list, some at a time, and has come to the place `done`
+pub record Worked {X : Type 0} (f : X → X) (done : ℕ) (old now : List X) : Type 0 where
   pub within : done ≤ length now
-  pub whole : (length now - done) % size ≡ 0
+  pub same : length now ≡ length old
   pub value : finished f done now ≡ map f old
 
--- one more whole batch is replaced by f of each of its elements,
--- and the loop has come that much further
+-- the loop comes n places further: f of each of n more elements stands in its place
+pub next_run : {X : Type 0} (f : X → X) (done n k : ℕ) (old now ys : List X)
+    → Worked f done old now → k ≡ n → done + n ≤ length now
+    → ys ≡ map f (take k (drop done now)) → Worked f (done + n) old (put_mid done k now ys)
+next_run f done n k old now ys b e fits is =
+    let sized : length (put_mid done k now ys) ≡ length now =
+    same_len_mid done k now ys (ap length is ∙ length-map (take k (drop done now)) f) in
+    record {
+      within = omega (arith, sized, fits);
+      same = sized ∙ b.same;
+      value = finished_run f done n k now ys e fits is ∙ b.value;
+    }
+
+-- such a loop by batches of `size`, when whole batches are left
+pub record Batched {X : Type 0} (f : X → X) (size done : ℕ) (old now : List X) : Type 0 where
+  pub some : 0 < size
+  pub worked : Worked f done old now
+  pub whole : (length now - done) % size ≡ 0
+
+-- one more whole batch is replaced by f of each of its elements, and the loop has come that much
+-- further
 pub next_batch : {X : Type 0} (f : X → X) (size done k : ℕ) (old now ys : List X)
     → Batched f size done old now
     → done < length now → k ≡ size → ys ≡ map f (take k (drop done now))
     → Batched f size (done + size) old (put_mid done k now ys)
 next_batch f size done k old now ys b some same is =
-    let fits : done + size ≤ length now =
-    omega (arith, one_fits (length now - done) size (omega arith) b.whole) in
-    let sized : length (put_mid done k now ys) ≡ length now =
-    same_len_mid done k now ys (ap length is ∙ length-map (take k (drop done now)) f) in
+    let fits = one_fits (length now - done) size (omega arith) b.whole in
+    let next = next_run f done size k old now ys b.worked same (omega (arith, fits, some)) is in
     let left : length (put_mid done k now ys) - (done + size) ≡ length now - done - size =
-    omega arith in
+    omega (arith, next.same, b.worked.same) in
     record {
       some = b.some;
-      within = omega arith;
-      whole = ap (λ v. v % size) left ∙ whole_left (length now - done) size (omega arith) b.whole;
-      value = finished_run f done size k now ys same fits is ∙ b.value;
+      worked = next;
+      whole = ap (λ v. v % size) left ∙ whole_left (length now - done) size fits b.whole;
     }
 
 -- f of the first n elements, written in their places

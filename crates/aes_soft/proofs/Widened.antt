@@ -105,8 +105,8 @@ module _ {A : Type 0} (bits : A → List Bool) (w R Q : ℕ) (xs : List ℕ) whe
         ∙ get_or-replicate n 0 (block (8 * i)) [] shape.some_block
         ∙ sym (ap (λ v. get_or v 0 []) (in_one_slot (8 * i)))
 
-    -- words with one block in every slot are read as the key that
-    -- the words of that one block are read as
+    -- words with one block in every slot are read as the key that the words of that one block are
+    -- read as
     pub same_key : (size : ℕ) (layout : ℕ → ℕ)
         → key_of size n layout widened ≡ key_of size 1 layout narrow
     unfolding key_of

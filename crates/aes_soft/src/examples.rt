@@ -1,5 +1,5 @@
-//! Round keys as stored, and counts, at values from outside, as
-//! contracts, so that a slip in a definition is refused.
+//! Round keys as stored, and counts, at values from outside, as contracts, so that a slip in a
+//! definition is refused.
 //!
 //! `bytes n 0x..` is the n bytes that these digits write. Round keys and words were computed by a
 //! separate model in Python, from the standard and the layouts: bit 4 r + c of word 8 i + p is bit

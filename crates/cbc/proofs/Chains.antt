@@ -70,8 +70,8 @@ last_left before xs i lt = ap (last_of before) (sym (drop_more xs i [] lt))
 
 module _ (w : List (List ℕ)) (before : List ℕ) (xs : List (List ℕ)) (i : ℕ) (v : List ℕ)
     (lt : i < length xs) where
-  -- with block i encrypted after its sum with the block before,
-  -- what is left to chain makes the same list
+  -- with block i encrypted after its sum with the block before, what is left to chain makes the
+  -- same list
   pub chained_next : v ≡ cipher_with w (add_round_key (get_or xs i []) before)
       → take (i + 1) (set xs i v) ++ chained w v (drop (i + 1) (set xs i v))
       ≡ take i xs ++ chained w before (drop i xs)
@@ -83,8 +83,8 @@ module _ (w : List (List ℕ)) (before : List ℕ) (xs : List (List ℕ)) (i : �
       ∙ (λ j. take i xs ++ e j ∷ chained w (e j) (drop (i + 1) xs))
       ∙ ap (λ ys. take i xs ++ chained w before ys) (sym (drop_more xs i [] lt))
 
-  -- with block i of ys decrypted and summed with the block before,
-  -- what is left to undo makes the same list
+  -- with block i of ys decrypted and summed with the block before, what is left to undo makes the
+  -- same list
   pub unchained_next : (ys : List (List ℕ)) → i < length ys
       → v ≡ add_round_key (inv_cipher_with w (get_or ys i [])) before
       → take (i + 1) (set xs i v) ++ unchained w (get_or ys i []) (drop (i + 1) ys) ≡ take i xs

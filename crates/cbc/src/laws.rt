@@ -16,8 +16,8 @@ pub fn chains_cut()
         unchained w iv (a ++ b) ≡ unchained w iv a ++ unchained w (last_of iv a) b }
 {}
 
-/// No effect; states that decryption undoes encryption, on
-/// blocks and under round keys of the standard.
+/// No effect; states that decryption undoes encryption, on blocks and under round keys of the
+/// standard.
 pub fn chains_back()
     ensures { (w : List (List ℕ)) (iv : List ℕ) (blocks : List (List ℕ)) → fips.AreRoundKeys w
         → fips.IsBlock iv →

@@ -47,16 +47,16 @@ semiblock_is key i lt =
     ]
 
 -- once semiblock i is written, the first i + 1 are those of the padded key
-pub semiblock_more : (key : List ℕ) (halves : List (List ℕ)) (i : ℕ) (half : List ℕ)
-    → i < length halves
-    → length halves ≡ filled (length key)
+pub semiblock_more : (key : List ℕ) (others : List (List ℕ)) (i : ℕ) (half : List ℕ)
+    → i < length others
+    → length others ≡ filled (length key)
     → half ≡ take 8 (drop (8 * i) key) ++ replicate (8 * i + 8 - length key) 0
-    → take i halves ≡ semiblocks (padded key) i
-    → take (i + 1) (set halves i half) ≡ semiblocks (padded key) (i + 1)
+    → take i others ≡ semiblocks (padded key) i
+    → take (i + 1) (set others i half) ≡ semiblocks (padded key) (i + 1)
 unfolding semiblocks
-semiblock_more key halves i half lt sized is before =
+semiblock_more key others i half lt sized is before =
     let more : suc i ≡ i + 1 = omega arith in
-    take_more_set halves i half lt
+    take_more_set others i half lt
     ∙ (λ j. before j ++ (is ∙ semiblock_is key i (omega (arith, lt, sized))) j ∷ [])
     ∙ ap (semiblocks (padded key)) more
 
@@ -64,9 +64,9 @@ semiblock_more key halves i half lt sized is before =
 
 module _ (f : List ℕ → List ℕ) (steps : List (List ℕ) → ℕ → List (List ℕ)) where
   -- the halves of f of a block
-  pub as_block : (a : List ℕ) (halves : List (List ℕ)) (a_new r_new : List ℕ) → length halves ≡ 1
-      → a_new ≡ take 8 (f (a ++ get_or halves 0 [])) → r_new ≡ drop 8 (f (a ++ get_or halves 0 []))
-      → a_new ∷ set halves 0 r_new ≡ block_or_steps f steps (a ∷ halves)
+  pub as_block : (a : List ℕ) (others : List (List ℕ)) (a_new r_new : List ℕ) → length others ≡ 1
+      → a_new ≡ take 8 (f (a ++ get_or others 0 [])) → r_new ≡ drop 8 (f (a ++ get_or others 0 []))
+      → a_new ∷ set others 0 r_new ≡ block_or_steps f steps (a ∷ others)
   unfolding block_or_steps
   as_block a [] a_new r_new one is_a is_r = absurd (omega arith)
   as_block a (r ∷ []) a_new r_new one is_a is_r =
@@ -105,30 +105,30 @@ module _ (check : List ℕ) (long : length check ≡ 8) (small : IsBytes check) 
       ∙ take-append-drop 4 check
 
   -- what is compared is 0 in each part exactly if it is 0 together
-  pub compared : (halves : List (List ℕ)) (first bytes padding low : ℕ)
+  pub compared : (others : List (List ℕ)) (first bytes padding low : ℕ)
       → first ≡ from_be_bytes w32 (take 4 check) → bytes ≡ from_be_bytes w32 (drop 4 check)
-      → 1 ≤ length halves → length halves ≤ 2 ^ 29
-      → padding ≡ (8 * length halves + (2 ^ 64 - bytes)) % 2 ^ 64
-      → (low ≡ 0) ↔ (drop (8 - bit_and padding 7) (get_or halves (length halves - 1) [])
+      → 1 ≤ length others → length others ≤ 2 ^ 29
+      → padding ≡ (8 * length others + (2 ^ 64 - bytes)) % 2 ^ 64
+      → (low ≡ 0) ↔ (drop (8 - bit_and padding 7) (get_or others (length others - 1) [])
       ≡ replicate (bit_and padding 7) 0)
       → (bit_or (bit_or ((first + (2 ^ 32 - 0xa65959a6)) % 2 ^ 32) (padding / 8)) low ≡ 0)
-      ↔ IsPadded (check ∷ halves)
+      ↔ IsPadded (check ∷ others)
   unfolding length_in
-  compared halves first bytes padding low is_first is_bytes some few is_padding is_low =
+  compared others first bytes padding low is_first is_bytes some few is_padding is_low =
       let x : ℕ = (first + (2 ^ 32 - 0xa65959a6)) % 2 ^ 32 in
       let y : ℕ = padding / 8 in
       let f = take_bytes 4 check small in
       let g = drop_bytes 4 check small in
       let first_small : first < 2 ^ 32 = omega (arith, is_first, f 0, f 1, f 2, f 3) in
       let bytes_small : bytes < 2 ^ 32 = omega (arith, is_bytes, g 0, g 1, g 2, g 3) in
-      let at : length (check ∷ halves) - 1 ≡ suc (length halves - 1) = omega (arith, some) in
-      let last = ap (λ k. get_or (check ∷ halves) k []) at in
+      let at : length (check ∷ others) - 1 ≡ suc (length others - 1) = omega (arith, some) in
+      let last = ap (λ k. get_or (check ∷ others) k []) at in
       let masked : bit_and padding 7 ≡ padding % 8 = and_mask padding 3 in (
         λ none.
             let both : bit_or x y ≡ 0 = omega (arith, le_or_l (bit_or x y) low, none) in
             let equal : first ≡ 0xa65959a6 = omega (arith, le_or_l x y, both, first_small) in
             let short : y ≡ 0 = omega (arith, le_or_r x y, both) in
-            let same : bit_and padding 7 ≡ 8 * (length (check ∷ halves) - 1) - from_be_bytes w32
+            let same : bit_and padding 7 ≡ 8 * (length (check ∷ others) - 1) - from_be_bytes w32
             (drop 4 check) =
             omega (arith, masked, short, is_padding, is_bytes, bytes_small, few) in
             record {
@@ -145,7 +145,7 @@ module _ (check : List ℕ) (long : length check ≡ 8) (small : IsBytes check) 
             let none : x ≡ 0 = omega (arith, equal) in
             let short : y ≡ 0 =
             omega (arith, right.least, right.most, is_padding, is_bytes, bytes_small, few) in
-            let same : bit_and padding 7 ≡ 8 * (length (check ∷ halves) - 1) - from_be_bytes w32
+            let same : bit_and padding 7 ≡ 8 * (length (check ∷ others) - 1) - from_be_bytes w32
             (drop 4 check) =
             omega (arith, masked, short, is_padding, is_bytes, bytes_small, few, right.least) in
             let zeros = (λ j. drop (8 - same j) (sym last j)) ∙ right.zeros

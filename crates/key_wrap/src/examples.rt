@@ -51,7 +51,7 @@ pub fn number_examples()
 /// Each step is as the first one, whatever its number, and there are six for each semiblock of the
 /// key; a string of more than two semiblocks goes through the same steps with padding and without
 /// (6.1; 6.2, algorithm 3; 6.3, algorithms 5 and 6).
-#[tactic(auto, unfolding(crate::specs::KeyWrap::wrapped, crate::specs::KeyWrap::unwrapped, crate::specs::KeyWrap::wrapped_after, crate::specs::KeyWrap::unwrapped_from, crate::specs::Padded::block_or_steps, crate::specs::Padded::wrapped_string, crate::specs::Padded::unwrapped_string))]
+#[tactic(auto, unfolding(crate::proofs::OnLiterals::step_rules))]
 pub fn step_rules()
     ensures begun { (w s : List (List ℕ)) → wrapped_after w s 0 ≡ s }
     ensures next { (w s : List (List ℕ)) (t : ℕ) → wrapped_after w s (t + 1)

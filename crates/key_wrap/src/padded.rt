@@ -41,10 +41,10 @@ pub fn wrap_padded<C: BlockCipherEncrypt>(
     if !fits(key.len(), output.len()) {
         return Err(InvalidCount);
     }
-    if let Some((check, halves)) = output.split_first_mut() {
+    if let Some((check, others)) = output.split_first_mut() {
         *check = heading_of(key.len() as u32);
-        fill(key, halves);
-        wrap_string(cipher, check, halves);
+        fill(key, others);
+        wrap_string(cipher, check, others);
     }
     Ok(())
 }
@@ -70,13 +70,13 @@ fn heading_of(bytes: u32) -> Semiblock
     [a, b, c, d, e, f, g, h]
 }
 
-// Writes a key to the semiblocks that it fills, with zeros after it.
-fn fill(key: &[u8], halves: &mut [Semiblock])
-    requires { length halves.old ≡ filled (length key.now) }
-    ensures { halves.new ≡ semiblocks (padded key.now) (filled (length key.now)) }
+// Writes a key to the semiblocks after the first, which it fills, with zeros after it.
+fn fill(key: &[u8], others: &mut [Semiblock])
+    requires { length others.old ≡ filled (length key.now) }
+    ensures { others.new ≡ semiblocks (padded key.now) (filled (length key.now)) }
 {
-    for i in 0..halves.len() {
-        halves[i] = semiblock_at(key, 8 * i);
+    for i in 0..others.len() {
+        others[i] = semiblock_at(key, 8 * i);
     }
 }
 
@@ -134,14 +134,14 @@ pub fn unwrap_padded<C: BlockCipherDecrypt>(
 // put together. A call that is never inlined, so that a compiler can't make several branches of the
 // one on whether it is 0.
 #[inline(never)]
-fn difference(check: &Semiblock, halves: &[Semiblock]) -> u64
-    requires some { 1 ≤ length halves.now }
-    requires few { length halves.now ≤ 2 ^ 29 }
-    ensures { (result ≡ 0) ↔ IsPadded (check.now ∷ halves.now) }
+fn difference(check: &Semiblock, others: &[Semiblock]) -> u64
+    requires some { 1 ≤ length others.now }
+    requires few { length others.now ≤ 2 ^ 29 }
+    ensures { (result ≡ 0) ↔ IsPadded (check.now ∷ others.now) }
 {
     let (first, bytes) = numbers_of(check);
-    let padding = (8 * halves.len() as u64).wrapping_sub(bytes as u64);
-    let last = last_bytes(&halves[halves.len() - 1], (padding & 7) as u32);
+    let padding = (8 * others.len() as u64).wrapping_sub(bytes as u64);
+    let last = last_bytes(&others[others.len() - 1], (padding & 7) as u32);
     first.wrapping_sub(PADDED_CHECK) as u64 | padding >> 3 | last as u64
 }
 

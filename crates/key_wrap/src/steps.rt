@@ -57,33 +57,33 @@ fn wrap_step<C: BlockCipherEncrypt>(
 fn wrap_turn<C: BlockCipherEncrypt>(
     cipher: &C,
     check: &mut Semiblock,
-    halves: &mut [Semiblock],
+    others: &mut [Semiblock],
     turn: u64,
 )
     requires turn { turn < 6 }
-    requires few { length halves.old < 2 ^ 54 }
-    ensures { let m = length halves.old in let w = C.round_keys cipher.now in (s : List (List ℕ)) →
-        wrapped_after w s (turn * m) ≡ check.old ∷ halves.old →
-        wrapped_after w s (turn * m + m) ≡ check.new ∷ halves.new }
+    requires few { length others.old < 2 ^ 54 }
+    ensures { let m = length others.old in let w = C.round_keys cipher.now in (s : List (List ℕ)) →
+        wrapped_after w s (turn * m) ≡ check.old ∷ others.old →
+        wrapped_after w s (turn * m + m) ≡ check.new ∷ others.new }
 {
-    let before = turn * halves.len() as u64;
-    for i in 0..halves.len() {
-        wrap_step(cipher, check, &mut halves[i], before + i as u64 + 1);
+    let before = turn * others.len() as u64;
+    for i in 0..others.len() {
+        wrap_step(cipher, check, &mut others[i], before + i as u64 + 1);
     }
 }
 
-/// W: `check` is the first semiblock, and `halves` are the others.
+/// W: `check` is the first semiblock, and `others` are the other ones.
 pub(crate) fn wrap_in_place<C: BlockCipherEncrypt>(
     cipher: &C,
     check: &mut Semiblock,
-    halves: &mut [Semiblock],
+    others: &mut [Semiblock],
 )
-    requires few { length halves.old < 2 ^ 54 }
+    requires few { length others.old < 2 ^ 54 }
     ensures { let w = C.round_keys cipher.now in
-        check.new ∷ halves.new ≡ wrapped_after w (check.old ∷ halves.old) (6 * length halves.old) }
+        check.new ∷ others.new ≡ wrapped_after w (check.old ∷ others.old) (6 * length others.old) }
 {
     for turn in 0..6 {
-        wrap_turn(cipher, check, halves, turn);
+        wrap_turn(cipher, check, others, turn);
     }
 }
 
@@ -127,53 +127,53 @@ fn unwrap_step<C: BlockCipherDecrypt>(
 fn unwrap_turn<C: BlockCipherDecrypt>(
     cipher: &C,
     check: &mut Semiblock,
-    halves: &mut [Semiblock],
+    others: &mut [Semiblock],
     turn: u64,
 )
     requires turn { turn < 6 }
-    requires few { length halves.old < 2 ^ 54 }
-    ensures { let m = length halves.old in let w = C.round_keys cipher.now in
-        unwrapped_from w (check.new ∷ halves.new) (turn * m)
-        ≡ unwrapped_from w (check.old ∷ halves.old) (turn * m + m) }
+    requires few { length others.old < 2 ^ 54 }
+    ensures { let m = length others.old in let w = C.round_keys cipher.now in
+        unwrapped_from w (check.new ∷ others.new) (turn * m)
+        ≡ unwrapped_from w (check.old ∷ others.old) (turn * m + m) }
 {
-    let before = turn * halves.len() as u64;
-    for k in 0..halves.len() {
-        let i = halves.len() - 1 - k;
-        unwrap_step(cipher, check, &mut halves[i], before + i as u64 + 1);
+    let before = turn * others.len() as u64;
+    for k in 0..others.len() {
+        let i = others.len() - 1 - k;
+        unwrap_step(cipher, check, &mut others[i], before + i as u64 + 1);
     }
 }
 
-/// The inverse of W: `check` is the first semiblock, and `halves` are the others.
+/// The inverse of W: `check` is the first semiblock, and `others` are the other ones.
 pub(crate) fn unwrap_in_place<C: BlockCipherDecrypt>(
     cipher: &C,
     check: &mut Semiblock,
-    halves: &mut [Semiblock],
+    others: &mut [Semiblock],
 )
-    requires few { length halves.old < 2 ^ 54 }
+    requires few { length others.old < 2 ^ 54 }
     ensures { let w = C.round_keys cipher.now in
-        check.new ∷ halves.new ≡ unwrapped_from w (check.old ∷ halves.old) (6 * length halves.old) }
+        check.new ∷ others.new ≡ unwrapped_from w (check.old ∷ others.old) (6 * length others.old) }
 {
     for k in 0..6 {
-        unwrap_turn(cipher, check, halves, 5 - k);
+        unwrap_turn(cipher, check, others, 5 - k);
     }
 }
 
-/// Wraps a string in place: `check` is its first semiblock, and `halves` are the others. W is for
-/// three semiblocks or more. Two are one block, which a call of the cipher encrypts (6.3).
+/// Wraps a string in place: `check` is its first semiblock, and `others` are the other ones. W is
+/// for three semiblocks or more. Two are one block, which a call of the cipher encrypts (6.3).
 pub(crate) fn wrap_string<C: BlockCipherEncrypt>(
     cipher: &C,
     check: &mut Semiblock,
-    halves: &mut [Semiblock],
+    others: &mut [Semiblock],
 )
-    requires some { 1 ≤ length halves.old }
-    requires few { length halves.old < 2 ^ 54 }
-    ensures { check.new ∷ halves.new ≡ wrapped_string (C.round_keys cipher.now)
-        (check.old ∷ halves.old) }
+    requires some { 1 ≤ length others.old }
+    requires few { length others.old < 2 ^ 54 }
+    ensures { check.new ∷ others.new ≡ wrapped_string (C.round_keys cipher.now)
+        (check.old ∷ others.old) }
 {
-    if halves.len() == 1 {
-        encrypt_halves(cipher, check, &mut halves[0]);
+    if others.len() == 1 {
+        encrypt_halves(cipher, check, &mut others[0]);
     } else {
-        wrap_in_place(cipher, check, halves);
+        wrap_in_place(cipher, check, others);
     }
 }
 
@@ -181,16 +181,16 @@ pub(crate) fn wrap_string<C: BlockCipherEncrypt>(
 pub(crate) fn unwrap_string<C: BlockCipherDecrypt>(
     cipher: &C,
     check: &mut Semiblock,
-    halves: &mut [Semiblock],
+    others: &mut [Semiblock],
 )
-    requires some { 1 ≤ length halves.old }
-    requires few { length halves.old < 2 ^ 54 }
-    ensures { check.new ∷ halves.new ≡ unwrapped_string (C.round_keys cipher.now)
-        (check.old ∷ halves.old) }
+    requires some { 1 ≤ length others.old }
+    requires few { length others.old < 2 ^ 54 }
+    ensures { check.new ∷ others.new ≡ unwrapped_string (C.round_keys cipher.now)
+        (check.old ∷ others.old) }
 {
-    if halves.len() == 1 {
-        decrypt_halves(cipher, check, &mut halves[0]);
+    if others.len() == 1 {
+        decrypt_halves(cipher, check, &mut others[0]);
     } else {
-        unwrap_in_place(cipher, check, halves);
+        unwrap_in_place(cipher, check, others);
     }
 }

@@ -41,10 +41,10 @@ pub fn wrap<C: BlockCipherEncrypt>(
     if !is_allowed(key.len()) || output.len() != key.len() + 1 {
         return Err(InvalidCount);
     }
-    if let Some((check, halves)) = output.split_first_mut() {
+    if let Some((check, others)) = output.split_first_mut() {
         *check = INTEGRITY_CHECK;
-        halves.copy_from_slice(key);
-        wrap_in_place(cipher, check, halves);
+        others.copy_from_slice(key);
+        wrap_in_place(cipher, check, others);
     }
     Ok(())
 }

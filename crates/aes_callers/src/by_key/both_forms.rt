@@ -9,9 +9,9 @@ use aes_cipher::cipher::{Block, Decrypt, Encrypt};
 use aes_hybrid::widths::{Narrow, Width};
 use aes_hybrid::{BothWaysKeys, EncryptionKeys};
 
-/// Returns the type for both directions of a size of keys and a width of
-/// words, and a block encrypted and decrypted. What the types are made of is
-/// proved here once for all sizes and both widths.
+/// Returns the type for both directions of a size of keys and a width of words, and a block
+/// encrypted and decrypted. What the types are made of is proved here once for all sizes and both
+/// widths.
 pub fn of_both<K: KeySize, W: Width>(
     key: &K::Key,
     block: &Block,

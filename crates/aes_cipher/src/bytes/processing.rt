@@ -8,8 +8,8 @@ ghost use Rattle.aes_cipher.specs.Blocks.{blocks_of, Sixteens};
 use super::PartialBlock;
 use crate::cipher::{Block, CipherIn, Direction};
 
-// How many blocks are handed to a cipher at once: batches of any
-// backend here, in a kibibyte of the stack.
+// How many blocks are handed to a cipher at once: batches of any backend here, in a kibibyte of the
+// stack.
 const BLOCKS_AT_ONCE: usize = 64;
 
 // No effect; states that each block of a program has sixteen bytes.

@@ -53,9 +53,9 @@ impl BatchSize for BatchOfSixteen {
 
 /// A type that names another type for the number of blocks in a batch.
 ///
-/// A backend that borrows its round keys has a lifetime, and the toolchain
-/// refuses a constant with a ghost number in an `impl` for such a type. So a
-/// backend names a type without a lifetime that has the number.
+/// A backend that borrows its round keys has a lifetime, and the toolchain refuses a constant with
+/// a ghost number in an `impl` for such a type. So a backend names a type without a lifetime that
+/// has the number.
 pub trait BatchSizeUser: RoundKeysUser {
     /// The type that has the number.
     type Par: BatchSize;

@@ -29,8 +29,8 @@ pub trait BlockCipherDecrypt: BlockSizeUser + RoundKeysUser {
     fn decrypt_block(&self, block: &mut Block)
         ensures { block.new ≡ fips.inv_cipher_with (Self.round_keys self.now) block.old };
 
-    /// Decrypts a block from one buffer to another under the value's
-    /// round keys (InvCipher, FIPS 197, 5.3).
+    /// Decrypts a block from one buffer to another under the value's round keys (InvCipher, FIPS
+    /// 197, 5.3).
     fn decrypt_block_b2b(&self, input: &Block, output: &mut Block)
         ensures { output.new ≡ fips.inv_cipher_with (Self.round_keys self.now) input.now }
     {
@@ -38,8 +38,8 @@ pub trait BlockCipherDecrypt: BlockSizeUser + RoundKeysUser {
         self.decrypt_block(output);
     }
 
-    /// Decrypts each block of a slice in place under the value's
-    /// round keys (InvCipher, FIPS 197, 5.3).
+    /// Decrypts each block of a slice in place under the value's round keys (InvCipher, FIPS 197,
+    /// 5.3).
     fn decrypt_blocks(&self, blocks: &mut [Block])
         ensures { Each (fips.inv_cipher_with (Self.round_keys self.now)) blocks.old blocks.new };
 

@@ -14,8 +14,8 @@ pub trait BlockCipherDecBackend: ParBlocksSizeUser + RoundKeysUser {
     fn decrypt_block(&self, block: &mut Block)
         ensures { block.new ≡ fips.inv_cipher_with (Self.round_keys self.now) block.old };
 
-    /// Decrypts each block of one batch in place under the value's
-    /// round keys (InvCipher, FIPS 197, 5.3).
+    /// Decrypts each block of one batch in place under the value's round keys (InvCipher, FIPS 197,
+    /// 5.3).
     fn decrypt_par_blocks(&self, blocks: &mut [Block])
         requires one_batch { length blocks.old ≡ Self.PAR_BLOCKS }
         ensures { Each (fips.inv_cipher_with (Self.round_keys self.now)) blocks.old blocks.new };
@@ -23,8 +23,8 @@ pub trait BlockCipherDecBackend: ParBlocksSizeUser + RoundKeysUser {
 
 /// A caller's own work with a backend of any type and any batch size.
 pub trait BlockCipherDecClosure {
-    /// What the work does: a relation between the value before, the
-    /// backend's round keys and the value after.
+    /// What the work does: a relation between the value before, the backend's round keys and the
+    /// value after.
     ghost did: { Self → List (List ℕ) → Self → Type 0 };
 
     /// Does the closure's work with a backend.

@@ -1,5 +1,5 @@
-//! The two directions: encryption and decryption; and ciphers in one of
-//! them, for code that is written once for both.
+//! The two directions: encryption and decryption; and ciphers in one of them, for code that is
+//! written once for both.
 
 ghost use Rattle.std.specs.Prelude.{◌≡◌, ◌≢◌, ◌↔◌, ℕ, List, length, IsErr, OnOk, OnErr};
 ghost use Rattle.aes_planes.specs.Each.{Each};
@@ -18,8 +18,8 @@ pub trait Direction {
     /// What a block becomes under a list of round keys.
     ghost processed: { List (List ℕ) → List ℕ → List ℕ };
 
-    /// What a round does before it adds its round key, in Cipher
-    /// or EqInvCipher (FIPS 197, 5.1, 5.3.5).
+    /// What a round does before it adds its round key, in Cipher or EqInvCipher (FIPS 197, 5.1,
+    /// 5.3.5).
     ghost step: { List ℕ → List ℕ };
 
     /// What the last round does before it adds its round key: it does not mix columns.

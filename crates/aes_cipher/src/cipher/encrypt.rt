@@ -29,8 +29,8 @@ pub trait BlockCipherEncrypt: BlockSizeUser + RoundKeysUser {
     fn encrypt_block(&self, block: &mut Block)
         ensures { block.new ≡ fips.cipher_with (Self.round_keys self.now) block.old };
 
-    /// Encrypts a block from one buffer to another under the
-    /// value's round keys (Cipher, FIPS 197, 5.1).
+    /// Encrypts a block from one buffer to another under the value's round keys (Cipher, FIPS 197,
+    /// 5.1).
     fn encrypt_block_b2b(&self, input: &Block, output: &mut Block)
         ensures { output.new ≡ fips.cipher_with (Self.round_keys self.now) input.now }
     {
@@ -38,8 +38,8 @@ pub trait BlockCipherEncrypt: BlockSizeUser + RoundKeysUser {
         self.encrypt_block(output);
     }
 
-    /// Encrypts each block of a slice in place under the value's
-    /// round keys (Cipher, FIPS 197, 5.1).
+    /// Encrypts each block of a slice in place under the value's round keys (Cipher, FIPS 197,
+    /// 5.1).
     fn encrypt_blocks(&self, blocks: &mut [Block])
         ensures { Each (fips.cipher_with (Self.round_keys self.now)) blocks.old blocks.new };
 

@@ -15,8 +15,8 @@ pub trait BlockCipherEncBackend: ParBlocksSizeUser + RoundKeysUser {
     fn encrypt_block(&self, block: &mut Block)
         ensures { block.new ≡ fips.cipher_with (Self.round_keys self.now) block.old };
 
-    /// Encrypts each block of one batch in place under the
-    /// value's round keys (Cipher, FIPS 197, 5.1).
+    /// Encrypts each block of one batch in place under the value's round keys (Cipher, FIPS 197,
+    /// 5.1).
     fn encrypt_par_blocks(&self, blocks: &mut [Block])
         requires one_batch { length blocks.old ≡ Self.PAR_BLOCKS }
         ensures { Each (fips.cipher_with (Self.round_keys self.now)) blocks.old blocks.new };
@@ -45,8 +45,8 @@ pub trait BlockCipherEncBackend: ParBlocksSizeUser + RoundKeysUser {
 
 /// A caller's own work with a backend of any type and any batch size.
 pub trait BlockCipherEncClosure {
-    /// What the work does: a relation between the value before, the
-    /// backend's round keys and the value after.
+    /// What the work does: a relation between the value before, the backend's round keys and the
+    /// value after.
     ghost did: { Self → List (List ℕ) → Self → Type 0 };
 
     /// Does the closure's work with a backend.

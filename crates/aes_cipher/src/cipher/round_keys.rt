@@ -5,8 +5,8 @@ ghost use Rattle.aes_planes.specs.Fips197 as fips;
 
 use aes_planes::laws;
 
-/// A type whose values hold round keys. Contracts see a value's
-/// round keys as a list in the standard's order.
+/// A type whose values hold round keys. Contracts see a value's round keys as a list in the
+/// standard's order.
 pub trait RoundKeysUser {
     /// The round keys of a value.
     ghost round_keys: { Self → List (List ℕ) };
@@ -15,8 +15,8 @@ pub trait RoundKeysUser {
     fn has_round_keys(&self)
         ensures { fips.AreRoundKeys (round_keys self.now) };
 
-    /// No effect; states that Cipher and InvCipher under the value's
-    /// round keys undo each other (FIPS 197, 5.3).
+    /// No effect; states that Cipher and InvCipher under the value's round keys undo each other
+    /// (FIPS 197, 5.3).
     final fn has_inverse_ciphers(&self)
         ensures inv_after { (b : List ℕ) → fips.IsBlock b
             → fips.inv_cipher_with (round_keys self.now)

@@ -15,8 +15,8 @@ pub trait Element: Copy {
     fn zero() -> Self
         ensures { result ≡ ZERO };
 
-    /// Returns some byte of the element. Nothing is claimed of it: it is read
-    /// so that a compiler can't leave out writes.
+    /// Returns some byte of the element. Nothing is claimed of it: it is read so that a compiler
+    /// can't leave out writes.
     fn some_byte(self) -> u8;
 }
 

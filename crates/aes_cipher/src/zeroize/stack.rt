@@ -8,9 +8,9 @@ use std::sync::atomic::{AtomicU64, Ordering};
 /// Values of the last rounds may be there, from which a key follows. So a call that works on them
 /// is never inlined, and this one comes after it.
 ///
-/// No clause says that the stack is wiped: what was compiled is searched. A
-/// compiler may leave out writes that nothing reads, so a byte is read at a
-/// place that comes out of an atomic, and goes into it.
+/// No clause says that the stack is wiped: what was compiled is searched. A compiler may leave out
+/// writes that nothing reads, so a byte is read at a place that comes out of an atomic, and goes
+/// into it.
 #[inline(never)]
 pub fn wipe_stack<const BYTES: usize>()
     requires { BYTES ≤ 5120 }

@@ -174,8 +174,8 @@ fn makes_single_rounds_of_equal_bytes(rt: HostRuntime) -> Result<(), Fail> {
     check(&rt, &rows, 0)
 }
 
-// FIPS 197, appendix C.1: the states before and after the column mixing
-// of both ciphers. Each mixing undoes the other.
+// FIPS 197, appendix C.1: the states before and after the column mixing of both ciphers. Each
+// mixing undoes the other.
 #[test]
 fn mixes(rt: HostRuntime) -> Result<(), Fail> {
     let [unmixed, mixed] = MIXED;

@@ -1,13 +1,13 @@
-//! A run whose input, output or memory fails: it answers `Failed`, and
-//! what it wrote is a beginning of the answers.
+//! A run whose input, output or memory fails: it answers `Failed`, and what it wrote is a beginning
+//! of the answers.
 use super::outside::{drip_of, nibble_of};
 use aes_kat::{run, run_in, status};
 use bumpalo::Bump;
 use std::io::ErrorKind;
 use std::test::Fail;
 
-// Three lines that are answered, and a fault: FIPS 197, appendix
-// C.1; equal columns stay under both mixings.
+// Three lines that are answered, and a fault: FIPS 197, appendix C.1; equal columns stay under both
+// mixings.
 const INPUT: &[u8] = b"mix 63636363636363636363636363636363\n\
     enc 000102030405060708090a0b0c0d0e0f 00112233445566778899aabbccddeeff\n\
     enc 00 00\ninvmix 63636363636363636363636363636363";
@@ -77,8 +77,8 @@ fn fails_where_the_flush_fails(rt: HostRuntime) -> Result<(), Fail> {
     Ok(())
 }
 
-// No clause says that the flush at the end is made: a writer that
-// holds bytes back has given all of them out.
+// No clause says that the flush at the end is made: a writer that holds bytes back has given all of
+// them out.
 #[test]
 fn flushes_all_that_was_written(rt: HostRuntime) -> Result<(), Fail> {
     let mut input = INPUT;

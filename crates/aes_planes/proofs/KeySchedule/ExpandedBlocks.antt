@@ -31,8 +31,8 @@ of_words f = state (λ r c. slice_index (f c) r)
 slice_index-word : (f : ℕ → ℕ) (r : ℕ) → r < 4 → slice_index (word f) r ≡ f r
 slice_index-word f = by_four (λ r. slice_index (word f) r ≡ f r) refl refl refl refl
 
--- each word of g is the sum of the word of f there and the word of g
--- before it, and the first takes in a column of y
+-- each word of g is the sum of the word of f there and the word of g before it, and the first takes
+-- in a column of y
 module _ (rows cols : ℕ) (f g : ℕ → List ℕ) (y : List ℕ)
     (first : g 0 ≡ add_words (f 0) (word (λ r. byte_at y ((r + rows) % 4) cols)))
     (later : (c : ℕ) → c < 3 → g (suc c) ≡ add_words (f (suc c)) (g c)) where
@@ -168,8 +168,8 @@ module _ (key : List ℕ) (nk : ℕ) (own : key_words key ≡ nk) (four : 4 ≤ 
         | inr ne ↦ inr (λ z. ne (sym left ∙ z))
       ]))
 
-  -- four words of which the first is at place e after a multiple of
-  -- Nk, where the others need no substitution
+  -- four words of which the first is at place e after a multiple of Nk, where the others need no
+  -- substitution
   sums_at : (rows cols o m q e : ℕ) (y : List ℕ) → m ≡ o + nk → m ≡ q * nk + e
       → e + 4 ≤ nk → (nk ≤ 6)
       ⊎ ((e ≡ 0) ⊎ (e ≡ 4))
@@ -257,8 +257,8 @@ pub round_key_length : (key : List ℕ) (i : ℕ) → i < rounds key + 1
 round_key_length key i lt = ap length (round_key_words key i lt) ∙ state_length _
 
 module _ (key : List ℕ) (nk : ℕ) (own : key_words key ≡ nk) where
-  -- the first nk words are the key's own bytes, so a byte of a
-  -- round key among them is the key's byte there
+  -- the first nk words are the key's own bytes, so a byte of a round key among them is the key's
+  -- byte there
   key_byte : (j i p : ℕ) → j < rounds key + 1 → i < 16 → 4 * j + i / 4 < nk → p ≡ 16 * j + i
       → get_or (round_key (key_expansion key) j) i 0 ≡ get_or key p 0
   key_byte j i p lt h k e =

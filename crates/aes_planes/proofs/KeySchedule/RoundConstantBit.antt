@@ -49,8 +49,8 @@ added_at n x new old sums =
     (sym (byte_at-state (λ r c. cond ((r == 1) && (c == 3)) x 0) r c i j) t))))
     ∙ sym (map-build _ n _)
 
--- planes that are summed with planes of x in row 1 of column 3
--- hold the old blocks with x added there
+-- planes that are summed with planes of x in row 1 of column 3 hold the old blocks with x added
+-- there
 pub constant_added : (n B x : ℕ) (new old constants : List (List Bool)) → B ≡ 16 * n
     → ((i : ℕ) → i < B → held_byte new i ≡ field_add (held_byte old i) (held_byte constants i))
     → ((r c k : ℕ) → r < 4 → c < 4 → k < n

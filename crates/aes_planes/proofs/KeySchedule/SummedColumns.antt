@@ -36,8 +36,8 @@ xor_inward true true false = refl
 xor_inward true false z = refl
 xor_inward false y z = refl
 
--- a word, plus what a mask lets through of it a column up, plus what
--- another mask lets through of that sum two columns up
+-- a word, plus what a mask lets through of it a column up, plus what another mask lets through of
+-- that sum two columns up
 module _ (n B ror r k : ℕ) (before here first pairs out : List Bool)
     (firsts : (c : ℕ) → c < 4 → at first (place n r c k)
     ≡ xor (at before (place n r c k)) (bit 1 c && at here ((place n r c k + ror) % B)))
@@ -46,8 +46,8 @@ module _ (n B ror r k : ℕ) (before here first pairs out : List Bool)
     && (nat_le n (place n r c k) && at first (place n r c k - n))))
     (outs : (c : ℕ) → c < 4 → at out (place n r c k) ≡ xor (at pairs (place n r c k))
     (bit 12 c && (nat_le (2 * n) (place n r c k) && at pairs (place n r c k - 2 * n)))) where
-  -- the bit that comes out is the sum of the old bits of its row up to
-  -- its column and of one bit of the other word
+  -- the bit that comes out is the sum of the old bits of its row up to its column and of one bit of
+  -- the other word
   pub columns_right : (c : ℕ) → c < 4 → at out (place n r c k)
       ≡ summed xor (λ e. at before (place n r e k))
       (at here ((place n r 0 k + ror) % B)) c
@@ -199,8 +199,8 @@ module _ {A : Type 0} (bits : A → List Bool) (n : ℕ) (new x y : List A) (ln 
       (λ m lt. h m d r c k lt i j l ∙ cond-false _ _ _ t
       ∙ sym (held_bit bits y d ly _ m lt)))
 
-  -- eight words that straddle x and y, bit by bit, hold the last two
-  -- columns of x's blocks and the first two of y's
+  -- eight words that straddle x and y, bit by bit, hold the last two columns of x's blocks and the
+  -- first two of y's
   pub straddled_of_eight : held n (map bits new) ≡ zip_with columns_straddled (held n (map bits x))
       (held n (map bits y))
   unfolding held columns_straddled

@@ -1,5 +1,5 @@
--- MixColumns and its inverse: they make blocks, undo each other, and
--- InvMixColumns three times is MixColumns.
+-- MixColumns and its inverse: they make blocks, undo each other, and InvMixColumns three times is
+-- MixColumns.
 use Rattle.std.proofs.Common.{◌≡◌, List, ℕ, ◌<◌, slice_index, refl, ap, ◌∙◌, rules}
 use Rattle.aes_planes.specs.Fips197.{field_mul, byte_at, row_by_column, mix_row, inv_mix_row}
 use Rattle.aes_planes.specs.Fips197.{mix_columns, inv_mix_columns, IsBytes, IsBlock}

@@ -46,8 +46,8 @@ stay_bit cols c h l = same_tells _ _
     (all_pairs_tell 4 4 (λ cols c. same (bit (15 / 2 ^ cols) c) (nat_lt (c + cols) 4)) refl cols c
     (omega arith) l)
 
--- what a mask lets through of one bit and its complement of another,
--- where the mask's bit is whether x is below 4
+-- what a mask lets through of one bit and its complement of another, where the mask's bit is
+-- whether x is below 4
 pub masked_turn : (a b m w : Bool) (x : ℕ) → m ≡ nat_lt x 4 → (x < 4 → a ≡ w) → (4 ≤ x → b ≡ w)
     → (x < 4) ⊎ (4 ≤ x)
     → (a && m) || (b && not m) ≡ w

@@ -144,8 +144,8 @@ added_held n new old key h =
     (sym (byte_at-state (λ r c. held_byte key (place n r c k)) r c i j) t))))
     ∙ sym (zip_with-build add_round_key n _ _)
 
--- planes whose byte at each place is, in the block of the old
--- bytes, what a step on states puts there
+-- planes whose byte at each place is, in the block of the old bytes, what a step on states puts
+-- there
 pub stepped_held : (step : List ℕ → List ℕ) (at : (ℕ → ℕ → ℕ) → ℕ → ℕ → ℕ) (n : ℕ)
     (new old : List (List Bool))
     → ((k : ℕ) → state (at (λ r c. held_byte old (place n r c k)))

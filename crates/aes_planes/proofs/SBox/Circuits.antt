@@ -1,5 +1,5 @@
--- Circuits of gates as lists, and the step from what they make of all
--- 256 bytes to every place of eight planes.
+-- Circuits of gates as lists, and the step from what they make of all 256 bytes to every place of
+-- eight planes.
 use Rattle.std.proofs.Common.{◌≡◌, ℕ, zero, suc, ◌+◌, ◌-◌, ◌*◌, ◌/◌, ◌^◌, ◌<◌, Bool, true, not}
 use Rattle.std.proofs.Common.{◌&&◌, ◌==◌, List, [], ◌∷◌, length, map, get_or, bit_and, bit_xor}
 use Rattle.std.proofs.Common.{refl, ap, sym, ◌∙◌, arith, inl, inr}
@@ -82,8 +82,8 @@ gate_at (Not a) env v h = sym (bit_of_xor (get_or env a 0) (2 ^ 256 - 1) v
 abbrev pub bits_at : List (List Bool) → ℕ → List Bool
 bits_at planes i = map (λ w. at w i) planes
 
--- the results come by these gates from these planes of w bits: one step a
--- gate, as the contract of a word's call has it
+-- the results come by these gates from these planes of w bits: one step a gate, as the contract of
+-- a word's call has it
 pub data Runs (w : ℕ) : List Gate → List ℕ → List (List Bool) → List (List Bool) → Type 0 where
   done : {places : List ℕ} {env results : List (List Bool)}
       → ((i : ℕ) → bits_at results i ≡ map (λ p. at (get_or env p []) i) places)
@@ -131,8 +131,8 @@ at_first planes i l p = elim (cases_lt p 8) [
       ∙ bit_zero (held_byte planes i))
 ]
 
--- words made by the gates of a circuit for f, from eight old
--- ones, hold f of each byte of the old blocks
+-- words made by the gates of a circuit for f, from eight old ones, hold f of each byte of the old
+-- blocks
 pub circuit_held : {A : Type 0} {bits : A → List Bool} {n B R H Q N S : ℕ} {gates : List Gate}
     {places : List ℕ}
     {f : ℕ → ℕ} {xs ys : List A} {new : List (List Bool)} → IsShape bits n B R H Q N S

@@ -16,8 +16,8 @@ listed b = get_or sbox_table b 0
 abbrev pub inv_listed : ℕ → ℕ
 inv_listed b = get_or inv_sbox_table b 0
 
--- the table has the S-box of b, the tables undo each other at b,
--- and the inverse table has a byte there
+-- the table has the S-box of b, the tables undo each other at b, and the inverse table has a byte
+-- there
 tables : ℕ → Bool
 tables b =
     (affine (untransformed b) == listed b)

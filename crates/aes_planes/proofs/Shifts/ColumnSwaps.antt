@@ -131,8 +131,8 @@ module _ (d : ℕ) (nibbles : List ℕ) (ok : (r c : ℕ) → r < 4 → c < 4
         ∙ ap (λ v. xor (own r (c - d)) (own r v) && named r (c - d)) e) t)
         ∙ ap (λ v. xor (own r (c - d)) (own r c) && (v && named r (c - d))) (sym (le-leb d c le))
 
-    -- after a swap of bits under the mask each place has the bit of
-    -- the column that its column is swapped with
+    -- after a swap of bits under the mask each place has the bit of the column that its column is
+    -- swapped with
     swapped_rc : (r c : ℕ) → r < 4 → c < 4 → d < 4
         → swapped_bit (16 * n) a mask (d * n) (place n r c k)
         ≡ at a (place n r (source d nibbles r c) k)
@@ -186,8 +186,8 @@ two_apart_2 = 0 ∷ 3 ∷ 0 ∷ 3 ∷ []
 abbrev pub two_apart_3 : List ℕ
 two_apart_3 = 0 ∷ 2 ∷ 3 ∷ 1 ∷ []
 
--- the columns that are exchanged with their neighbours, for one
--- ShiftRows and for three, as a nibble a row
+-- the columns that are exchanged with their neighbours, for one ShiftRows and for three, as a
+-- nibble a row
 abbrev pub pairs : List ℕ
 pairs = 0 ∷ 5 ∷ 0 ∷ 5 ∷ []
 

@@ -1,5 +1,5 @@
--- A round on a state whose ShiftRows are deferred, with 0x63 left out of
--- the substitution and put into the round keys.
+-- A round on a state whose ShiftRows are deferred, with 0x63 left out of the substitution and put
+-- into the round keys.
 use Rattle.std.proofs.Common.{◌≡◌, ℕ, zero, suc, ◌<◌, List, [], ◌∷◌, length, map, get_or, refl, ap}
 use Rattle.std.proofs.Common.{sym, subst, ◌∙◌}
 use Rattle.std.specs.Int.Bits.{xor_assoc, xor_zero_r}
@@ -17,7 +17,8 @@ use Rattle.aes_planes.proofs.Shifts.ColumnSwaps.{shifted_back_3}
 use Rattle.aes_planes.proofs.Standard.FieldLaws.{add_swap, add_twice}
 use Rattle.aes_planes.proofs.Standard.LinearSteps.{shift_map, inv_sub_shift}
 use Rattle.aes_planes.proofs.Standard.Steps.{add_length, inv_shift_length, map_length, shift_length}
-use Rattle.aes_planes.proofs.Standard.Steps.{shift_of_inv_shift}
+use Rattle.aes_planes.proofs.Standard.Steps.{shift_of_inv_shift, inv_shift_of_shift}
+use Rattle.aes_planes.proofs.Standard.Steps.{shift_times_length}
 
 -- ---- 0x63 added to each byte
 
@@ -118,6 +119,16 @@ shift_times_of_inv_shift_times (suc k) s l =
     ∙ ap shift_rows (shift_times_of_inv_shift_times k (inv_shift_rows s) (inv_shift_length s))
     ∙ shift_of_inv_shift s l
 
+-- k InvShiftRows after k ShiftRows leave a list of sixteen as it was
+pub inv_shift_times_of_shift_times : (k : ℕ) (s : List ℕ) → length s ≡ 16
+    → inv_shift_times k (shift_times k s) ≡ s
+unfolding shift_times inv_shift_times
+inv_shift_times_of_shift_times zero s l = refl
+inv_shift_times_of_shift_times (suc k) s l =
+    inv_shift_first k (shift_rows (shift_times k s))
+    ∙ ap (inv_shift_times k) (inv_shift_of_shift (shift_times k s) (shift_times_length k s l))
+    ∙ inv_shift_times_of_shift_times k s l
+
 -- two shifts forth where one is deferred: three are
 pub two_more : (s : List ℕ) → length s ≡ 16
     → shift_times 2 (inv_shift_times 1 s) ≡ inv_shift_times 3 s
@@ -199,8 +210,8 @@ last_deferred s key l m =
 
 -- ---- rounds of the inverse cipher, whose substitution takes 0x63 out by itself
 
--- 0x63 added to the round key and again before the inverse S-box
--- cancel: InvSubBytes of the sum is left
+-- 0x63 added to the round key and again before the inverse S-box cancel: InvSubBytes of the sum is
+-- left
 pub inv_start_deferred : (s key : List ℕ) → length key ≡ 16
     → map (λ b. inv_sbox (plus63 b)) (add_round_key s (map plus63 key))
     ≡ inv_sub_bytes (add_round_key s key)

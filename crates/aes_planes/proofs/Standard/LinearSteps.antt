@@ -196,15 +196,15 @@ times_as m n f p test s h =
     (product_add (matrix m) (matrix n) (matrix_add m) (matrix_add n)) p test
     (column s c) (λ j. h (j + 4 * c)) r lt)
 
--- where one matrix after another leaves the powers of x in each row
--- as they are, the first undoes the second
+-- where one matrix after another leaves the powers of x in each row as they are, the first undoes
+-- the second
 pub times_undone : (m n : ℕ → List ℕ) → agree_on_powers (λ v. matrix m (matrix n v)) (λ v. v) ≡ true
     → (s : List ℕ) → length s ≡ 16 → IsBytes s → times m (times n s) ≡ s
 unfolding state build first_rows
 times_undone m n test s l h = times_as m n (λ v. v) (λ v w. refl) test s h ∙ built 16 s 0 l
 
--- two matrices whose squares agree on the powers of x in each
--- row have equal squares on states of bytes
+-- two matrices whose squares agree on the powers of x in each row have equal squares on states of
+-- bytes
 pub times_twice : (m n : ℕ → List ℕ)
     → agree_on_powers (λ v. matrix m (matrix m v)) (λ v. matrix n (matrix n v)) ≡ true
     → (s : List ℕ) → IsBytes s → times m (times m s) ≡ times n (times n s)

@@ -137,6 +137,11 @@ pub shift_of_inv_shift : (s : List ℕ) → length s ≡ 16 → shift_rows (inv_
 unfolding inv_shift_rows shift_rows build
 shift_of_inv_shift s l = built 16 s 0 l
 
+-- InvShiftRows after ShiftRows leaves a list of sixteen as it was
+pub inv_shift_of_shift : (s : List ℕ) → length s ≡ 16 → inv_shift_rows (shift_rows s) ≡ s
+unfolding inv_shift_rows shift_rows build
+inv_shift_of_shift s l = built 16 s 0 l
+
 -- ShiftRows undoes InvShiftRows
 pub shift_undoes : Undoes shift_rows inv_shift_rows
 shift_undoes = record {
@@ -147,8 +152,11 @@ shift_undoes = record {
 
 -- InvShiftRows undoes ShiftRows
 pub inv_shift_undoes : Undoes inv_shift_rows shift_rows
-unfolding inv_shift_rows shift_rows build
-inv_shift_undoes = record { block = λ s h. shift_block s h.1; undone = λ s h. built 16 s 0 h.0 }
+inv_shift_undoes = record {
+  block = λ s h. shift_block s h.1;
+  undone =
+      λ s h. inv_shift_of_shift s h.0;
+}
 
 -- four ShiftRows leave a list of sixteen as it was
 pub shift_four : (s : List ℕ) → length s ≡ 16 → shift_times 4 s ≡ s

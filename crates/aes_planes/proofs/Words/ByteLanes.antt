@@ -1,7 +1,7 @@
 -- Words in byte lanes, in any order of the lanes: their bits through the operations on vectors.
 use Rattle.std.proofs.Common.{◌≡◌, ℕ, ◌+◌, ◌-◌, ◌*◌, ◌/◌, ◌%◌, ◌^◌, ◌<◌, ◌≤◌, Bool, true, false}
 use Rattle.std.proofs.Common.{◌&&◌, cond, nat_lt, bit_or, List, length, get_or, replicate, refl, ap}
-use Rattle.std.proofs.Common.{sym, ◌∙◌, arith, w8, Fits, T}
+use Rattle.std.proofs.Common.{sym, ◌∙◌, arith, w8, Fits}
 use Rattle.std.proofs.lemmas.Simd.{swz_l, get_or-swz_l, get_or-zip2, get_or-replicate, length-zip2}
 use Rattle.std.proofs.lemmas.Simd.{length-replicate, Each1-get_or, below_from_Fits}
 use Rattle.std.proofs.lemmas.Bool.{lt-ltb, le-ltb}
@@ -71,8 +71,8 @@ funneled n p q a b = zip2 bit_or (zip2 shr8 a (replicate n p)) (zip2 shl8 b (rep
 
 -- ---- words of w bits
 
--- bit i of the word is bit i % 8 of lane `lane i`, which is one
--- of n, and the same for the bits of a byte
+-- bit i of the word is bit i % 8 of lane `lane i`, which is one of n, and the same for the bits of
+-- a byte
 pub record IsLayout (n w : ℕ) (lane : ℕ → ℕ) : Type 0 where
   pub sized : w ≡ 8 * n
   pub within : (i : ℕ) → i < w → lane i < n

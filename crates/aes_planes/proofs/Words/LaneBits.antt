@@ -114,8 +114,8 @@ lanes_left x m h = Places-build 128 _ _ (λ i l.
 
 -- ---- rotations and shifts by bits
 
--- the low bits of one rotation by bytes, joined with the high
--- ones of the next, are a rotation by n bits
+-- the low bits of one rotation by bytes, joined with the high ones of the next, are a rotation by n
+-- bits
 pub rotate_part : (x a b : List ℕ) (n : ℕ) → length a ≡ 16 → length b ≡ 16 → Each1 (Fits w8) a
     → Turned 128 (lane_bits x) (lane_bits a) (8 * (n / 8))
     → Turned 128 (lane_bits x) (lane_bits b) (8 * ((n / 8 + 1) % 16))

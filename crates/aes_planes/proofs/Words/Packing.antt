@@ -1,5 +1,5 @@
--- Packing at every width: planes that hold blocks, words as
--- bytes, and the bytes of a block by swizzles.
+-- Packing at every width: planes that hold blocks, words as bytes, and the bytes of a block by
+-- swizzles.
 use Rattle.std.proofs.Common.{◌≡◌, ℕ, zero, suc, ◌+◌, ◌*◌, ◌/◌, ◌%◌, ◌^◌, ◌<◌, ◌≤◌, ◌==◌, Bool}
 use Rattle.std.proofs.Common.{true, List, [], ◌∷◌, ◌++◌, length, map, get_or, T, refl, ap, sym}
 use Rattle.std.proofs.Common.{subst, ◌∙◌, arith, w8, Fits, inl, inr}
@@ -42,8 +42,8 @@ rows_held n planes blocks lp lb typed same = holds_held n planes blocks (record 
       same p r c k hp hr hc hk ∙ (λ t. bit (byte_at (get_or blocks k []) (row t) (column t)) p);
 })
 
--- word t of eight that n blocks are loaded into has as byte j byte
--- `from j t`, row by row, of block `whose j t`
+-- word t of eight that n blocks are loaded into has as byte j byte `from j t`, row by row, of block
+-- `whose j t`
 abbrev IsLoaded : ℕ → (ℕ → ℕ → ℕ) → (ℕ → ℕ → ℕ) → List (List ℕ) → List Bool → ℕ → Type 0
 IsLoaded n whose from blocks word t =
     (j p : ℕ) → j < 2 * n → p < 8 → bit (row_byte (get_or blocks (whose j t) []) (from j t)) p
@@ -255,8 +255,8 @@ by_columns_typed xs d f =
 
 -- even and odd columns apart, and together
 
--- the swizzle that puts the even columns, row by row, into the
--- lower half and the odd ones into the upper
+-- the swizzle that puts the even columns, row by row, into the lower half and the odd ones into the
+-- upper
 abbrev pub apart : List ℕ
 apart = 0 ∷ 8 ∷ 1 ∷ 9 ∷ 2 ∷ 10 ∷ 3 ∷ 11 ∷ 4 ∷ 12 ∷ 5 ∷ 13 ∷ 6 ∷ 14 ∷ 7 ∷ 15 ∷ []
 
@@ -264,8 +264,8 @@ apart = 0 ∷ 8 ∷ 1 ∷ 9 ∷ 2 ∷ 10 ∷ 3 ∷ 11 ∷ 4 ∷ 12 ∷ 5 ∷ 13 
 abbrev pub together : List ℕ
 together = 0 ∷ 2 ∷ 4 ∷ 6 ∷ 8 ∷ 10 ∷ 12 ∷ 14 ∷ 1 ∷ 3 ∷ 5 ∷ 7 ∷ 9 ∷ 11 ∷ 13 ∷ 15 ∷ []
 
--- half o of a block so swizzled, as a word of 64 bits, has in lane
--- j byte 2 * j + o of the block, row by row
+-- half o of a block so swizzled, as a word of 64 bits, has in lane j byte 2 * j + o of the block,
+-- row by row
 pub apart_at : (xs : List ℕ) → length xs ≡ 16 → ((i : ℕ) → get_or xs i 0 < 2 ^ 8) → (o : ℕ) → o < 2
     → (j p : ℕ) → j < 8
     → p < 8

@@ -1,5 +1,5 @@
--- Eight words of sixteen bits as lanes of a vector, and their
--- bits through the operations on vectors.
+-- Eight words of sixteen bits as lanes of a vector, and their bits through the operations on
+-- vectors.
 use Rattle.std.proofs.Common.{◌≡◌, ℕ, ◌+◌, ◌-◌, ◌*◌, ◌/◌, ◌%◌, ◌^◌, ◌<◌, Bool, true, List, [], ◌∷◌}
 use Rattle.std.proofs.Common.{◌++◌, length, map, get_or, replicate, refl, ap, sym, ◌∙◌, arith, w8}
 use Rattle.std.proofs.Common.{w16, Fits, false, cond, nat_le, ◌==◌}
@@ -34,7 +34,8 @@ narrow_lane low high p i h k hp hi =
 abbrev pub lane_bytes : List ℕ → List ℕ
 lane_bytes x = digits_l (2 ^ 8) 16 (number_l (2 ^ 16) x)
 
--- the lower bytes, and the upper ones
+-- ---- the lower bytes, and the upper ones
+
 -- byte 8 * j + r, of all lower bytes and then all upper ones, has bits 8 * j to 8 * j + 7 of lane r
 pub half_bit : (x : List ℕ) (j r i : ℕ) → length x ≡ 8 → Each1 (Fits w16) x → j < 2 → r < 8 → i < 8
     → bit (get_or (pick_l 0 (lane_bytes x ++ lane_bytes x) together) (8 * j + r) 0) i
@@ -60,8 +61,8 @@ mask_bit ms i d =
     ∙ ap (λ v. v == 1) (bit_mask_l ms i)
     ∙ elim (get_or ms i false) as (λ b. (cond b 1 0 == 1) ≡ b) [ true ↦ refl | false ↦ refl ]
 
--- the mask of the top bits of sixteen lanes whose bit p is shifted
--- to the top has in place i bit p of lane i
+-- the mask of the top bits of sixteen lanes whose bit p is shifted to the top has in place i bit p
+-- of lane i
 pub plane_bit : (x : List ℕ) (p i : ℕ) → length x ≡ 16 → Each1 (Fits w8) x → p < 8 → i < 16
     → bit (mask_l (map (top 7) (zip2 (λ a b. cond (nat_le a b) 255 0) (replicate 16 128)
     (zip2 shl8 x (replicate 16 (7 - p))))) % 2 ^ 64 % 2 ^ 16) i

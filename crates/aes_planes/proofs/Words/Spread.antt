@@ -25,8 +25,8 @@ use Rattle.aes_planes.proofs.Words.Packing.{rows_held}
 
 -- ---- bits drawn apart
 
--- bit i of a word or-ed with its shift by s, under a mask, is bit
--- i or bit i - s where the mask has a one
+-- bit i of a word or-ed with its shift by s, under a mask, is bit i or bit i - s where the mask has
+-- a one
 pub drawn_bit : (s m x i : ℕ) → i < 64 → bit (bit_and (bit_or x (x * 2 ^ s % 2 ^ 64)) m) i
     ≡ ((bit x i || (nat_le s i && bit x (i - s))) && bit m i)
 drawn_bit s m x i h = bit_of_and (bit_or x (x * 2 ^ s % 2 ^ 64)) m i

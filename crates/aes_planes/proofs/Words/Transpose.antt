@@ -1,5 +1,5 @@
--- Eight words as squares of bits, one for each lane: their
--- transpose by three exchanges, at every width.
+-- Eight words as squares of bits, one for each lane: their transpose by three exchanges, at every
+-- width.
 use Rattle.std.proofs.Common.{◌≡◌, ℕ, ◌+◌, ◌-◌, ◌*◌, ◌/◌, ◌%◌, ◌^◌, ◌<◌, ◌≤◌, ◌==◌, Bool, true}
 use Rattle.std.proofs.Common.{false, ◌&&◌, cond, nat_le, nat_lt, bit_and, bit_xor, List, [], ◌∷◌}
 use Rattle.std.proofs.Common.{get_or, refl, ap, sym, ◌∙◌, arith, ◌⊎◌, inl, inr, length, replicate}
@@ -112,8 +112,8 @@ module _ (w s m M low high : ℕ) (f : m * 2 ^ s < 2 ^ 8) (k : s < 8)
       ap (λ b. b && bit M (8 * j + r - s)) (lt-leb s (8 * j + r) u)
       ∙ ap (λ b. b && bit m (r - s)) (sym (lt-leb s r lt))
 
-  -- after an exchange the high word has, under the mask, the low
-  -- word's bit s places up, and else its own
+  -- after an exchange the high word has, under the mask, the low word's bit s places up, and else
+  -- its own
   pub word_high : (j r : ℕ) → 8 * j + 8 ≤ w → r < 8
       → at (word_bits w (bit_xor high (differing s M low high))) (8 * j + r)
       ≡ cond (bit m r) (at (word_bits w low) (8 * j + (r + s))) (at (word_bits w high) (8 * j + r))
@@ -175,8 +175,8 @@ module _ {n w : ℕ} {lane : ℕ → ℕ} (laws : IsLayout n w lane) (s m : ℕ)
       (length-splat n shr8 low s dl) h
       ∙ ap (bit_xor (get_or high j 0)) (lane_of_splat n shr8 low s j dl h))
 
-  -- after an exchange the high vector has, under the mask, the low
-  -- one's bit s places up, and else its own
+  -- after an exchange the high vector has, under the mask, the low one's bit s places up, and else
+  -- its own
   pub lanes_high : (j r : ℕ) → 8 * j + 8 ≤ w → r < 8
       → at (laid w lane (zip2 bit_xor high moved)) (8 * j + r)
       ≡ cond (bit m r) (at (laid w lane low) (8 * j + (r + s))) (at (laid w lane high) (8 * j + r))

@@ -1,5 +1,5 @@
--- The bits of two times sixteen byte lanes, as a word of 256
--- bits, through the operations on vectors.
+-- The bits of two times sixteen byte lanes, as a word of 256 bits, through the operations on
+-- vectors.
 use Rattle.std.proofs.Common.{◌≡◌, ℕ, ◌+◌, ◌-◌, ◌*◌, ◌/◌, ◌%◌, ◌<◌, ◌≤◌, ◌==◌, Bool, true, false}
 use Rattle.std.proofs.Common.{◌&&◌, cond, nat_le, nat_lt, bit_and, List, [], ◌∷◌, ◌++◌, length}
 use Rattle.std.proofs.Common.{get_or, replicate, refl, ap, sym, ◌∙◌, arith, w8, Fits, leb-true, T}
@@ -60,8 +60,8 @@ pub place_high : (x : ℕ) → T (place_ok 32 16 (bit_and (x % 256) 143))
 unfolding all_below
 place_high = masked_place 32 16 refl
 
--- a swizzle by the numbers m on, round the end, has in each
--- place the bit m columns on, round the end
+-- a swizzle by the numbers m on, round the end, has in each place the bit m columns on, round the
+-- end
 pub rotated_columns : (x : List ℕ) (m : ℕ) → m < 16
     → Places 256 (wide_bits (swz_l w8 16 x 0 (rotate_to columns m)))
     (λ i. at (wide_bits x) ((i + 16 * m) % 256))
@@ -83,8 +83,8 @@ columns_right x m h = Places-build 256 _ _ (λ i l.
     (lt, omega arith, omega arith, omega arith))
     (λ t. let le : 256 ≤ i + 16 * m = ltb-false (i + 16 * m) 256 t in omega arith))
 
--- a swizzle by the numbers m back has in each place the bit m
--- columns back, and zeros below the first
+-- a swizzle by the numbers m back has in each place the bit m columns back, and zeros below the
+-- first
 pub columns_left : (x : List ℕ) (m : ℕ) → m < 16
     → Places 256 (wide_bits (swz_l w8 16 x 0 (up_to columns m)))
     (λ i. nat_le (16 * m) i && at (wide_bits x) (i - 16 * m))

@@ -1,5 +1,5 @@
-//! What a key schedule does to columns: the round constant, sums from left
-//! to right, and round keys that straddle two.
+//! What a key schedule does to columns: the round constant, sums from left to right, and round keys
+//! that straddle two.
 
 ghost use Rattle.std.specs.Prelude.{◌≡◌, ℕ, cond, nat_lt, ◌+◌, ◌-◌, ◌*◌, ◌%◌, ◌^◌, ◌<◌, ◌≤◌, ◌⊎◌};
 ghost use Rattle.std.specs.Prelude.{length, map, slice_index_or};
@@ -10,8 +10,8 @@ ghost use Rattle.aes_planes.specs.Planes.{columns_summed, columns_straddled};
 
 use crate::soft::word::Word;
 
-/// Adds 2 ^ `bit` to the byte in row 1 and column 3 of every block:
-/// one bit of a round constant (FIPS 197, 5.2).
+/// Adds 2 ^ `bit` to the byte in row 1 and column 3 of every block: one bit of a round constant
+/// (FIPS 197, 5.2).
 #[inline(always)]
 pub fn add_round_constant_bit<W: Word>(state: &mut [W; 8], bit: usize)
     requires below_8 { bit < 8 }

@@ -29,8 +29,8 @@ pub(super) trait SingleRounds: Direction {
     fn unmix(block: &mut Block)
         ensures { block.new ≡ unmixed block.old };
 
-    // No effect; states that a round under the zero key is the last
-    // round once its column mixing is undone.
+    // No effect; states that a round under the zero key is the last round once its column mixing is
+    // undone.
     fn is_unmixed()
         ensures { (b : List ℕ) → unmixed (fips.add_round_key (Self.step b) (replicate 16 0))
             ≡ Self.last_step b };

@@ -1,5 +1,5 @@
-//! The ciphers, with one contract for both directions, every
-//! layout, every word and every size of key.
+//! The ciphers, with one contract for both directions, every layout, every word and every size of
+//! key.
 
 mod layouts;
 mod planes;

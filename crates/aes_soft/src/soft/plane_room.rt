@@ -1,5 +1,5 @@
-//! Room for the planes of stored round keys of a key of any size, and the
-//! first of its words, which are the round keys.
+//! Room for the planes of stored round keys of a key of any size, and the first of its words, which
+//! are the round keys.
 ghost use Rattle.std.specs.Prelude.{◌≡◌, ◌⊎◌, ◌+◌, ◌*◌, length};
 ghost use Rattle.aes_planes.specs.Expansion.{substitutions};
 ghost use Rattle.aes_planes.specs.Fips197 as fips;
@@ -39,8 +39,8 @@ pub fn expand_words_in_room<K: KeySize>(room: &mut PlaneRoom, key: &[u8], layers
     expand_stored::<u16, Full>(&mut room[..2 * K::SIZE + 56], key, layers);
 }
 
-/// No effect; states that stored round keys are read as a key
-/// of bytes, whose round keys are blocks.
+/// No effect; states that stored round keys are read as a key of bytes, whose round keys are
+/// blocks.
 #[tactic(auto, using(crate::proofs::KeyOfPlanes::read_keys))]
 pub fn reads_key(words: &[u16])
     requires { (length words.now ≡ 88) ⊎ ((length words.now ≡ 104) ⊎ (length words.now ≡ 120)) }

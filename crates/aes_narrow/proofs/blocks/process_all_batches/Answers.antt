@@ -1,6 +1,6 @@
 -- One run of blocks more is processed.
 use Rattle.std.proofs.Common.{arith}
-use Rattle.aes_narrow.proofs.FilledUp.{next_run}
+use Rattle.aes_soft.proofs.Slices.{next_run}
 use Rattle.aes_narrow.proofs.blocks.process_all_batches.Goals as goal
 
 pub loop-done-preserved : goal.loop-done-preserved

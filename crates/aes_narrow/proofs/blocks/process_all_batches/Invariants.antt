@@ -2,7 +2,7 @@
 use Rattle.std.proofs.Common.{◌-◌, length}
 use Rattle.aes_planes.specs.Fips197.{key_expansion}
 use Rattle.aes_soft.specs.Stored.{key_of_planes}
-use Rattle.aes_narrow.proofs.FilledUp.{Worked}
+use Rattle.aes_soft.proofs.Slices.{Worked}
 use Rattle.aes_narrow.proofs.blocks.process_all_batches.Given as goal
 
 abbrev pub invariant-loop-done : goal.invariant-loop-done

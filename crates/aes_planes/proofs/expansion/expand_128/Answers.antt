@@ -1,3 +1,5 @@
+-- Before each turn of the loop the last four words are those of the last round key that is stored,
+-- and the turn stores the next one.
 use Rattle.std.proofs.Common.{◌+◌, ◌*◌, refl, ◌∙◌, arith}
 use Rattle.aes_planes.proofs.KeySchedule.Forms.{form, loaded, none_stored, one_more_stored}
 use Rattle.aes_planes.proofs.KeySchedule.Forms.{layers_counted, all_stored, rotated}

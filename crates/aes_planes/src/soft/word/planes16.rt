@@ -1,5 +1,5 @@
-//! Packing of a block into eight words of sixteen bits, which
-//! are gathered from the bits of a vector.
+//! Packing of a block into eight words of sixteen bits, which are gathered from the bits of a
+//! vector.
 
 ghost use Rattle.std.specs.Prelude.{◌≡◌, ℕ, ◌+◌, ◌*◌, ◌<◌, [], ◌∷◌, get_or};
 ghost use Rattle.aes_planes.specs.Bits.{bit};
@@ -16,8 +16,8 @@ fn joined(w0: u16, w1: u16, w2: u16, w3: u16) -> u64
     w0 as u64 | (w1 as u64) << 16 | (w2 as u64) << 32 | (w3 as u64) << 48
 }
 
-// Words as lanes, four at a time: LLVM puts single words into a
-// vector one after the other, which takes longer.
+// Words as lanes, four at a time: LLVM puts single words into a vector one after the other, which
+// takes longer.
 #[inline(always)]
 pub(super) fn lanes_of(words: &[u16; 8]) -> u16x8
     ensures { (p i : ℕ) → p < 8 → i < 16 → bit (get_or result p 0) i

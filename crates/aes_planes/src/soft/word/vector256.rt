@@ -1,5 +1,5 @@
-//! Vectors of 32 byte lanes as words of 256 bits: sixteen lanes have
-//! the first eight blocks, and sixteen the last.
+//! Vectors of 32 byte lanes as words of 256 bits: sixteen lanes have the first eight blocks, and
+//! sixteen the last.
 
 ghost use Rattle.std.specs.Prelude.{◌≡◌, ℕ, ◌+◌, ◌-◌, ◌*◌, ◌/◌, ◌%◌, ◌<◌, ◌&&◌, nat_le, nat_lt};
 ghost use Rattle.aes_planes.specs.Bits.{at, bit, Places};

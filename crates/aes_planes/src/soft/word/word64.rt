@@ -149,8 +149,8 @@ fn columns_together(even: u64, odd: u64) -> Block
     bytes.to_array()
 }
 
-// The lowest sixteen bits, each four times: halves are drawn apart until
-// each bit has four places, and then fills them.
+// The lowest sixteen bits, each four times: halves are drawn apart until each bit has four places,
+// and then fills them.
 #[inline(always)]
 fn each_four_times(x: u64) -> u64
     requires sixteen_bits { x < 2 ^ 16 }

@@ -24,8 +24,7 @@ pub use encrypt::encrypt_with_backend;
 use std::convert::AsSlice;
 use std::marker::Model;
 
-// The most bytes of stack of a closure that works on
-// batches, as those of this library's modes do.
+// The most bytes of stack of a closure that works on batches, as those of this library's modes do.
 const CLOSURE_STACK: usize = 2032;
 
 /// The backend of a key of 16 bytes.
@@ -77,8 +76,8 @@ fn fill<const N: usize>(widened: &mut [BatchWord; N], round_keys: &[u16; N])
 }
 
 impl<'a, const N: usize> Backend<'a, Wiped<[BatchWord; N]>> {
-    /// Makes the backend of stored round keys. It holds a widened
-    /// copy, and wipes it when it is dropped.
+    /// Makes the backend of stored round keys. It holds a widened copy, and wipes it when it is
+    /// dropped.
     #[inline(always)]
     pub fn new(round_keys: &'a [u16; N]) -> Backend<'a, Wiped<[BatchWord; N]>>
         requires is_schedule { IsFullSchedule (word_bits 16) 1 round_keys.now }
@@ -94,8 +93,8 @@ impl<'a, const N: usize> Backend<'a, Wiped<[BatchWord; N]>> {
 }
 
 impl<'a> Backend<'a, &'a [BatchWord]> {
-    // The backend of stored round keys and of the same, widened, both lent:
-    // those stay with their owner, who wipes them.
+    // The backend of stored round keys and of the same, widened, both lent: those stay with their
+    // owner, who wipes them.
     #[inline(always)]
     fn lent(round_keys: &'a [u16], widened: &'a [BatchWord]) -> Backend<'a, &'a [BatchWord]>
         requires is_schedule { IsFullSchedule (word_bits 16) 1 round_keys.now }

@@ -49,8 +49,8 @@ impl PlaneCipher for Encrypt {
         mix_columns_0(state);
     }
 
-    // A period at a time. Where one ShiftRows is deferred, two more
-    // rounds or two ShiftRows make it three.
+    // A period at a time. Where one ShiftRows is deferred, two more rounds or two ShiftRows make it
+    // three.
     fn process_planes<W: Word, L: Layout>(
         round_keys: &[W],
         rounds: usize,

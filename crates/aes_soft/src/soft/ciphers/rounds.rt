@@ -36,8 +36,8 @@ pub(super) trait Deferred {
             ≡ map (between_shifts DEFERRED fips.mix_columns)
             (held W.BLOCKS (map W.bits state.old)) };
 
-    // Applies InvMixColumns to every block, between the deferred
-    // ShiftRows and as many InvShiftRows.
+    // Applies InvMixColumns to every block, between the deferred ShiftRows and as many
+    // InvShiftRows.
     fn unmix<W: Word>(state: &mut [W; 8])
         ensures { held W.BLOCKS (map W.bits state.new)
             ≡ map (between_shifts DEFERRED fips.inv_mix_columns)
@@ -133,8 +133,8 @@ pub(super) fn round<W: Word, D: Deferred>(
     add_key(state, round_keys, i);
 }
 
-// Undoes the mixing of round `i`, and the substitution of the next, where
-// as many ShiftRows are deferred as `D` says.
+// Undoes the mixing of round `i`, and the substitution of the next, where as many ShiftRows are
+// deferred as `D` says.
 #[inline(always)]
 pub(super) fn inv_round<W: Word, D: Deferred>(
     state: &mut [W; 8],

@@ -1,3 +1,5 @@
+-- The finished blocks, followed by what is left, unchained from the last encrypted block so far,
+-- are the whole chain throughout: each part moves the place between them.
 use Rattle.std.proofs.Common.{◌≡◌, ◌+◌, ◌≤◌, ◌∙◌, length, sym, refl, arith}
 use Rattle.cbc.specs.Cbc.{unchained}
 use Rattle.cbc.proofs.Chains.{chain_finished, chain_passed, last_part, unchained_part}

@@ -1,3 +1,6 @@
+-- All blocks are decrypted first, and each turn of the loop adds to one the encrypted block before
+-- it, which the copy still has: the finished blocks and what is left are the whole chain
+-- throughout.
 use Rattle.std.proofs.Common.{◌≡◌, ◌<◌, [], ◌∙◌, ap, get_or, length, map, sym, refl, arith}
 use Rattle.std.proofs.lemmas.List.{get_or-map}
 use Rattle.aes_planes.specs.Fips197 as fips

@@ -1,3 +1,5 @@
+-- The text and the tag unfold to ciphers of blocks, and the values that `encrypted_blocks` states
+-- are put in their places, from the inside on.
 use Rattle.std.proofs.Common.{List, ℕ, [], ◌∷◌, take, slice_index, ap, ◌∙◌}
 use Rattle.aes_planes.specs.BigEndian.{bytes}
 use Rattle.aes_planes.specs.Fips197.{build, build_from, field_add, add_round_key, cipher_with}

@@ -16,7 +16,9 @@ loop-i-preserved g c =
     let w = g.C.RoundKeysUser.round_keys c.args.cipher.now in
     let s = c.args.bytes.now in
     let next : suc c.loop-i.i ≡ c.loop-i.i + 1 = omega arith in
-    let part = part_padded s _ c.loop-i.i c.min-end.result (omega (arith, c.loop-i-test.true, c.div_ceil-i-end.ensures)) (omega (arith, c.min-end.ensures)) refl in
+    let part = part_padded s _ c.loop-i.i c.min-end.result
+    (omega (arith, c.loop-i-test.true, c.div_ceil-i-end.ensures))
+    (omega (arith, c.min-end.ensures)) refl in
     c.chain_block.ensures
     ∙ (λ t. cipher_with w (add_round_key (c.loop-i.invariant t) (part t)))
     ∙ ap (chained w c.args.value.now (padded s)) next

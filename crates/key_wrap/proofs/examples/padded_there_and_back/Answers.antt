@@ -1,3 +1,4 @@
+-- By the law of padding, what is unwrapped is padded, so that nothing refuses it, and has the key.
 use Rattle.std.proofs.Common.{◌≡◌, ◌∷◌, ◌∙◌, ap, arith, refl, rules, subst, sym, take}
 use Rattle.std.proofs.lemmas.Nat.{from_be_bytes-to_be_bytes_4}
 use Rattle.std.specs.List.{concat}

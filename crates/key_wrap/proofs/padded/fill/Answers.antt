@@ -14,8 +14,8 @@ loop-i-init c = record { sized = refl; filled = refl }
 
 pub loop-i-preserved : goal.loop-i-preserved
 loop-i-preserved c = record {
-  sized = length-set c.loop-i.halves c.loop-i.i c.semiblock_at.result ∙ c.loop-i.invariant.sized;
-  filled = semiblock_more c.args.key.now c.loop-i.halves c.loop-i.i c.semiblock_at.result
+  sized = length-set c.loop-i.others c.loop-i.i c.semiblock_at.result ∙ c.loop-i.invariant.sized;
+  filled = semiblock_more c.args.key.now c.loop-i.others c.loop-i.i c.semiblock_at.result
       (omega arith)
       (c.loop-i.invariant.sized ∙ c.requires) c.semiblock_at.ensures c.loop-i.invariant.filled;
 }
@@ -23,6 +23,6 @@ loop-i-preserved c = record {
 pub returns : goal.returns
 returns c =
     let all : c.loop-i.i ≡ filled (length c.args.key.now) = omega (arith, c.requires) in
-    sym (take_all c.loop-i.i c.loop-i.halves (omega (arith, c.loop-i.invariant.sized)))
+    sym (take_all c.loop-i.i c.loop-i.others (omega (arith, c.loop-i.invariant.sized)))
     ∙ c.loop-i.invariant.filled
     ∙ ap (semiblocks (padded c.args.key.now)) all

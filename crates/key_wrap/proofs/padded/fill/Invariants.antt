@@ -4,6 +4,6 @@ use Rattle.key_wrap.proofs.padded.fill.Given as goal
 
 abbrev pub invariant-loop-i : goal.invariant-loop-i
 invariant-loop-i l = record {
-  sized : length l.halves ≡ length l.fn.halves;
-  filled : take l.i l.halves ≡ semiblocks (padded l.key) l.i;
+  sized : length l.others ≡ length l.fn.others;
+  filled : take l.i l.others ≡ semiblocks (padded l.key) l.i;
 }

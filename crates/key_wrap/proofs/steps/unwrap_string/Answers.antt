@@ -5,19 +5,19 @@ use Rattle.key_wrap.specs.Padded.{unwrapped_string}
 use Rattle.key_wrap.proofs.Padding.{as_block, as_steps}
 use Rattle.key_wrap.proofs.steps.unwrap_string.Goals as goal
 
-pub returns-then-halves-eq1 : goal.returns-then-halves-eq1
+pub returns-then-others-eq1 : goal.returns-then-others-eq1
 unfolding unwrapped_string
-returns-then-halves-eq1 g c =
+returns-then-others-eq1 g c =
     let w = g.C.RoundKeysUser.round_keys c.args.cipher.now in
     as_block (inv_cipher_with w) (unwrapped_from w)
-    c.args.check.now c.args.halves.now c.decrypt_halves.new.first c.decrypt_halves.new.second
-    c.if-halves-eq1.true c.decrypt_halves.ensures.first c.decrypt_halves.ensures.second
+    c.args.check.now c.args.others.now c.decrypt_halves.new.first c.decrypt_halves.new.second
+    c.if-others-eq1.true c.decrypt_halves.ensures.first c.decrypt_halves.ensures.second
 
-pub returns-else-halves-eq1 : goal.returns-else-halves-eq1
+pub returns-else-others-eq1 : goal.returns-else-others-eq1
 unfolding unwrapped_string
-returns-else-halves-eq1 g c =
+returns-else-others-eq1 g c =
     let w = g.C.RoundKeysUser.round_keys c.args.cipher.now in
     c.unwrap_in_place.ensures
-    ∙ as_steps (inv_cipher_with w) (unwrapped_from w) (c.args.check.now ∷ c.args.halves.now)
-    (length c.args.halves.now) (omega arith)
-    (λ two. c.if-halves-eq1.false (omega (arith, two)))
+    ∙ as_steps (inv_cipher_with w) (unwrapped_from w) (c.args.check.now ∷ c.args.others.now)
+    (length c.args.others.now) (omega arith)
+    (λ two. c.if-others-eq1.false (omega (arith, two)))

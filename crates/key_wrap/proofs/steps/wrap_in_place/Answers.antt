@@ -6,9 +6,9 @@ pub loop-turn-init : goal.loop-turn-init
 unfolding wrapped_after
 loop-turn-init g c =
     let w = g.C.RoundKeysUser.round_keys c.args.cipher.now in
-    let none : 0 * length c.args.halves.now ≡ 0 = omega arith in
+    let none : 0 * length c.args.others.now ≡ 0 = omega arith in
     record {
       sized = refl;
       state =
-          ap (wrapped_after w (c.args.check.now ∷ c.args.halves.now)) none;
+          ap (wrapped_after w (c.args.check.now ∷ c.args.others.now)) none;
     }

@@ -5,7 +5,7 @@ use Rattle.key_wrap.proofs.steps.wrap_in_place.Given as goal
 abbrev pub invariant-loop-turn : goal.invariant-loop-turn
 invariant-loop-turn g l =
     let w = g.C.RoundKeysUser.round_keys l.cipher in record {
-      sized : length l.halves ≡ length l.fn.halves;
-      state : wrapped_after w (l.fn.check ∷ l.fn.halves) (l.turn * length l.fn.halves)
-          ≡ l.check ∷ l.halves;
+      sized : length l.others ≡ length l.fn.others;
+      state : wrapped_after w (l.fn.check ∷ l.fn.others) (l.turn * length l.fn.others)
+          ≡ l.check ∷ l.others;
     }

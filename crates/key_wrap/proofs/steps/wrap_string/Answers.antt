@@ -5,19 +5,19 @@ use Rattle.key_wrap.specs.Padded.{wrapped_string}
 use Rattle.key_wrap.proofs.Padding.{as_block, as_steps}
 use Rattle.key_wrap.proofs.steps.wrap_string.Goals as goal
 
-pub returns-then-halves-eq1 : goal.returns-then-halves-eq1
+pub returns-then-others-eq1 : goal.returns-then-others-eq1
 unfolding wrapped_string
-returns-then-halves-eq1 g c =
+returns-then-others-eq1 g c =
     let w = g.C.RoundKeysUser.round_keys c.args.cipher.now in
     as_block (cipher_with w) (wrapped_after w)
-    c.args.check.now c.args.halves.now c.encrypt_halves.new.first c.encrypt_halves.new.second
-    c.if-halves-eq1.true c.encrypt_halves.ensures.first c.encrypt_halves.ensures.second
+    c.args.check.now c.args.others.now c.encrypt_halves.new.first c.encrypt_halves.new.second
+    c.if-others-eq1.true c.encrypt_halves.ensures.first c.encrypt_halves.ensures.second
 
-pub returns-else-halves-eq1 : goal.returns-else-halves-eq1
+pub returns-else-others-eq1 : goal.returns-else-others-eq1
 unfolding wrapped_string
-returns-else-halves-eq1 g c =
+returns-else-others-eq1 g c =
     let w = g.C.RoundKeysUser.round_keys c.args.cipher.now in
     c.wrap_in_place.ensures
-    ∙ as_steps (cipher_with w) (wrapped_after w) (c.args.check.now ∷ c.args.halves.now)
-    (length c.args.halves.now) (omega arith)
-    (λ two. c.if-halves-eq1.false (omega (arith, two)))
+    ∙ as_steps (cipher_with w) (wrapped_after w) (c.args.check.now ∷ c.args.others.now)
+    (length c.args.others.now) (omega arith)
+    (λ two. c.if-others-eq1.false (omega (arith, two)))

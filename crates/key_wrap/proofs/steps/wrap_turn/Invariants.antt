@@ -6,8 +6,8 @@ use Rattle.key_wrap.proofs.steps.wrap_turn.Given as goal
 abbrev pub invariant-loop-i : goal.invariant-loop-i
 invariant-loop-i g l =
     let w = g.C.RoundKeysUser.round_keys l.cipher in
-    let before = l.turn * length l.fn.halves in record {
-      sized : length l.halves ≡ length l.fn.halves;
-      state : (s : List (List ℕ)) → wrapped_after w s before ≡ l.fn.check ∷ l.fn.halves
-          → wrapped_after w s (before + l.i) ≡ l.check ∷ turned l.i l.halves;
+    let before = l.turn * length l.fn.others in record {
+      sized : length l.others ≡ length l.fn.others;
+      state : (s : List (List ℕ)) → wrapped_after w s before ≡ l.fn.check ∷ l.fn.others
+          → wrapped_after w s (before + l.i) ≡ l.check ∷ turned l.i l.others;
     }

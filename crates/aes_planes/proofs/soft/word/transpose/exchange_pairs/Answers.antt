@@ -1,3 +1,5 @@
+-- Each of the eight words is the low or the high one that an exchange of two leaves, whose contract
+-- says which bits it has.
 use Rattle.std.proofs.Common.{◌≡◌, ℕ, ◌+◌, ◌-◌, ◌*◌, ◌&&◌, nat_le, [], ◌∷◌, get_or, map, ap, sym}
 use Rattle.std.proofs.Common.{◌∙◌, rules}
 use Rattle.aes_planes.specs.Bits.{at, bit}

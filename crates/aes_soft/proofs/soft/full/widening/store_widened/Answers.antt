@@ -1,3 +1,5 @@
+-- Each turn of the loop puts one more word in every slot, and words in every slot keep a schedule
+-- and its key.
 use Rattle.std.proofs.Common.{◌≡◌, ◌⊎◌, length, length-set, map, ap, sym, subst, ◌∙◌, arith}
 use Rattle.aes_soft.specs.Stored.{full, key_of, rounds_of, size_of, IsKeyed}
 use Rattle.aes_soft.proofs.Widened.{InEverySlot, put_more, same_key, widened_keyed}

@@ -1,6 +1,6 @@
--- The proof by hand of `soft::sbox::layers::Tally::new`: a tally of 0 is made, of
--- ghost data alone. By hand, since the borrow checker covers no function that makes a
--- struct that owns anything, as its model says of this.
+-- The proof by hand of `soft::sbox::layers::Tally::new`: a tally of 0 is made, of ghost data alone.
+-- By hand, since the borrow checker covers no function that makes a struct that owns anything, as
+-- its model says of this.
 use mathlib.Core.Path.{refl}
 use mathlib.Core.List.{[], ◌∷◌}
 use seplogic.Ra.Ura.{Ura}
