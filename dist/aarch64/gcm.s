@@ -3738,10 +3738,10 @@ gcm.gcm.mode.BorrowedGcm.put_tag: // @gcm.gcm.mode.BorrowedGcm.put_tag
 	bl	gcm.gcm.multiples.Multiples.three_products
 	subs	x26, x26, #1
 	b.ne	.Lgcm_BB18_2
-// %bb.3:                               // %"gcm::hash::hash_string_and::<#4e0b07d5b1f54653>.exit.loopexit.i.i"
+// %bb.3:                               // %"gcm::hash::hash_string_and_end::<#4e0b07d5b1f54653>.exit.loopexit.i.i"
 	ldur	q2, [x29, #-16]
 	ldr	q4, [sp, #16]                   // 16-byte Reload
-.Lgcm_BB18_4:                               // %"gcm::hash::hash_string_and::<#4e0b07d5b1f54653>.exit.i.i"
+.Lgcm_BB18_4:                               // %"gcm::hash::hash_string_and_end::<#4e0b07d5b1f54653>.exit.i.i"
 	add	x8, x24, x24, lsl #1
 	mov	v4.b[15], w23
 	stp	xzr, xzr, [sp, #32]
@@ -11250,10 +11250,10 @@ gcm.gcm_siv.message.put_tag.2: // @gcm.gcm_siv.message.put_tag.2
 	bl	gcm.gcm.multiples.Multiples.three_products
 	subs	x19, x19, #1
 	b.ne	.Lgcm_BB51_19
-// %bb.20:                              // %"gcm::hash::hash_string_and::<#1ace2c8123f9d1c9>.exit.loopexit.i"
+// %bb.20:                              // %"gcm::hash::hash_string_and_end::<#1ace2c8123f9d1c9>.exit.loopexit.i"
 	ldur	q19, [x29, #-16]
 	ldr	q0, [sp, #16]                   // 16-byte Reload
-.Lgcm_BB51_21:                              // %"gcm::hash::hash_string_and::<#1ace2c8123f9d1c9>.exit.i"
+.Lgcm_BB51_21:                              // %"gcm::hash::hash_string_and_end::<#1ace2c8123f9d1c9>.exit.i"
 	add	x8, x25, x25, lsl #1
 	ext	v2.16b, v0.16b, v0.16b, #8
 	stp	xzr, xzr, [sp, #32]
@@ -16350,5 +16350,5 @@ gcm.fotsgure_gcm_accept_short:              // @gcm.fotsgure_gcm_accept_short
 	.long	9, 116, 1
 	.asciz	"Fotsgure"
 	.p2align	2, 0x0
-	.asciz	"fotsgure_gcm 0.4.0, aarch64/gcm.s, sources SHA-256 208602ae32e5dd5d4aa7a028ebc59ad6269492290ae4be105a6461c3e77eec69"
+	.asciz	"fotsgure_gcm 0.4.0, aarch64/gcm.s, sources SHA-256 2b79346c77bb0404dbcf8d7bfc3c037715623eca5ddd3ec8b81ec3dcd0649018"
 	.p2align	2, 0x0

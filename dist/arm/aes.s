@@ -2672,7 +2672,7 @@ aes.aes_ctr.add_in_batches.add_keystream: @ @aes.aes_ctr.add_in_batches.add_keys
 	lsr	r1, r1, #24
 	str	r7, [sp, #12]
 	strb	r1, [sp, #172]
-	bl	aes.aes_narrow.blocks.process_in_batches.1
+	bl	aes.aes_narrow.blocks.process_all_batches.1
 	bl	aes.aes_cipher.zeroize.stack.wipe_stack.1024
 	cmp	r11, #0
 	beq	.Laes_BB3_7
@@ -2877,11 +2877,11 @@ aes.aes_ctr.add_in_batches.add_keystream: @ @aes.aes_ctr.add_in_batches.add_keys
 	.cantunwind
 	.fnend
                                         @ -- End function
-	.section	.text.aes.aes_narrow.blocks.process_in_batches.1,"ax",%progbits
-	.p2align	2                               @ -- Begin function aes_narrow::blocks::process_in_batches::<#1a21aa7f601e7603>
-	.type	aes.aes_narrow.blocks.process_in_batches.1,%function
+	.section	.text.aes.aes_narrow.blocks.process_all_batches.1,"ax",%progbits
+	.p2align	2                               @ -- Begin function aes_narrow::blocks::process_all_batches::<#1a21aa7f601e7603>
+	.type	aes.aes_narrow.blocks.process_all_batches.1,%function
 	.code	32
-aes.aes_narrow.blocks.process_in_batches.1: @ @aes.aes_narrow.blocks.process_in_batches.1
+aes.aes_narrow.blocks.process_all_batches.1: @ @aes.aes_narrow.blocks.process_all_batches.1
 	.fnstart
 @ %bb.0:                                @ %start
 	.save	{r4, r5, r6, r7, r8, r9, r10, r11, lr}
@@ -2926,7 +2926,7 @@ aes.aes_narrow.blocks.process_in_batches.1: @ @aes.aes_narrow.blocks.process_in_
 	add	sp, sp, #20
 	pop	{r4, r5, r6, r7, r8, r9, r10, r11, pc}
 .Laes_func_end4:
-	.size	aes.aes_narrow.blocks.process_in_batches.1, .Laes_func_end4-aes.aes_narrow.blocks.process_in_batches.1
+	.size	aes.aes_narrow.blocks.process_all_batches.1, .Laes_func_end4-aes.aes_narrow.blocks.process_all_batches.1
 	.cantunwind
 	.fnend
                                         @ -- End function
@@ -6547,7 +6547,7 @@ aes.cmac.tags.tag: @ @aes.cmac.tags.tag
 	str	r11, [sp, #96]
 	strd	r10, r11, [sp, #8]
 	str	r1, [sp]
-	bl	aes.aes_narrow.blocks.process_in_batches.1
+	bl	aes.aes_narrow.blocks.process_all_batches.1
 	bl	aes.aes_cipher.zeroize.stack.wipe_stack.1024
 	ldrb	r0, [sp, #107]
 	subs	r6, r6, r5
@@ -6772,7 +6772,7 @@ aes.cmac.tags.tag: @ @aes.cmac.tags.tag
 	str	r1, [sp, #12]
 	add	r1, sp, #64
 	str	r1, [sp]
-	bl	aes.aes_narrow.blocks.process_in_batches.1
+	bl	aes.aes_narrow.blocks.process_all_batches.1
 	bl	aes.aes_cipher.zeroize.stack.wipe_stack.1024
 	add	r3, sp, #64
 	ldr	r7, [sp, #60]                   @ 4-byte Reload
@@ -6956,7 +6956,7 @@ aes.cmac.chaining.chain: @ @aes.cmac.chaining.chain
 	str	r4, [sp, #8]
 	str	r1, [sp, #12]
 	str	r5, [sp]
-	bl	aes.aes_narrow.blocks.process_in_batches.1
+	bl	aes.aes_narrow.blocks.process_all_batches.1
 	adds	r9, r9, #1
 	adc	r11, r11, #0
 	bl	aes.aes_cipher.zeroize.stack.wipe_stack.1024
@@ -7220,7 +7220,7 @@ aes.key_wrap.steps.wrap_in_place: @ @aes.key_wrap.steps.wrap_in_place
 	str	r7, [sp, #52]
 	str	r1, [sp, #12]
 	str	lr, [sp]
-	bl	aes.aes_narrow.blocks.process_in_batches.1
+	bl	aes.aes_narrow.blocks.process_all_batches.1
 	bl	aes.aes_cipher.zeroize.stack.wipe_stack.1024
 	ldr	r0, [sp, #48]
 	adds	r6, r6, #1
@@ -7272,7 +7272,7 @@ aes.key_wrap.steps.wrap_in_place: @ @aes.key_wrap.steps.wrap_in_place
 	str	r4, [sp, #48]
 	str	r1, [sp, #12]
 	str	lr, [sp]
-	bl	aes.aes_narrow.blocks.process_in_batches.1
+	bl	aes.aes_narrow.blocks.process_all_batches.1
 	bl	aes.aes_cipher.zeroize.stack.wipe_stack.1024
 	ldr	r12, [sp, #44]                  @ 4-byte Reload
 	add	lr, sp, #48
@@ -7330,7 +7330,7 @@ aes.key_wrap.steps.wrap_in_place: @ @aes.key_wrap.steps.wrap_in_place
 	str	r4, [sp, #48]
 	str	r1, [sp, #12]
 	str	lr, [sp]
-	bl	aes.aes_narrow.blocks.process_in_batches.1
+	bl	aes.aes_narrow.blocks.process_all_batches.1
 	bl	aes.aes_cipher.zeroize.stack.wipe_stack.1024
 	ldr	r12, [sp, #44]                  @ 4-byte Reload
 	add	lr, sp, #48
@@ -7386,7 +7386,7 @@ aes.key_wrap.steps.wrap_in_place: @ @aes.key_wrap.steps.wrap_in_place
 	str	r4, [sp, #48]
 	str	r1, [sp, #12]
 	str	lr, [sp]
-	bl	aes.aes_narrow.blocks.process_in_batches.1
+	bl	aes.aes_narrow.blocks.process_all_batches.1
 	bl	aes.aes_cipher.zeroize.stack.wipe_stack.1024
 	ldr	r12, [sp, #44]                  @ 4-byte Reload
 	add	lr, sp, #48
@@ -7446,7 +7446,7 @@ aes.key_wrap.steps.wrap_in_place: @ @aes.key_wrap.steps.wrap_in_place
 	str	r4, [sp, #48]
 	str	r1, [sp, #12]
 	str	lr, [sp]
-	bl	aes.aes_narrow.blocks.process_in_batches.1
+	bl	aes.aes_narrow.blocks.process_all_batches.1
 	bl	aes.aes_cipher.zeroize.stack.wipe_stack.1024
 	ldr	r12, [sp, #44]                  @ 4-byte Reload
 	add	lr, sp, #48
@@ -7506,7 +7506,7 @@ aes.key_wrap.steps.wrap_in_place: @ @aes.key_wrap.steps.wrap_in_place
 	str	r7, [sp, #52]
 	str	r1, [sp, #12]
 	str	lr, [sp]
-	bl	aes.aes_narrow.blocks.process_in_batches.1
+	bl	aes.aes_narrow.blocks.process_all_batches.1
 	bl	aes.aes_cipher.zeroize.stack.wipe_stack.1024
 	ldr	r0, [sp, #48]
 	add	lr, sp, #48
@@ -7702,7 +7702,7 @@ aes.key_wrap.padded.wrap_padded: @ @aes.key_wrap.padded.wrap_padded
 	str	r8, [sp, #8]
 	str	r11, [sp, #12]
 	str	r7, [sp]
-	bl	aes.aes_narrow.blocks.process_in_batches.1
+	bl	aes.aes_narrow.blocks.process_all_batches.1
 	bl	aes.aes_cipher.zeroize.stack.wipe_stack.1024
 	add	r3, sp, #32
 	ldm	r3, {r0, r1, r2, r3}
@@ -11135,11 +11135,11 @@ aes.aes_narrow.blocks.process_state.2: @ @aes.aes_narrow.blocks.process_state.2
 	.cantunwind
 	.fnend
                                         @ -- End function
-	.section	.text.aes.aes_narrow.blocks.process_in_batches.2,"ax",%progbits
-	.p2align	2                               @ -- Begin function aes_narrow::blocks::process_in_batches::<#a3dcb71d05bd149b>
-	.type	aes.aes_narrow.blocks.process_in_batches.2,%function
+	.section	.text.aes.aes_narrow.blocks.process_all_batches.2,"ax",%progbits
+	.p2align	2                               @ -- Begin function aes_narrow::blocks::process_all_batches::<#a3dcb71d05bd149b>
+	.type	aes.aes_narrow.blocks.process_all_batches.2,%function
 	.code	32
-aes.aes_narrow.blocks.process_in_batches.2: @ @aes.aes_narrow.blocks.process_in_batches.2
+aes.aes_narrow.blocks.process_all_batches.2: @ @aes.aes_narrow.blocks.process_all_batches.2
 	.fnstart
 @ %bb.0:                                @ %start
 	.save	{r4, r5, r6, r7, r8, r9, r10, r11, lr}
@@ -11184,7 +11184,7 @@ aes.aes_narrow.blocks.process_in_batches.2: @ @aes.aes_narrow.blocks.process_in_
 	add	sp, sp, #20
 	pop	{r4, r5, r6, r7, r8, r9, r10, r11, pc}
 .Laes_func_end23:
-	.size	aes.aes_narrow.blocks.process_in_batches.2, .Laes_func_end23-aes.aes_narrow.blocks.process_in_batches.2
+	.size	aes.aes_narrow.blocks.process_all_batches.2, .Laes_func_end23-aes.aes_narrow.blocks.process_all_batches.2
 	.cantunwind
 	.fnend
                                         @ -- End function
@@ -11383,7 +11383,7 @@ aes.key_wrap.steps.unwrap_in_place: @ @aes.key_wrap.steps.unwrap_in_place
 	str	r1, [sp, #8]
 	str	r5, [sp, #12]
 	str	r11, [sp]
-	bl	aes.aes_narrow.blocks.process_in_batches.2
+	bl	aes.aes_narrow.blocks.process_all_batches.2
 	bl	aes.aes_cipher.zeroize.stack.wipe_stack.1024
 	ldr	r0, [sp, #40]
 	ldr	r1, [sp, #44]
@@ -11445,7 +11445,7 @@ aes.key_wrap.steps.unwrap_in_place: @ @aes.key_wrap.steps.unwrap_in_place
 	str	r1, [sp, #8]
 	str	r5, [sp, #12]
 	str	r11, [sp]
-	bl	aes.aes_narrow.blocks.process_in_batches.2
+	bl	aes.aes_narrow.blocks.process_all_batches.2
 	bl	aes.aes_cipher.zeroize.stack.wipe_stack.1024
 	ldr	r0, [sp, #40]
 	ldr	r1, [sp, #44]
@@ -11508,7 +11508,7 @@ aes.key_wrap.steps.unwrap_in_place: @ @aes.key_wrap.steps.unwrap_in_place
 	str	r1, [sp, #8]
 	str	r5, [sp, #12]
 	str	r11, [sp]
-	bl	aes.aes_narrow.blocks.process_in_batches.2
+	bl	aes.aes_narrow.blocks.process_all_batches.2
 	bl	aes.aes_cipher.zeroize.stack.wipe_stack.1024
 	ldr	r0, [sp, #40]
 	ldr	r1, [sp, #44]
@@ -11571,7 +11571,7 @@ aes.key_wrap.steps.unwrap_in_place: @ @aes.key_wrap.steps.unwrap_in_place
 	str	r1, [sp, #8]
 	str	r5, [sp, #12]
 	str	r11, [sp]
-	bl	aes.aes_narrow.blocks.process_in_batches.2
+	bl	aes.aes_narrow.blocks.process_all_batches.2
 	bl	aes.aes_cipher.zeroize.stack.wipe_stack.1024
 	ldr	r0, [sp, #40]
 	ldr	r1, [sp, #44]
@@ -11630,7 +11630,7 @@ aes.key_wrap.steps.unwrap_in_place: @ @aes.key_wrap.steps.unwrap_in_place
 	str	r1, [sp, #8]
 	str	r7, [sp, #12]
 	str	r11, [sp]
-	bl	aes.aes_narrow.blocks.process_in_batches.2
+	bl	aes.aes_narrow.blocks.process_all_batches.2
 	bl	aes.aes_cipher.zeroize.stack.wipe_stack.1024
 	ldr	r0, [sp, #40]
 	ldr	r1, [sp, #44]
@@ -11682,7 +11682,7 @@ aes.key_wrap.steps.unwrap_in_place: @ @aes.key_wrap.steps.unwrap_in_place
 	str	r8, [sp, #8]
 	str	r1, [sp, #12]
 	str	r11, [sp]
-	bl	aes.aes_narrow.blocks.process_in_batches.2
+	bl	aes.aes_narrow.blocks.process_all_batches.2
 	bl	aes.aes_cipher.zeroize.stack.wipe_stack.1024
 	ldr	r0, [sp, #40]
 	ldr	r1, [sp, #44]
@@ -11846,7 +11846,7 @@ aes.key_wrap.padded.unwrap_padded: @ @aes.key_wrap.padded.unwrap_padded
 	add	r4, sp, #32
 	str	r1, [sp, #12]
 	str	r4, [sp]
-	bl	aes.aes_narrow.blocks.process_in_batches.2
+	bl	aes.aes_narrow.blocks.process_all_batches.2
 	bl	aes.aes_cipher.zeroize.stack.wipe_stack.1024
 	ldr	r0, [sp, #40]
 	ldr	r1, [sp, #44]
@@ -14653,7 +14653,7 @@ aes.ccm.message.put_tag: @ @aes.ccm.message.put_tag
 	str	r1, [sp, #8]
 	str	r5, [sp, #12]
 	str	r4, [sp]
-	bl	aes.aes_narrow.blocks.process_in_batches.1
+	bl	aes.aes_narrow.blocks.process_all_batches.1
 	bl	aes.aes_cipher.zeroize.stack.wipe_stack.1024
 	ldr	r2, [sp, #216]
 	cmp	r8, #0
@@ -14762,7 +14762,7 @@ aes.ccm.message.put_tag: @ @aes.ccm.message.put_tag
 	add	r1, sp, #96
 	str	r5, [sp, #12]
 	str	r1, [sp]
-	bl	aes.aes_narrow.blocks.process_in_batches.1
+	bl	aes.aes_narrow.blocks.process_all_batches.1
 	bl	aes.aes_cipher.zeroize.stack.wipe_stack.1024
 	ldrb	r0, [r4, #15]
 	ldrb	r1, [sp, #111]
@@ -15148,7 +15148,7 @@ aes.fotsgure_aes_encrypt_blocks:            @ @aes.fotsgure_aes_encrypt_blocks
 	add	r0, r0, #4
 	mov	r5, #0
 	strd	r4, r5, [sp, #8]
-	bl	aes.aes_narrow.blocks.process_in_batches.1
+	bl	aes.aes_narrow.blocks.process_all_batches.1
 	bl	aes.aes_cipher.zeroize.stack.wipe_stack.1024
 .Laes_BB43_2:                               @ %wide_fotsgure_aes_encrypt_blocks.exit
 	mov	r0, r5
@@ -15194,7 +15194,7 @@ aes.fotsgure_aes_decrypt_blocks:            @ @aes.fotsgure_aes_decrypt_blocks
 	add	r0, r0, #4
 	mov	r5, #0
 	strd	r4, r5, [sp, #8]
-	bl	aes.aes_narrow.blocks.process_in_batches.2
+	bl	aes.aes_narrow.blocks.process_all_batches.2
 	bl	aes.aes_cipher.zeroize.stack.wipe_stack.1024
 .Laes_BB44_2:                               @ %wide_fotsgure_aes_decrypt_blocks.exit
 	mov	r0, r5
@@ -15288,7 +15288,7 @@ aes.fotsgure_aes_encrypt_blocks_to:         @ @aes.fotsgure_aes_encrypt_blocks_t
 	adds	r2, r2, r1, lsl #1
 	adc	r3, r3, #0
 	str	r5, [sp, #12]
-	bl	aes.aes_narrow.blocks.process_in_batches.1
+	bl	aes.aes_narrow.blocks.process_all_batches.1
 	bl	aes.aes_cipher.zeroize.stack.wipe_stack.1024
 .Laes_BB45_8:                               @ %wide_fotsgure_aes_encrypt_blocks_to.exit
 	mov	r0, r5
@@ -15382,7 +15382,7 @@ aes.fotsgure_aes_decrypt_blocks_to:         @ @aes.fotsgure_aes_decrypt_blocks_t
 	adds	r2, r2, r1, lsl #1
 	adc	r3, r3, #0
 	str	r5, [sp, #12]
-	bl	aes.aes_narrow.blocks.process_in_batches.2
+	bl	aes.aes_narrow.blocks.process_all_batches.2
 	bl	aes.aes_cipher.zeroize.stack.wipe_stack.1024
 .Laes_BB46_8:                               @ %wide_fotsgure_aes_decrypt_blocks_to.exit
 	mov	r0, r5
@@ -15729,7 +15729,7 @@ aes.fotsgure_aes_cbc_encrypt:               @ @aes.fotsgure_aes_cbc_encrypt
 	mov	r3, r6
 	strb	r2, [sp, #67]
 	mov	r2, r5
-	bl	aes.aes_narrow.blocks.process_in_batches.1
+	bl	aes.aes_narrow.blocks.process_all_batches.1
 	bl	aes.aes_cipher.zeroize.stack.wipe_stack.1024
 	ldrb	r0, [sp, #79]
 	adds	r7, r7, #1
@@ -16561,7 +16561,7 @@ aes.fotsgure_aes_encrypt_blocks_with:       @ @aes.fotsgure_aes_encrypt_blocks_w
 	str	r4, [sp, #16]
 	strd	r8, r9, [sp, #8]
 	str	r5, [sp]
-	bl	aes.aes_narrow.blocks.process_in_batches.1
+	bl	aes.aes_narrow.blocks.process_all_batches.1
 	bl	aes.aes_cipher.zeroize.stack.wipe_stack.1024
 	mov	r0, r6
 	str	r9, [sp, #16]
@@ -16635,7 +16635,7 @@ aes.fotsgure_aes_decrypt_blocks_with:       @ @aes.fotsgure_aes_decrypt_blocks_w
 	mov	r0, r8
 	strd	r10, r11, [sp, #8]
 	str	r5, [sp]
-	bl	aes.aes_narrow.blocks.process_in_batches.2
+	bl	aes.aes_narrow.blocks.process_all_batches.2
 	bl	aes.aes_cipher.zeroize.stack.wipe_stack.1024
 	mov	r6, #0
 .Laes_BB66_3:                               @ %"aes_c::blocks::fotsgure_aes_decrypt_blocks.exit.i.i"
@@ -16763,5 +16763,5 @@ aes.fotsgure_aes_add_keystream_with:        @ @aes.fotsgure_aes_add_keystream_wi
 	.long	9, 112, 1
 	.asciz	"Fotsgure"
 	.p2align	2, 0x0
-	.asciz	"fotsgure_aes 0.4.0, arm/aes.s, sources SHA-256 93c4c1f9a119daf9c53c1b84582bcba4455d731c78c61c0f0737ce65242a1d65"
+	.asciz	"fotsgure_aes 0.4.0, arm/aes.s, sources SHA-256 6a1cfde10f68c64d860ebcdaaa811215e142521dd923be252f5cd60ac9711c13"
 	.p2align	2, 0x0

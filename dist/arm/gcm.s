@@ -3303,7 +3303,7 @@ gcm.gcm.mode.BorrowedGcm.put_tag_so_far: @ @gcm.gcm.mode.BorrowedGcm.put_tag_so_
 	str	r8, [sp, #8]
 	str	r1, [sp, #12]
 	str	r4, [sp]
-	bl	gcm.aes_narrow.blocks.process_in_batches
+	bl	gcm.aes_narrow.blocks.process_all_batches
 	bl	gcm.aes_cipher.zeroize.stack.wipe_stack.1024
 	ldr	r0, [r9, #16]
 	mov	r1, r6
@@ -3408,11 +3408,11 @@ gcm.gcm.mode.BorrowedGcm.put_tag_so_far: @ @gcm.gcm.mode.BorrowedGcm.put_tag_so_
 	.cantunwind
 	.fnend
                                         @ -- End function
-	.section	.text.gcm.aes_narrow.blocks.process_in_batches,"ax",%progbits
-	.p2align	2                               @ -- Begin function aes_narrow::blocks::process_in_batches::<#f6c900d3ac1e47b9>
-	.type	gcm.aes_narrow.blocks.process_in_batches,%function
+	.section	.text.gcm.aes_narrow.blocks.process_all_batches,"ax",%progbits
+	.p2align	2                               @ -- Begin function aes_narrow::blocks::process_all_batches::<#f6c900d3ac1e47b9>
+	.type	gcm.aes_narrow.blocks.process_all_batches,%function
 	.code	32
-gcm.aes_narrow.blocks.process_in_batches: @ @gcm.aes_narrow.blocks.process_in_batches
+gcm.aes_narrow.blocks.process_all_batches: @ @gcm.aes_narrow.blocks.process_all_batches
 	.fnstart
 @ %bb.0:                                @ %start
 	.save	{r4, r5, r6, r7, r8, r9, r10, r11, lr}
@@ -3454,7 +3454,7 @@ gcm.aes_narrow.blocks.process_in_batches: @ @gcm.aes_narrow.blocks.process_in_ba
 	add	sp, sp, #20
 	pop	{r4, r5, r6, r7, r8, r9, r10, r11, pc}
 .Lgcm_func_end12:
-	.size	gcm.aes_narrow.blocks.process_in_batches, .Lgcm_func_end12-gcm.aes_narrow.blocks.process_in_batches
+	.size	gcm.aes_narrow.blocks.process_all_batches, .Lgcm_func_end12-gcm.aes_narrow.blocks.process_all_batches
 	.cantunwind
 	.fnend
                                         @ -- End function
@@ -6248,7 +6248,7 @@ gcm.gcm.mode.put_subkey: @ @gcm.gcm.mode.put_subkey
 	str	r1, [sp, #16]
 	str	r1, [sp, #12]
 	str	r5, [sp]
-	bl	gcm.aes_narrow.blocks.process_in_batches
+	bl	gcm.aes_narrow.blocks.process_all_batches
 	bl	gcm.aes_cipher.zeroize.stack.wipe_stack.1024
 	add	r3, sp, #16
 	ldr	r4, [sp, #48]
@@ -6354,7 +6354,7 @@ gcm.gcm.mode.BorrowedGcm.put_tag: @ @gcm.gcm.mode.BorrowedGcm.put_tag
 	str	r8, [sp, #8]
 	str	r7, [sp, #12]
 	str	r5, [sp]
-	bl	gcm.aes_narrow.blocks.process_in_batches
+	bl	gcm.aes_narrow.blocks.process_all_batches
 	bl	gcm.aes_cipher.zeroize.stack.wipe_stack.1024
 	ldr	r3, [r4, #16]
 	ldr	r6, [sp, #100]
@@ -6637,7 +6637,7 @@ gcm.gcm.gctr.add_gctr: @ @gcm.gcm.gctr.add_gctr
 	strb	r1, [sp, #177]
 	str	r6, [sp, #12]
 	str	r5, [sp]
-	bl	gcm.aes_narrow.blocks.process_in_batches
+	bl	gcm.aes_narrow.blocks.process_all_batches
 	bl	gcm.aes_cipher.zeroize.stack.wipe_stack.1024
 	cmp	r11, #0
 	beq	.Lgcm_BB21_7
@@ -7918,7 +7918,7 @@ gcm.gcm_c.siv.prepare: @ @gcm.gcm_c.siv.prepare
 	adc	r3, r1, #0
 	str	r7, [sp, #104]
 	str	r8, [sp]
-	bl	gcm.aes_narrow.blocks.process_in_batches
+	bl	gcm.aes_narrow.blocks.process_all_batches
 	bl	gcm.aes_cipher.zeroize.stack.wipe_stack.1024
 	ldr	r3, [sp, #36]
 	ldr	r2, [sp, #32]
@@ -8229,7 +8229,7 @@ gcm.gcm_siv.message.put_tag: @ @gcm.gcm_siv.message.put_tag
 	str	r4, [sp, #8]
 	str	r1, [sp, #12]
 	str	r5, [sp]
-	bl	gcm.aes_narrow.blocks.process_in_batches
+	bl	gcm.aes_narrow.blocks.process_all_batches
 	sub	sp, r11, #28
 	pop	{r4, r5, r6, r7, r8, r9, r10, r11, lr}
 	b	gcm.aes_cipher.zeroize.stack.wipe_stack.1024
@@ -8438,7 +8438,7 @@ gcm.gcm_siv.message.apply: @ @gcm.gcm_siv.message.apply
 	str	r1, [sp, #159]
 	strd	r8, r9, [sp, #8]
 	str	r7, [sp]
-	bl	gcm.aes_narrow.blocks.process_in_batches
+	bl	gcm.aes_narrow.blocks.process_all_batches
 	bl	gcm.aes_cipher.zeroize.stack.wipe_stack.1024
 	tst	r6, #31
 	beq	.Lgcm_BB35_7
@@ -11936,5 +11936,5 @@ gcm.fotsgure_gcm_siv_wipe:                  @ @gcm.fotsgure_gcm_siv_wipe
 	.long	9, 112, 1
 	.asciz	"Fotsgure"
 	.p2align	2, 0x0
-	.asciz	"fotsgure_gcm 0.4.0, arm/gcm.s, sources SHA-256 208602ae32e5dd5d4aa7a028ebc59ad6269492290ae4be105a6461c3e77eec69"
+	.asciz	"fotsgure_gcm 0.4.0, arm/gcm.s, sources SHA-256 2b79346c77bb0404dbcf8d7bfc3c037715623eca5ddd3ec8b81ec3dcd0649018"
 	.p2align	2, 0x0

@@ -2898,7 +2898,7 @@ aes.aes_ctr.add_in_batches.add_keystream: # @aes.aes_ctr.add_in_batches.add_keys
 	addi	a3, sp, 76
 	li	a4, 1
 	li	a5, 0
-	call	aes.aes_narrow.blocks.process_in_batches.1
+	call	aes.aes_narrow.blocks.process_all_batches.1
 	call	aes.aes_cipher.zeroize.stack.wipe_stack.1024
 	li	s2, 0
 	lw	s1, 16(sp)                      # 4-byte Folded Reload
@@ -3147,10 +3147,10 @@ aes.aes_ctr.add_in_batches.add_keystream: # @aes.aes_ctr.add_in_batches.add_keys
 .Laes_func_end3:
 	.size	aes.aes_ctr.add_in_batches.add_keystream, .Laes_func_end3-aes.aes_ctr.add_in_batches.add_keystream
                                         # -- End function
-	.section	.text.aes.aes_narrow.blocks.process_in_batches.1,"ax",@progbits
-	.p2align	1                               # -- Begin function aes_narrow::blocks::process_in_batches::<#1a21aa7f601e7603>
-	.type	aes.aes_narrow.blocks.process_in_batches.1,@function
-aes.aes_narrow.blocks.process_in_batches.1: # @aes.aes_narrow.blocks.process_in_batches.1
+	.section	.text.aes.aes_narrow.blocks.process_all_batches.1,"ax",@progbits
+	.p2align	1                               # -- Begin function aes_narrow::blocks::process_all_batches::<#1a21aa7f601e7603>
+	.type	aes.aes_narrow.blocks.process_all_batches.1,@function
+aes.aes_narrow.blocks.process_all_batches.1: # @aes.aes_narrow.blocks.process_all_batches.1
 # %bb.0:                                # %start
 	addi	sp, sp, -48
 	sw	ra, 44(sp)                      # 4-byte Folded Spill
@@ -3223,7 +3223,7 @@ aes.aes_narrow.blocks.process_in_batches.1: # @aes.aes_narrow.blocks.process_in_
 	addi	sp, sp, 48
 	ret
 .Laes_func_end4:
-	.size	aes.aes_narrow.blocks.process_in_batches.1, .Laes_func_end4-aes.aes_narrow.blocks.process_in_batches.1
+	.size	aes.aes_narrow.blocks.process_all_batches.1, .Laes_func_end4-aes.aes_narrow.blocks.process_all_batches.1
                                         # -- End function
 	.section	.text.aes.aes_narrow.blocks.process_filled_up.1,"ax",@progbits
 	.p2align	1                               # -- Begin function aes_narrow::blocks::process_filled_up::<#1a21aa7f601e7603>
@@ -7350,7 +7350,7 @@ aes.cmac.tags.tag: # @aes.cmac.tags.tag
 	addi	a3, sp, 12
 	li	a4, 1
 	li	a5, 0
-	call	aes.aes_narrow.blocks.process_in_batches.1
+	call	aes.aes_narrow.blocks.process_all_batches.1
 	call	aes.aes_cipher.zeroize.stack.wipe_stack.1024
 	addi	s11, s11, 1
 	seqz	a0, s11
@@ -7402,7 +7402,7 @@ aes.cmac.tags.tag: # @aes.cmac.tags.tag
 	addi	a3, sp, 28
 	li	a4, 1
 	li	a5, 0
-	call	aes.aes_narrow.blocks.process_in_batches.1
+	call	aes.aes_narrow.blocks.process_all_batches.1
 	call	aes.aes_cipher.zeroize.stack.wipe_stack.1024
 	lw	a1, 28(sp)
 	lbu	a7, 32(sp)
@@ -7673,7 +7673,7 @@ aes.cmac.tags.tag: # @aes.cmac.tags.tag
 	addi	a3, sp, 12
 	li	a4, 1
 	li	a5, 0
-	call	aes.aes_narrow.blocks.process_in_batches.1
+	call	aes.aes_narrow.blocks.process_all_batches.1
 	call	aes.aes_cipher.zeroize.stack.wipe_stack.1024
 	addi	a1, sp, 12
 	li	a2, 16
@@ -8068,7 +8068,7 @@ aes.key_wrap.steps.wrap_in_place: # @aes.key_wrap.steps.wrap_in_place
 	addi	a3, sp, 8
 	li	a4, 1
 	li	a5, 0
-	call	aes.aes_narrow.blocks.process_in_batches.1
+	call	aes.aes_narrow.blocks.process_all_batches.1
 	call	aes.aes_cipher.zeroize.stack.wipe_stack.1024
 	lw	t2, 8(sp)
 	lw	t3, 12(sp)
@@ -8240,7 +8240,7 @@ aes.key_wrap.steps.wrap_in_place: # @aes.key_wrap.steps.wrap_in_place
 	addi	a3, sp, 8
 	li	a4, 1
 	li	a5, 0
-	call	aes.aes_narrow.blocks.process_in_batches.1
+	call	aes.aes_narrow.blocks.process_all_batches.1
 	call	aes.aes_cipher.zeroize.stack.wipe_stack.1024
 	lw	t6, 8(sp)
 	lw	s11, 12(sp)
@@ -8418,7 +8418,7 @@ aes.key_wrap.steps.wrap_in_place: # @aes.key_wrap.steps.wrap_in_place
 	addi	a3, sp, 8
 	li	a4, 1
 	li	a5, 0
-	call	aes.aes_narrow.blocks.process_in_batches.1
+	call	aes.aes_narrow.blocks.process_all_batches.1
 	call	aes.aes_cipher.zeroize.stack.wipe_stack.1024
 	lw	t6, 8(sp)
 	lw	ra, 12(sp)
@@ -8599,7 +8599,7 @@ aes.key_wrap.steps.wrap_in_place: # @aes.key_wrap.steps.wrap_in_place
 	addi	a3, sp, 8
 	li	a4, 1
 	li	a5, 0
-	call	aes.aes_narrow.blocks.process_in_batches.1
+	call	aes.aes_narrow.blocks.process_all_batches.1
 	call	aes.aes_cipher.zeroize.stack.wipe_stack.1024
 	lw	t6, 8(sp)
 	lw	s11, 12(sp)
@@ -8777,7 +8777,7 @@ aes.key_wrap.steps.wrap_in_place: # @aes.key_wrap.steps.wrap_in_place
 	addi	a3, sp, 8
 	li	a4, 1
 	li	a5, 0
-	call	aes.aes_narrow.blocks.process_in_batches.1
+	call	aes.aes_narrow.blocks.process_all_batches.1
 	call	aes.aes_cipher.zeroize.stack.wipe_stack.1024
 	lw	t6, 8(sp)
 	lw	ra, 12(sp)
@@ -8958,7 +8958,7 @@ aes.key_wrap.steps.wrap_in_place: # @aes.key_wrap.steps.wrap_in_place
 	addi	a3, sp, 8
 	li	a4, 1
 	li	a5, 0
-	call	aes.aes_narrow.blocks.process_in_batches.1
+	call	aes.aes_narrow.blocks.process_all_batches.1
 	call	aes.aes_cipher.zeroize.stack.wipe_stack.1024
 	lw	t6, 8(sp)
 	lw	s11, 12(sp)
@@ -9336,7 +9336,7 @@ aes.key_wrap.padded.wrap_padded: # @aes.key_wrap.padded.wrap_padded
 	addi	a3, sp, 8
 	li	a4, 1
 	li	a5, 0
-	call	aes.aes_narrow.blocks.process_in_batches.1
+	call	aes.aes_narrow.blocks.process_all_batches.1
 	call	aes.aes_cipher.zeroize.stack.wipe_stack.1024
 	li	a0, 0
 	lw	a1, 12(sp)
@@ -12831,10 +12831,10 @@ aes.aes_narrow.blocks.process_state.2: # @aes.aes_narrow.blocks.process_state.2
 .Laes_func_end21:
 	.size	aes.aes_narrow.blocks.process_state.2, .Laes_func_end21-aes.aes_narrow.blocks.process_state.2
                                         # -- End function
-	.section	.text.aes.aes_narrow.blocks.process_in_batches.2,"ax",@progbits
-	.p2align	1                               # -- Begin function aes_narrow::blocks::process_in_batches::<#a3dcb71d05bd149b>
-	.type	aes.aes_narrow.blocks.process_in_batches.2,@function
-aes.aes_narrow.blocks.process_in_batches.2: # @aes.aes_narrow.blocks.process_in_batches.2
+	.section	.text.aes.aes_narrow.blocks.process_all_batches.2,"ax",@progbits
+	.p2align	1                               # -- Begin function aes_narrow::blocks::process_all_batches::<#a3dcb71d05bd149b>
+	.type	aes.aes_narrow.blocks.process_all_batches.2,@function
+aes.aes_narrow.blocks.process_all_batches.2: # @aes.aes_narrow.blocks.process_all_batches.2
 # %bb.0:                                # %start
 	addi	sp, sp, -48
 	sw	ra, 44(sp)                      # 4-byte Folded Spill
@@ -12907,7 +12907,7 @@ aes.aes_narrow.blocks.process_in_batches.2: # @aes.aes_narrow.blocks.process_in_
 	addi	sp, sp, 48
 	ret
 .Laes_func_end22:
-	.size	aes.aes_narrow.blocks.process_in_batches.2, .Laes_func_end22-aes.aes_narrow.blocks.process_in_batches.2
+	.size	aes.aes_narrow.blocks.process_all_batches.2, .Laes_func_end22-aes.aes_narrow.blocks.process_all_batches.2
                                         # -- End function
 	.section	.text.aes.key_wrap.wrapping.unwrap,"ax",@progbits
 	.p2align	1                               # -- Begin function key_wrap::wrapping::unwrap::<#10c636071cb6e37c>
@@ -13265,7 +13265,7 @@ aes.key_wrap.steps.unwrap_in_place: # @aes.key_wrap.steps.unwrap_in_place
 	addi	a3, sp, 8
 	li	a4, 1
 	li	a5, 0
-	call	aes.aes_narrow.blocks.process_in_batches.2
+	call	aes.aes_narrow.blocks.process_all_batches.2
 	call	aes.aes_cipher.zeroize.stack.wipe_stack.1024
 	lw	a0, 12(sp)
 	lw	a1, 8(sp)
@@ -13446,7 +13446,7 @@ aes.key_wrap.steps.unwrap_in_place: # @aes.key_wrap.steps.unwrap_in_place
 	addi	a3, sp, 8
 	li	a4, 1
 	li	a5, 0
-	call	aes.aes_narrow.blocks.process_in_batches.2
+	call	aes.aes_narrow.blocks.process_all_batches.2
 	call	aes.aes_cipher.zeroize.stack.wipe_stack.1024
 	lw	a0, 12(sp)
 	lw	a1, 8(sp)
@@ -13634,7 +13634,7 @@ aes.key_wrap.steps.unwrap_in_place: # @aes.key_wrap.steps.unwrap_in_place
 	addi	a3, sp, 8
 	li	a4, 1
 	li	a5, 0
-	call	aes.aes_narrow.blocks.process_in_batches.2
+	call	aes.aes_narrow.blocks.process_all_batches.2
 	call	aes.aes_cipher.zeroize.stack.wipe_stack.1024
 	lw	a0, 12(sp)
 	lw	a1, 8(sp)
@@ -13815,7 +13815,7 @@ aes.key_wrap.steps.unwrap_in_place: # @aes.key_wrap.steps.unwrap_in_place
 	addi	a3, sp, 8
 	li	a4, 1
 	li	a5, 0
-	call	aes.aes_narrow.blocks.process_in_batches.2
+	call	aes.aes_narrow.blocks.process_all_batches.2
 	call	aes.aes_cipher.zeroize.stack.wipe_stack.1024
 	lw	a0, 12(sp)
 	lw	a1, 8(sp)
@@ -13996,7 +13996,7 @@ aes.key_wrap.steps.unwrap_in_place: # @aes.key_wrap.steps.unwrap_in_place
 	addi	a3, sp, 8
 	li	a4, 1
 	li	a5, 0
-	call	aes.aes_narrow.blocks.process_in_batches.2
+	call	aes.aes_narrow.blocks.process_all_batches.2
 	call	aes.aes_cipher.zeroize.stack.wipe_stack.1024
 	lw	a0, 12(sp)
 	lw	a1, 8(sp)
@@ -14170,7 +14170,7 @@ aes.key_wrap.steps.unwrap_in_place: # @aes.key_wrap.steps.unwrap_in_place
 	addi	a3, sp, 8
 	li	a4, 1
 	li	a5, 0
-	call	aes.aes_narrow.blocks.process_in_batches.2
+	call	aes.aes_narrow.blocks.process_all_batches.2
 	call	aes.aes_cipher.zeroize.stack.wipe_stack.1024
 	lw	a0, 12(sp)
 	lw	a1, 8(sp)
@@ -14451,7 +14451,7 @@ aes.key_wrap.padded.unwrap_padded: # @aes.key_wrap.padded.unwrap_padded
 	addi	a3, sp, 8
 	li	a4, 1
 	li	a5, 0
-	call	aes.aes_narrow.blocks.process_in_batches.2
+	call	aes.aes_narrow.blocks.process_all_batches.2
 	call	aes.aes_cipher.zeroize.stack.wipe_stack.1024
 	lw	a0, 20(sp)
 	lw	s4, 8(sp)
@@ -17918,7 +17918,7 @@ aes.ccm.message.put_tag: # @aes.ccm.message.put_tag
 	li	a4, 1
 	mv	a3, s10
 	li	a5, 0
-	call	aes.aes_narrow.blocks.process_in_batches.1
+	call	aes.aes_narrow.blocks.process_all_batches.1
 	call	aes.aes_cipher.zeroize.stack.wipe_stack.1024
 	beqz	s2, .Laes_BB36_28
 # %bb.7:                                # %join.3.i
@@ -18094,7 +18094,7 @@ aes.ccm.message.put_tag: # @aes.ccm.message.put_tag
 	li	a4, 1
 	mv	a3, s10
 	li	a5, 0
-	call	aes.aes_narrow.blocks.process_in_batches.1
+	call	aes.aes_narrow.blocks.process_all_batches.1
 	call	aes.aes_cipher.zeroize.stack.wipe_stack.1024
 	beq	s5, s2, .Laes_BB36_19
 # %bb.18:                               # %"ccm::formatting::put_length.exit.i"
@@ -18251,7 +18251,7 @@ aes.ccm.message.put_tag: # @aes.ccm.message.put_tag
 	li	a4, 1
 	mv	a3, s10
 	li	a5, 0
-	call	aes.aes_narrow.blocks.process_in_batches.1
+	call	aes.aes_narrow.blocks.process_all_batches.1
 	call	aes.aes_cipher.zeroize.stack.wipe_stack.1024
 	addi	s11, s11, 1
 	seqz	a0, s11
@@ -18413,7 +18413,7 @@ aes.ccm.message.put_tag: # @aes.ccm.message.put_tag
 	li	a4, 1
 	mv	a3, s10
 	li	a5, 0
-	call	aes.aes_narrow.blocks.process_in_batches.1
+	call	aes.aes_narrow.blocks.process_all_batches.1
 	call	aes.aes_cipher.zeroize.stack.wipe_stack.1024
 	addi	s4, s4, 1
 	seqz	a0, s4
@@ -18505,7 +18505,7 @@ aes.ccm.message.put_tag: # @aes.ccm.message.put_tag
 	addi	a3, sp, 32
 	li	a4, 1
 	li	a5, 0
-	call	aes.aes_narrow.blocks.process_in_batches.1
+	call	aes.aes_narrow.blocks.process_all_batches.1
 	call	aes.aes_cipher.zeroize.stack.wipe_stack.1024
 	lbu	a6, 4(s10)
 	lbu	a7, 5(s10)
@@ -18934,7 +18934,7 @@ aes.fotsgure_aes_encrypt_blocks:            # @aes.fotsgure_aes_encrypt_blocks
 	sltu	a2, a1, a2
 	add	a2, a2, a5
 	li	a5, 0
-	call	aes.aes_narrow.blocks.process_in_batches.1
+	call	aes.aes_narrow.blocks.process_all_batches.1
 	call	aes.aes_cipher.zeroize.stack.wipe_stack.1024
 	li	a0, 0
 	lw	ra, 12(sp)                      # 4-byte Folded Reload
@@ -19001,7 +19001,7 @@ aes.fotsgure_aes_decrypt_blocks:            # @aes.fotsgure_aes_decrypt_blocks
 	sltu	a2, a1, a2
 	add	a2, a2, a5
 	li	a5, 0
-	call	aes.aes_narrow.blocks.process_in_batches.2
+	call	aes.aes_narrow.blocks.process_all_batches.2
 	call	aes.aes_cipher.zeroize.stack.wipe_stack.1024
 	li	a0, 0
 	lw	ra, 12(sp)                      # 4-byte Folded Reload
@@ -19122,7 +19122,7 @@ aes.fotsgure_aes_encrypt_blocks_to:         # @aes.fotsgure_aes_encrypt_blocks_t
 	mv	a3, s4
 	mv	a4, s3
 	li	a5, 0
-	call	aes.aes_narrow.blocks.process_in_batches.1
+	call	aes.aes_narrow.blocks.process_all_batches.1
 	call	aes.aes_cipher.zeroize.stack.wipe_stack.1024
 	li	a0, 0
 .Laes_BB44_11:
@@ -19250,7 +19250,7 @@ aes.fotsgure_aes_decrypt_blocks_to:         # @aes.fotsgure_aes_decrypt_blocks_t
 	mv	a3, s4
 	mv	a4, s3
 	li	a5, 0
-	call	aes.aes_narrow.blocks.process_in_batches.2
+	call	aes.aes_narrow.blocks.process_all_batches.2
 	call	aes.aes_cipher.zeroize.stack.wipe_stack.1024
 	li	a0, 0
 .Laes_BB45_11:
@@ -19721,7 +19721,7 @@ aes.fotsgure_aes_cbc_encrypt:               # @aes.fotsgure_aes_cbc_encrypt
 	mv	a1, s6
 	mv	a2, s4
 	li	a5, 0
-	call	aes.aes_narrow.blocks.process_in_batches.1
+	call	aes.aes_narrow.blocks.process_all_batches.1
 	call	aes.aes_cipher.zeroize.stack.wipe_stack.1024
 	lbu	a6, 12(sp)
 	lbu	a7, 13(sp)
@@ -20849,7 +20849,7 @@ aes.fotsgure_aes_encrypt_blocks_with:       # @aes.fotsgure_aes_encrypt_blocks_w
 	mv	a3, s3
 	mv	a4, s4
 	li	a5, 0
-	call	aes.aes_narrow.blocks.process_in_batches.1
+	call	aes.aes_narrow.blocks.process_all_batches.1
 	call	aes.aes_cipher.zeroize.stack.wipe_stack.1024
 	sw	zero, 12(sp)
 	mv	a0, s2
@@ -20946,7 +20946,7 @@ aes.fotsgure_aes_decrypt_blocks_with:       # @aes.fotsgure_aes_decrypt_blocks_w
 	mv	a0, s2
 	mv	a4, s3
 	li	a5, 0
-	call	aes.aes_narrow.blocks.process_in_batches.2
+	call	aes.aes_narrow.blocks.process_all_batches.2
 	call	aes.aes_cipher.zeroize.stack.wipe_stack.1024
 	li	s0, 0
 .Laes_BB65_7:                               # %"aes_c::blocks::fotsgure_aes_decrypt_blocks.exit.i.i"
@@ -21117,5 +21117,5 @@ aes.fotsgure_aes_add_keystream_with:        # @aes.fotsgure_aes_add_keystream_wi
 	.long	9, 116, 1
 	.asciz	"Fotsgure"
 	.p2align	2, 0x0
-	.asciz	"fotsgure_aes 0.4.0, riscv32/aes.s, sources SHA-256 93c4c1f9a119daf9c53c1b84582bcba4455d731c78c61c0f0737ce65242a1d65"
+	.asciz	"fotsgure_aes 0.4.0, riscv32/aes.s, sources SHA-256 6a1cfde10f68c64d860ebcdaaa811215e142521dd923be252f5cd60ac9711c13"
 	.p2align	2, 0x0

@@ -2856,7 +2856,7 @@ aes_small.aes_ctr.add_in_batches.add_to_one: # @aes_small.aes_ctr.add_in_batches
 	addi	a3, sp, 4
 	li	a4, 1
 	li	a5, 0
-	call	aes_small.aes_narrow.blocks.process_in_batches.1
+	call	aes_small.aes_narrow.blocks.process_all_batches.1
 	call	aes_small.aes_cipher.zeroize.stack.wipe_stack.1024
 	andi	a1, s5, 15
 	addi	a0, sp, 4
@@ -3042,10 +3042,10 @@ aes_small.aes_ctr.counter_blocks.WholeBlockCounterBlocks.put: # @aes_small.aes_c
 .Laes_small_func_end23:
 	.size	aes_small.aes_ctr.counter_blocks.WholeBlockCounterBlocks.put, .Laes_small_func_end23-aes_small.aes_ctr.counter_blocks.WholeBlockCounterBlocks.put
                                         # -- End function
-	.section	.text.aes_small.aes_narrow.blocks.process_in_batches.1,"ax",@progbits
-	.p2align	1                               # -- Begin function aes_narrow::blocks::process_in_batches::<#1a21aa7f601e7603>
-	.type	aes_small.aes_narrow.blocks.process_in_batches.1,@function
-aes_small.aes_narrow.blocks.process_in_batches.1: # @aes_small.aes_narrow.blocks.process_in_batches.1
+	.section	.text.aes_small.aes_narrow.blocks.process_all_batches.1,"ax",@progbits
+	.p2align	1                               # -- Begin function aes_narrow::blocks::process_all_batches::<#1a21aa7f601e7603>
+	.type	aes_small.aes_narrow.blocks.process_all_batches.1,@function
+aes_small.aes_narrow.blocks.process_all_batches.1: # @aes_small.aes_narrow.blocks.process_all_batches.1
 # %bb.0:                                # %start
 	addi	sp, sp, -48
 	sw	ra, 44(sp)                      # 4-byte Folded Spill
@@ -3118,7 +3118,7 @@ aes_small.aes_narrow.blocks.process_in_batches.1: # @aes_small.aes_narrow.blocks
 	addi	sp, sp, 48
 	ret
 .Laes_small_func_end24:
-	.size	aes_small.aes_narrow.blocks.process_in_batches.1, .Laes_small_func_end24-aes_small.aes_narrow.blocks.process_in_batches.1
+	.size	aes_small.aes_narrow.blocks.process_all_batches.1, .Laes_small_func_end24-aes_small.aes_narrow.blocks.process_all_batches.1
                                         # -- End function
 	.section	.text.aes_small.aes_narrow.blocks.process_filled_up.1,"ax",@progbits
 	.p2align	1                               # -- Begin function aes_narrow::blocks::process_filled_up::<#1a21aa7f601e7603>
@@ -5844,7 +5844,7 @@ aes_small.cmac.tags.tag: # @aes_small.cmac.tags.tag
 	addi	a3, sp, 12
 	li	a4, 1
 	li	a5, 0
-	call	aes_small.aes_narrow.blocks.process_in_batches.1
+	call	aes_small.aes_narrow.blocks.process_all_batches.1
 	call	aes_small.aes_cipher.zeroize.stack.wipe_stack.1024
 	addi	s11, s11, 1
 	seqz	a0, s11
@@ -5896,7 +5896,7 @@ aes_small.cmac.tags.tag: # @aes_small.cmac.tags.tag
 	addi	a3, sp, 28
 	li	a4, 1
 	li	a5, 0
-	call	aes_small.aes_narrow.blocks.process_in_batches.1
+	call	aes_small.aes_narrow.blocks.process_all_batches.1
 	call	aes_small.aes_cipher.zeroize.stack.wipe_stack.1024
 	lw	a1, 28(sp)
 	lbu	a7, 32(sp)
@@ -6167,7 +6167,7 @@ aes_small.cmac.tags.tag: # @aes_small.cmac.tags.tag
 	addi	a3, sp, 12
 	li	a4, 1
 	li	a5, 0
-	call	aes_small.aes_narrow.blocks.process_in_batches.1
+	call	aes_small.aes_narrow.blocks.process_all_batches.1
 	call	aes_small.aes_cipher.zeroize.stack.wipe_stack.1024
 	addi	a1, sp, 12
 	li	a2, 16
@@ -6564,7 +6564,7 @@ aes_small.key_wrap.wrapping.wrap: # @aes_small.key_wrap.wrapping.wrap
 	addi	a3, sp, 24
 	li	a4, 1
 	li	a5, 0
-	call	aes_small.aes_narrow.blocks.process_in_batches.1
+	call	aes_small.aes_narrow.blocks.process_all_batches.1
 	call	aes_small.aes_cipher.zeroize.stack.wipe_stack.1024
 	lw	t6, 24(sp)
 	lw	ra, 28(sp)
@@ -6942,7 +6942,7 @@ aes_small.key_wrap.padded.wrap_padded: # @aes_small.key_wrap.padded.wrap_padded
 	addi	a3, sp, 24
 	li	a4, 1
 	li	a5, 0
-	call	aes_small.aes_narrow.blocks.process_in_batches.1
+	call	aes_small.aes_narrow.blocks.process_all_batches.1
 	call	aes_small.aes_cipher.zeroize.stack.wipe_stack.1024
 	li	a0, 0
 	lw	a1, 28(sp)
@@ -7106,7 +7106,7 @@ aes_small.key_wrap.padded.wrap_padded: # @aes_small.key_wrap.padded.wrap_padded
 	addi	a3, sp, 24
 	li	a4, 1
 	li	a5, 0
-	call	aes_small.aes_narrow.blocks.process_in_batches.1
+	call	aes_small.aes_narrow.blocks.process_all_batches.1
 	call	aes_small.aes_cipher.zeroize.stack.wipe_stack.1024
 	lw	t6, 24(sp)
 	lw	s7, 28(sp)
@@ -9402,10 +9402,10 @@ aes_small.aes_planes.soft.mix_columns.inv_mix_columns_1: # @aes_small.aes_planes
 .Laes_small_func_end54:
 	.size	aes_small.aes_planes.soft.mix_columns.inv_mix_columns_1, .Laes_small_func_end54-aes_small.aes_planes.soft.mix_columns.inv_mix_columns_1
                                         # -- End function
-	.section	.text.aes_small.aes_narrow.blocks.process_in_batches.2,"ax",@progbits
-	.p2align	1                               # -- Begin function aes_narrow::blocks::process_in_batches::<#a3dcb71d05bd149b>
-	.type	aes_small.aes_narrow.blocks.process_in_batches.2,@function
-aes_small.aes_narrow.blocks.process_in_batches.2: # @aes_small.aes_narrow.blocks.process_in_batches.2
+	.section	.text.aes_small.aes_narrow.blocks.process_all_batches.2,"ax",@progbits
+	.p2align	1                               # -- Begin function aes_narrow::blocks::process_all_batches::<#a3dcb71d05bd149b>
+	.type	aes_small.aes_narrow.blocks.process_all_batches.2,@function
+aes_small.aes_narrow.blocks.process_all_batches.2: # @aes_small.aes_narrow.blocks.process_all_batches.2
 # %bb.0:                                # %start
 	addi	sp, sp, -48
 	sw	ra, 44(sp)                      # 4-byte Folded Spill
@@ -9478,7 +9478,7 @@ aes_small.aes_narrow.blocks.process_in_batches.2: # @aes_small.aes_narrow.blocks
 	addi	sp, sp, 48
 	ret
 .Laes_small_func_end55:
-	.size	aes_small.aes_narrow.blocks.process_in_batches.2, .Laes_small_func_end55-aes_small.aes_narrow.blocks.process_in_batches.2
+	.size	aes_small.aes_narrow.blocks.process_all_batches.2, .Laes_small_func_end55-aes_small.aes_narrow.blocks.process_all_batches.2
                                         # -- End function
 	.section	.text.aes_small.key_wrap.wrapping.unwrap,"ax",@progbits
 	.p2align	1                               # -- Begin function key_wrap::wrapping::unwrap::<#10c636071cb6e37c>
@@ -9739,7 +9739,7 @@ aes_small.key_wrap.wrapping.unwrap: # @aes_small.key_wrap.wrapping.unwrap
 	addi	a3, sp, 24
 	li	a4, 1
 	li	a5, 0
-	call	aes_small.aes_narrow.blocks.process_in_batches.2
+	call	aes_small.aes_narrow.blocks.process_all_batches.2
 	call	aes_small.aes_cipher.zeroize.stack.wipe_stack.1024
 	lw	a0, 36(sp)
 	lw	s7, 24(sp)
@@ -10057,7 +10057,7 @@ aes_small.key_wrap.padded.unwrap_padded: # @aes_small.key_wrap.padded.unwrap_pad
 	addi	a3, sp, 40
 	li	a4, 1
 	li	a5, 0
-	call	aes_small.aes_narrow.blocks.process_in_batches.2
+	call	aes_small.aes_narrow.blocks.process_all_batches.2
 	call	aes_small.aes_cipher.zeroize.stack.wipe_stack.1024
 	lw	a0, 40(sp)
 	lw	s8, 44(sp)
@@ -10225,7 +10225,7 @@ aes_small.key_wrap.padded.unwrap_padded: # @aes_small.key_wrap.padded.unwrap_pad
 	addi	a3, sp, 40
 	li	a4, 1
 	li	a5, 0
-	call	aes_small.aes_narrow.blocks.process_in_batches.2
+	call	aes_small.aes_narrow.blocks.process_all_batches.2
 	call	aes_small.aes_cipher.zeroize.stack.wipe_stack.1024
 	lw	a0, 52(sp)
 	lw	s11, 40(sp)
@@ -12269,7 +12269,7 @@ aes_small.ccm.message.put_tag: # @aes_small.ccm.message.put_tag
 	li	a4, 1
 	mv	a3, s10
 	li	a5, 0
-	call	aes_small.aes_narrow.blocks.process_in_batches.1
+	call	aes_small.aes_narrow.blocks.process_all_batches.1
 	call	aes_small.aes_cipher.zeroize.stack.wipe_stack.1024
 	beqz	s2, .Laes_small_BB69_28
 # %bb.7:                                # %join.3.i
@@ -12445,7 +12445,7 @@ aes_small.ccm.message.put_tag: # @aes_small.ccm.message.put_tag
 	li	a4, 1
 	mv	a3, s10
 	li	a5, 0
-	call	aes_small.aes_narrow.blocks.process_in_batches.1
+	call	aes_small.aes_narrow.blocks.process_all_batches.1
 	call	aes_small.aes_cipher.zeroize.stack.wipe_stack.1024
 	beq	s5, s2, .Laes_small_BB69_19
 # %bb.18:                               # %"ccm::formatting::put_length.exit.i"
@@ -12602,7 +12602,7 @@ aes_small.ccm.message.put_tag: # @aes_small.ccm.message.put_tag
 	li	a4, 1
 	mv	a3, s10
 	li	a5, 0
-	call	aes_small.aes_narrow.blocks.process_in_batches.1
+	call	aes_small.aes_narrow.blocks.process_all_batches.1
 	call	aes_small.aes_cipher.zeroize.stack.wipe_stack.1024
 	addi	s11, s11, 1
 	seqz	a0, s11
@@ -12764,7 +12764,7 @@ aes_small.ccm.message.put_tag: # @aes_small.ccm.message.put_tag
 	li	a4, 1
 	mv	a3, s10
 	li	a5, 0
-	call	aes_small.aes_narrow.blocks.process_in_batches.1
+	call	aes_small.aes_narrow.blocks.process_all_batches.1
 	call	aes_small.aes_cipher.zeroize.stack.wipe_stack.1024
 	addi	s4, s4, 1
 	seqz	a0, s4
@@ -12856,7 +12856,7 @@ aes_small.ccm.message.put_tag: # @aes_small.ccm.message.put_tag
 	addi	a3, sp, 32
 	li	a4, 1
 	li	a5, 0
-	call	aes_small.aes_narrow.blocks.process_in_batches.1
+	call	aes_small.aes_narrow.blocks.process_all_batches.1
 	call	aes_small.aes_cipher.zeroize.stack.wipe_stack.1024
 	lbu	a6, 4(s10)
 	lbu	a7, 5(s10)
@@ -13332,7 +13332,7 @@ aes_small.fotsgure_aes_encrypt_blocks:            # @aes_small.fotsgure_aes_encr
 	sltu	a2, a1, a2
 	add	a2, a2, a5
 	li	a5, 0
-	call	aes_small.aes_narrow.blocks.process_in_batches.1
+	call	aes_small.aes_narrow.blocks.process_all_batches.1
 	call	aes_small.aes_cipher.zeroize.stack.wipe_stack.1024
 	li	a0, 0
 	lw	ra, 12(sp)                      # 4-byte Folded Reload
@@ -13399,7 +13399,7 @@ aes_small.fotsgure_aes_decrypt_blocks:            # @aes_small.fotsgure_aes_decr
 	sltu	a2, a1, a2
 	add	a2, a2, a5
 	li	a5, 0
-	call	aes_small.aes_narrow.blocks.process_in_batches.2
+	call	aes_small.aes_narrow.blocks.process_all_batches.2
 	call	aes_small.aes_cipher.zeroize.stack.wipe_stack.1024
 	li	a0, 0
 	lw	ra, 12(sp)                      # 4-byte Folded Reload
@@ -13520,7 +13520,7 @@ aes_small.fotsgure_aes_encrypt_blocks_to:         # @aes_small.fotsgure_aes_encr
 	mv	a3, s4
 	mv	a4, s3
 	li	a5, 0
-	call	aes_small.aes_narrow.blocks.process_in_batches.1
+	call	aes_small.aes_narrow.blocks.process_all_batches.1
 	call	aes_small.aes_cipher.zeroize.stack.wipe_stack.1024
 	li	a0, 0
 .Laes_small_BB77_11:
@@ -13648,7 +13648,7 @@ aes_small.fotsgure_aes_decrypt_blocks_to:         # @aes_small.fotsgure_aes_decr
 	mv	a3, s4
 	mv	a4, s3
 	li	a5, 0
-	call	aes_small.aes_narrow.blocks.process_in_batches.2
+	call	aes_small.aes_narrow.blocks.process_all_batches.2
 	call	aes_small.aes_cipher.zeroize.stack.wipe_stack.1024
 	li	a0, 0
 .Laes_small_BB78_11:
@@ -13977,7 +13977,7 @@ aes_small.fotsgure_aes_cbc_encrypt:               # @aes_small.fotsgure_aes_cbc_
 	mv	a1, s6
 	mv	a2, s4
 	li	a5, 0
-	call	aes_small.aes_narrow.blocks.process_in_batches.1
+	call	aes_small.aes_narrow.blocks.process_all_batches.1
 	call	aes_small.aes_cipher.zeroize.stack.wipe_stack.1024
 	lbu	a6, 12(sp)
 	lbu	a7, 13(sp)
@@ -14986,7 +14986,7 @@ aes_small.fotsgure_aes_encrypt_blocks_with:       # @aes_small.fotsgure_aes_encr
 	mv	a3, s3
 	mv	a4, s4
 	li	a5, 0
-	call	aes_small.aes_narrow.blocks.process_in_batches.1
+	call	aes_small.aes_narrow.blocks.process_all_batches.1
 	call	aes_small.aes_cipher.zeroize.stack.wipe_stack.1024
 	sw	zero, 12(sp)
 	mv	a0, s2
@@ -15083,7 +15083,7 @@ aes_small.fotsgure_aes_decrypt_blocks_with:       # @aes_small.fotsgure_aes_decr
 	mv	a0, s2
 	mv	a4, s3
 	li	a5, 0
-	call	aes_small.aes_narrow.blocks.process_in_batches.2
+	call	aes_small.aes_narrow.blocks.process_all_batches.2
 	call	aes_small.aes_cipher.zeroize.stack.wipe_stack.1024
 	li	s0, 0
 .Laes_small_BB98_7:                               # %"aes_c::blocks::fotsgure_aes_decrypt_blocks.exit.i.i"
@@ -15325,5 +15325,5 @@ aes_small.fotsgure_aes_add_keystream_with:        # @aes_small.fotsgure_aes_add_
 	.long	9, 122, 1
 	.asciz	"Fotsgure"
 	.p2align	2, 0x0
-	.asciz	"fotsgure_aes 0.4.0, riscv32/aes_small.s, sources SHA-256 93c4c1f9a119daf9c53c1b84582bcba4455d731c78c61c0f0737ce65242a1d65"
+	.asciz	"fotsgure_aes 0.4.0, riscv32/aes_small.s, sources SHA-256 6a1cfde10f68c64d860ebcdaaa811215e142521dd923be252f5cd60ac9711c13"
 	.p2align	2, 0x0

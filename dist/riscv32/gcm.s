@@ -3648,7 +3648,7 @@ gcm.gcm.mode.BorrowedGcm.put_tag_so_far: # @gcm.gcm.mode.BorrowedGcm.put_tag_so_
 	li	s3, 1
 	mv	a3, s0
 	li	a5, 0
-	call	gcm.aes_narrow.blocks.process_in_batches
+	call	gcm.aes_narrow.blocks.process_all_batches
 	call	gcm.aes_cipher.zeroize.stack.wipe_stack.1024
 	lw	a1, 16(s1)
 	addi	a0, sp, 24
@@ -3781,10 +3781,10 @@ gcm.gcm.mode.BorrowedGcm.put_tag_so_far: # @gcm.gcm.mode.BorrowedGcm.put_tag_so_
 .Lgcm_func_end12:
 	.size	gcm.gcm.mode.BorrowedGcm.put_tag_so_far, .Lgcm_func_end12-gcm.gcm.mode.BorrowedGcm.put_tag_so_far
                                         # -- End function
-	.section	.text.gcm.aes_narrow.blocks.process_in_batches,"ax",@progbits
-	.p2align	1                               # -- Begin function aes_narrow::blocks::process_in_batches::<#f6c900d3ac1e47b9>
-	.type	gcm.aes_narrow.blocks.process_in_batches,@function
-gcm.aes_narrow.blocks.process_in_batches: # @gcm.aes_narrow.blocks.process_in_batches
+	.section	.text.gcm.aes_narrow.blocks.process_all_batches,"ax",@progbits
+	.p2align	1                               # -- Begin function aes_narrow::blocks::process_all_batches::<#f6c900d3ac1e47b9>
+	.type	gcm.aes_narrow.blocks.process_all_batches,@function
+gcm.aes_narrow.blocks.process_all_batches: # @gcm.aes_narrow.blocks.process_all_batches
 # %bb.0:                                # %start
 	addi	sp, sp, -48
 	sw	ra, 44(sp)                      # 4-byte Folded Spill
@@ -3854,7 +3854,7 @@ gcm.aes_narrow.blocks.process_in_batches: # @gcm.aes_narrow.blocks.process_in_ba
 	addi	sp, sp, 48
 	ret
 .Lgcm_func_end13:
-	.size	gcm.aes_narrow.blocks.process_in_batches, .Lgcm_func_end13-gcm.aes_narrow.blocks.process_in_batches
+	.size	gcm.aes_narrow.blocks.process_all_batches, .Lgcm_func_end13-gcm.aes_narrow.blocks.process_all_batches
                                         # -- End function
 	.section	.text.gcm.aes_narrow.blocks.process_filled_up,"ax",@progbits
 	.p2align	1                               # -- Begin function aes_narrow::blocks::process_filled_up::<#f6c900d3ac1e47b9>
@@ -6966,7 +6966,7 @@ gcm.gcm.mode.put_subkey: # @gcm.gcm.mode.put_subkey
 	addi	a3, sp, 12
 	li	a4, 1
 	li	a5, 0
-	call	gcm.aes_narrow.blocks.process_in_batches
+	call	gcm.aes_narrow.blocks.process_all_batches
 	call	gcm.aes_cipher.zeroize.stack.wipe_stack.1024
 	lw	a2, 12(sp)
 	lbu	t6, 16(sp)
@@ -7181,7 +7181,7 @@ gcm.gcm.mode.BorrowedGcm.put_tag: # @gcm.gcm.mode.BorrowedGcm.put_tag
 	li	a4, 1
 	mv	a3, s0
 	li	a5, 0
-	call	gcm.aes_narrow.blocks.process_in_batches
+	call	gcm.aes_narrow.blocks.process_all_batches
 	call	gcm.aes_cipher.zeroize.stack.wipe_stack.1024
 	lw	a0, 16(s1)
 	lbu	a7, 0(a0)
@@ -7670,7 +7670,7 @@ gcm.gcm.gctr.add_gctr: # @gcm.gcm.gctr.add_gctr
 	addi	a3, sp, 76
 	li	a4, 1
 	li	a5, 0
-	call	gcm.aes_narrow.blocks.process_in_batches
+	call	gcm.aes_narrow.blocks.process_all_batches
 	call	gcm.aes_cipher.zeroize.stack.wipe_stack.1024
 	sw	s4, 16(sp)                      # 4-byte Folded Spill
 	beqz	s4, .Lgcm_BB22_11
@@ -9167,7 +9167,7 @@ gcm.gcm_c.siv.prepare: # @gcm.gcm_c.siv.prepare
 	mv	a0, s4
 	mv	a1, s6
 	mv	a2, s5
-	call	gcm.aes_narrow.blocks.process_in_batches
+	call	gcm.aes_narrow.blocks.process_all_batches
 	call	gcm.aes_cipher.zeroize.stack.wipe_stack.1024
 	lbu	a6, 19(sp)
 	lw	a1, 28(sp)
@@ -9406,7 +9406,7 @@ gcm.gcm_siv.message.open: # @gcm.gcm_siv.message.open
 	mv	a1, s11
 	mv	a2, s5
 	li	a5, 0
-	call	gcm.aes_narrow.blocks.process_in_batches
+	call	gcm.aes_narrow.blocks.process_all_batches
 	call	gcm.aes_cipher.zeroize.stack.wipe_stack.1024
 	andi	a0, s2, 31
 	beqz	a0, .Lgcm_BB31_9
@@ -9660,7 +9660,7 @@ gcm.gcm_siv.message.open: # @gcm.gcm_siv.message.open
 	mv	a1, s9
 	mv	a2, s1
 	li	a5, 0
-	call	gcm.aes_narrow.blocks.process_in_batches
+	call	gcm.aes_narrow.blocks.process_all_batches
 	call	gcm.aes_cipher.zeroize.stack.wipe_stack.1024
 	andi	a0, s2, 31
 	beqz	a0, .Lgcm_BB31_16
@@ -10022,7 +10022,7 @@ gcm.gcm_siv.message.put_tag: # @gcm.gcm_siv.message.put_tag
 	li	a4, 1
 	mv	a3, s0
 	li	a5, 0
-	call	gcm.aes_narrow.blocks.process_in_batches
+	call	gcm.aes_narrow.blocks.process_all_batches
 	lw	ra, 124(sp)                     # 4-byte Folded Reload
 	lw	s0, 120(sp)                     # 4-byte Folded Reload
 	lw	s1, 116(sp)                     # 4-byte Folded Reload
@@ -11262,7 +11262,7 @@ gcm.gcm_siv.message.seal: # @gcm.gcm_siv.message.seal
 	mv	a1, s6
 	mv	a2, s0
 	li	a5, 0
-	call	gcm.aes_narrow.blocks.process_in_batches
+	call	gcm.aes_narrow.blocks.process_all_batches
 	call	gcm.aes_cipher.zeroize.stack.wipe_stack.1024
 	andi	a0, s3, 31
 	beqz	a0, .Lgcm_BB39_5
@@ -15099,5 +15099,5 @@ gcm.fotsgure_gcm_siv_wipe:                  # @gcm.fotsgure_gcm_siv_wipe
 	.long	9, 116, 1
 	.asciz	"Fotsgure"
 	.p2align	2, 0x0
-	.asciz	"fotsgure_gcm 0.4.0, riscv32/gcm.s, sources SHA-256 208602ae32e5dd5d4aa7a028ebc59ad6269492290ae4be105a6461c3e77eec69"
+	.asciz	"fotsgure_gcm 0.4.0, riscv32/gcm.s, sources SHA-256 2b79346c77bb0404dbcf8d7bfc3c037715623eca5ddd3ec8b81ec3dcd0649018"
 	.p2align	2, 0x0

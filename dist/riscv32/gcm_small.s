@@ -3750,7 +3750,7 @@ gcm_small.gcm.mode.BorrowedGcm.put_tag_so_far: # @gcm_small.gcm.mode.BorrowedGcm
 	li	s3, 1
 	mv	a3, s0
 	li	a5, 0
-	call	gcm_small.aes_narrow.blocks.process_in_batches
+	call	gcm_small.aes_narrow.blocks.process_all_batches
 	call	gcm_small.aes_cipher.zeroize.stack.wipe_stack.1024
 	addi	a0, sp, 24
 	mv	a1, s1
@@ -3871,10 +3871,10 @@ gcm_small.gcm.mode.BorrowedGcm.put_tag_so_far: # @gcm_small.gcm.mode.BorrowedGcm
 .Lgcm_small_func_end31:
 	.size	gcm_small.gcm.mode.BorrowedGcm.put_tag_so_far, .Lgcm_small_func_end31-gcm_small.gcm.mode.BorrowedGcm.put_tag_so_far
                                         # -- End function
-	.section	.text.gcm_small.aes_narrow.blocks.process_in_batches,"ax",@progbits
-	.p2align	1                               # -- Begin function aes_narrow::blocks::process_in_batches::<#f6c900d3ac1e47b9>
-	.type	gcm_small.aes_narrow.blocks.process_in_batches,@function
-gcm_small.aes_narrow.blocks.process_in_batches: # @gcm_small.aes_narrow.blocks.process_in_batches
+	.section	.text.gcm_small.aes_narrow.blocks.process_all_batches,"ax",@progbits
+	.p2align	1                               # -- Begin function aes_narrow::blocks::process_all_batches::<#f6c900d3ac1e47b9>
+	.type	gcm_small.aes_narrow.blocks.process_all_batches,@function
+gcm_small.aes_narrow.blocks.process_all_batches: # @gcm_small.aes_narrow.blocks.process_all_batches
 # %bb.0:                                # %start
 	addi	sp, sp, -48
 	sw	ra, 44(sp)                      # 4-byte Folded Spill
@@ -3944,7 +3944,7 @@ gcm_small.aes_narrow.blocks.process_in_batches: # @gcm_small.aes_narrow.blocks.p
 	addi	sp, sp, 48
 	ret
 .Lgcm_small_func_end32:
-	.size	gcm_small.aes_narrow.blocks.process_in_batches, .Lgcm_small_func_end32-gcm_small.aes_narrow.blocks.process_in_batches
+	.size	gcm_small.aes_narrow.blocks.process_all_batches, .Lgcm_small_func_end32-gcm_small.aes_narrow.blocks.process_all_batches
                                         # -- End function
 	.section	.text.gcm_small.aes_narrow.blocks.process_filled_up,"ax",@progbits
 	.p2align	1                               # -- Begin function aes_narrow::blocks::process_filled_up::<#f6c900d3ac1e47b9>
@@ -6030,7 +6030,7 @@ gcm_small.gcm.mode.put_subkey: # @gcm_small.gcm.mode.put_subkey
 	addi	a3, sp, 12
 	li	a4, 1
 	li	a5, 0
-	call	gcm_small.aes_narrow.blocks.process_in_batches
+	call	gcm_small.aes_narrow.blocks.process_all_batches
 	call	gcm_small.aes_cipher.zeroize.stack.wipe_stack.1024
 	lw	a2, 12(sp)
 	lbu	t6, 16(sp)
@@ -6245,7 +6245,7 @@ gcm_small.gcm.mode.BorrowedGcm.put_tag: # @gcm_small.gcm.mode.BorrowedGcm.put_ta
 	li	a4, 1
 	mv	a3, s0
 	li	a5, 0
-	call	gcm_small.aes_narrow.blocks.process_in_batches
+	call	gcm_small.aes_narrow.blocks.process_all_batches
 	call	gcm_small.aes_cipher.zeroize.stack.wipe_stack.1024
 	lw	a0, 16(s1)
 	lbu	a7, 0(a0)
@@ -6806,7 +6806,7 @@ gcm_small.aes_ctr.add_in_batches.add_to_one.1: # @gcm_small.aes_ctr.add_in_batch
 	addi	a3, sp, 12
 	li	a4, 1
 	li	a5, 0
-	call	gcm_small.aes_narrow.blocks.process_in_batches
+	call	gcm_small.aes_narrow.blocks.process_all_batches
 	call	gcm_small.aes_cipher.zeroize.stack.wipe_stack.1024
 	andi	a1, s5, 15
 	addi	a0, sp, 12
@@ -8095,7 +8095,7 @@ gcm_small.gcm_c.siv.prepare: # @gcm_small.gcm_c.siv.prepare
 	mv	a0, s4
 	mv	a1, s6
 	mv	a2, s5
-	call	gcm_small.aes_narrow.blocks.process_in_batches
+	call	gcm_small.aes_narrow.blocks.process_all_batches
 	call	gcm_small.aes_cipher.zeroize.stack.wipe_stack.1024
 	lbu	a6, 19(sp)
 	lw	a1, 28(sp)
@@ -8675,7 +8675,7 @@ gcm_small.gcm_siv.message.put_tag: # @gcm_small.gcm_siv.message.put_tag
 	li	a4, 1
 	mv	a3, s0
 	li	a5, 0
-	call	gcm_small.aes_narrow.blocks.process_in_batches
+	call	gcm_small.aes_narrow.blocks.process_all_batches
 	lw	ra, 124(sp)                     # 4-byte Folded Reload
 	lw	s0, 120(sp)                     # 4-byte Folded Reload
 	lw	s1, 116(sp)                     # 4-byte Folded Reload
@@ -8995,7 +8995,7 @@ gcm_small.aes_ctr.add_in_batches.add_to_one.2: # @gcm_small.aes_ctr.add_in_batch
 	addi	a3, sp, 8
 	li	a4, 1
 	li	a5, 0
-	call	gcm_small.aes_narrow.blocks.process_in_batches
+	call	gcm_small.aes_narrow.blocks.process_all_batches
 	call	gcm_small.aes_cipher.zeroize.stack.wipe_stack.1024
 	addi	a0, sp, 8
 	li	a1, 0
@@ -13423,5 +13423,5 @@ gcm_small.fotsgure_gcm_siv_wipe:                  # @gcm_small.fotsgure_gcm_siv_
 	.long	9, 122, 1
 	.asciz	"Fotsgure"
 	.p2align	2, 0x0
-	.asciz	"fotsgure_gcm 0.4.0, riscv32/gcm_small.s, sources SHA-256 208602ae32e5dd5d4aa7a028ebc59ad6269492290ae4be105a6461c3e77eec69"
+	.asciz	"fotsgure_gcm 0.4.0, riscv32/gcm_small.s, sources SHA-256 2b79346c77bb0404dbcf8d7bfc3c037715623eca5ddd3ec8b81ec3dcd0649018"
 	.p2align	2, 0x0

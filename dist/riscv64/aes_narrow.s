@@ -2960,7 +2960,7 @@ aes_narrow.aes_ctr.add_in_batches.add_keystream: # @aes_narrow.aes_ctr.add_in_ba
 	sb	a6, 39(sp)
 	addi	a2, sp, 24
 	li	a3, 1
-	call	aes_narrow.aes_narrow.blocks.process_in_batches.1
+	call	aes_narrow.aes_narrow.blocks.process_all_batches.1
 	call	aes_narrow.aes_cipher.zeroize.stack.wipe_stack.1024
 	li	a1, 0
 	beqz	s9, .Laes_narrow_BB2_7
@@ -3101,10 +3101,10 @@ aes_narrow.aes_ctr.add_in_batches.add_keystream: # @aes_narrow.aes_ctr.add_in_ba
 .Laes_narrow_func_end2:
 	.size	aes_narrow.aes_ctr.add_in_batches.add_keystream, .Laes_narrow_func_end2-aes_narrow.aes_ctr.add_in_batches.add_keystream
                                         # -- End function
-	.section	.text.aes_narrow.aes_narrow.blocks.process_in_batches.1,"ax",@progbits
-	.p2align	1                               # -- Begin function aes_narrow::blocks::process_in_batches::<#fa0365327da542a1>
-	.type	aes_narrow.aes_narrow.blocks.process_in_batches.1,@function
-aes_narrow.aes_narrow.blocks.process_in_batches.1: # @aes_narrow.aes_narrow.blocks.process_in_batches.1
+	.section	.text.aes_narrow.aes_narrow.blocks.process_all_batches.1,"ax",@progbits
+	.p2align	1                               # -- Begin function aes_narrow::blocks::process_all_batches::<#fa0365327da542a1>
+	.type	aes_narrow.aes_narrow.blocks.process_all_batches.1,@function
+aes_narrow.aes_narrow.blocks.process_all_batches.1: # @aes_narrow.aes_narrow.blocks.process_all_batches.1
 # %bb.0:                                # %start
 	beqz	a3, .Laes_narrow_BB3_6
 # %bb.1:                                # %join.5.preheader
@@ -3151,7 +3151,7 @@ aes_narrow.aes_narrow.blocks.process_in_batches.1: # @aes_narrow.aes_narrow.bloc
 .Laes_narrow_BB3_6:                                # %after.1
 	ret
 .Laes_narrow_func_end3:
-	.size	aes_narrow.aes_narrow.blocks.process_in_batches.1, .Laes_narrow_func_end3-aes_narrow.aes_narrow.blocks.process_in_batches.1
+	.size	aes_narrow.aes_narrow.blocks.process_all_batches.1, .Laes_narrow_func_end3-aes_narrow.aes_narrow.blocks.process_all_batches.1
                                         # -- End function
 	.section	.text.aes_narrow.aes_narrow.blocks.process_filled_up.1,"ax",@progbits
 	.p2align	1                               # -- Begin function aes_narrow::blocks::process_filled_up::<#fa0365327da542a1>
@@ -7890,7 +7890,7 @@ aes_narrow.cmac.tags.tag: # @aes_narrow.cmac.tags.tag
 	or	a1, a1, a2
 	addi	a2, sp, 88
 	li	a3, 1
-	call	aes_narrow.aes_narrow.blocks.process_in_batches.1
+	call	aes_narrow.aes_narrow.blocks.process_all_batches.1
 	call	aes_narrow.aes_cipher.zeroize.stack.wipe_stack.1024
 	addi	s8, s8, -1
 	addi	s10, s10, 16
@@ -7959,7 +7959,7 @@ aes_narrow.cmac.tags.tag: # @aes_narrow.cmac.tags.tag
 	sd	zero, 112(sp)
 	addi	a2, sp, 104
 	li	a3, 1
-	call	aes_narrow.aes_narrow.blocks.process_in_batches.1
+	call	aes_narrow.aes_narrow.blocks.process_all_batches.1
 	call	aes_narrow.aes_cipher.zeroize.stack.wipe_stack.1024
 	ld	a0, 104(sp)
 	ld	a1, 112(sp)
@@ -8334,7 +8334,7 @@ aes_narrow.cmac.tags.tag: # @aes_narrow.cmac.tags.tag
 	or	a1, a1, a2
 	addi	a2, sp, 88
 	li	a3, 1
-	call	aes_narrow.aes_narrow.blocks.process_in_batches.1
+	call	aes_narrow.aes_narrow.blocks.process_all_batches.1
 	call	aes_narrow.aes_cipher.zeroize.stack.wipe_stack.1024
 	addi	a1, sp, 88
 	li	a2, 16
@@ -8699,7 +8699,7 @@ aes_narrow.key_wrap.steps.wrap_in_place: # @aes_narrow.key_wrap.steps.wrap_in_pl
 	sd	a3, 8(sp)
 	mv	a2, sp
 	li	a3, 1
-	call	aes_narrow.aes_narrow.blocks.process_in_batches.1
+	call	aes_narrow.aes_narrow.blocks.process_all_batches.1
 	call	aes_narrow.aes_cipher.zeroize.stack.wipe_stack.1024
 	ld	a1, 0(sp)
 	ld	t4, 8(sp)
@@ -8876,7 +8876,7 @@ aes_narrow.key_wrap.steps.wrap_in_place: # @aes_narrow.key_wrap.steps.wrap_in_pl
 	sd	a3, 8(sp)
 	mv	a2, sp
 	li	a3, 1
-	call	aes_narrow.aes_narrow.blocks.process_in_batches.1
+	call	aes_narrow.aes_narrow.blocks.process_all_batches.1
 	call	aes_narrow.aes_cipher.zeroize.stack.wipe_stack.1024
 	ld	a1, 0(sp)
 	ld	t4, 8(sp)
@@ -9054,7 +9054,7 @@ aes_narrow.key_wrap.steps.wrap_in_place: # @aes_narrow.key_wrap.steps.wrap_in_pl
 	sd	a3, 8(sp)
 	mv	a2, sp
 	li	a3, 1
-	call	aes_narrow.aes_narrow.blocks.process_in_batches.1
+	call	aes_narrow.aes_narrow.blocks.process_all_batches.1
 	call	aes_narrow.aes_cipher.zeroize.stack.wipe_stack.1024
 	ld	a1, 0(sp)
 	ld	t4, 8(sp)
@@ -9232,7 +9232,7 @@ aes_narrow.key_wrap.steps.wrap_in_place: # @aes_narrow.key_wrap.steps.wrap_in_pl
 	sd	a3, 8(sp)
 	mv	a2, sp
 	li	a3, 1
-	call	aes_narrow.aes_narrow.blocks.process_in_batches.1
+	call	aes_narrow.aes_narrow.blocks.process_all_batches.1
 	call	aes_narrow.aes_cipher.zeroize.stack.wipe_stack.1024
 	ld	a1, 0(sp)
 	ld	t4, 8(sp)
@@ -9410,7 +9410,7 @@ aes_narrow.key_wrap.steps.wrap_in_place: # @aes_narrow.key_wrap.steps.wrap_in_pl
 	sd	a3, 8(sp)
 	mv	a2, sp
 	li	a3, 1
-	call	aes_narrow.aes_narrow.blocks.process_in_batches.1
+	call	aes_narrow.aes_narrow.blocks.process_all_batches.1
 	call	aes_narrow.aes_cipher.zeroize.stack.wipe_stack.1024
 	ld	a1, 0(sp)
 	ld	t4, 8(sp)
@@ -9586,7 +9586,7 @@ aes_narrow.key_wrap.steps.wrap_in_place: # @aes_narrow.key_wrap.steps.wrap_in_pl
 	sd	a3, 8(sp)
 	mv	a2, sp
 	li	a3, 1
-	call	aes_narrow.aes_narrow.blocks.process_in_batches.1
+	call	aes_narrow.aes_narrow.blocks.process_all_batches.1
 	call	aes_narrow.aes_cipher.zeroize.stack.wipe_stack.1024
 	ld	a1, 0(sp)
 	ld	t3, 8(sp)
@@ -9953,7 +9953,7 @@ aes_narrow.key_wrap.padded.wrap_padded: # @aes_narrow.key_wrap.padded.wrap_padde
 	or	a1, a4, a6
 	addi	a2, sp, 8
 	li	a3, 1
-	call	aes_narrow.aes_narrow.blocks.process_in_batches.1
+	call	aes_narrow.aes_narrow.blocks.process_all_batches.1
 	call	aes_narrow.aes_cipher.zeroize.stack.wipe_stack.1024
 	li	a1, 0
 	ld	a0, 8(sp)
@@ -13900,10 +13900,10 @@ aes_narrow.aes_narrow.blocks.process_state.2: # @aes_narrow.aes_narrow.blocks.pr
 .Laes_narrow_func_end20:
 	.size	aes_narrow.aes_narrow.blocks.process_state.2, .Laes_narrow_func_end20-aes_narrow.aes_narrow.blocks.process_state.2
                                         # -- End function
-	.section	.text.aes_narrow.aes_narrow.blocks.process_in_batches.2,"ax",@progbits
-	.p2align	1                               # -- Begin function aes_narrow::blocks::process_in_batches::<#e30bc42c140a48e9>
-	.type	aes_narrow.aes_narrow.blocks.process_in_batches.2,@function
-aes_narrow.aes_narrow.blocks.process_in_batches.2: # @aes_narrow.aes_narrow.blocks.process_in_batches.2
+	.section	.text.aes_narrow.aes_narrow.blocks.process_all_batches.2,"ax",@progbits
+	.p2align	1                               # -- Begin function aes_narrow::blocks::process_all_batches::<#e30bc42c140a48e9>
+	.type	aes_narrow.aes_narrow.blocks.process_all_batches.2,@function
+aes_narrow.aes_narrow.blocks.process_all_batches.2: # @aes_narrow.aes_narrow.blocks.process_all_batches.2
 # %bb.0:                                # %start
 	beqz	a3, .Laes_narrow_BB21_6
 # %bb.1:                                # %join.5.preheader
@@ -13950,7 +13950,7 @@ aes_narrow.aes_narrow.blocks.process_in_batches.2: # @aes_narrow.aes_narrow.bloc
 .Laes_narrow_BB21_6:                               # %after.1
 	ret
 .Laes_narrow_func_end21:
-	.size	aes_narrow.aes_narrow.blocks.process_in_batches.2, .Laes_narrow_func_end21-aes_narrow.aes_narrow.blocks.process_in_batches.2
+	.size	aes_narrow.aes_narrow.blocks.process_all_batches.2, .Laes_narrow_func_end21-aes_narrow.aes_narrow.blocks.process_all_batches.2
                                         # -- End function
 	.section	.rodata.cst8,"aM",@progbits,8
 	.p2align	3, 0x0                          # -- Begin function key_wrap::wrapping::unwrap::<#10cbf20c84ff2163>
@@ -14263,7 +14263,7 @@ aes_narrow.key_wrap.steps.unwrap_in_place: # @aes_narrow.key_wrap.steps.unwrap_i
 	or	a1, a5, a6
 	mv	a2, sp
 	li	a3, 1
-	call	aes_narrow.aes_narrow.blocks.process_in_batches.2
+	call	aes_narrow.aes_narrow.blocks.process_all_batches.2
 	call	aes_narrow.aes_cipher.zeroize.stack.wipe_stack.1024
 	ld	a0, 0(sp)
 	ld	a1, 8(sp)
@@ -14442,7 +14442,7 @@ aes_narrow.key_wrap.steps.unwrap_in_place: # @aes_narrow.key_wrap.steps.unwrap_i
 	or	a1, a5, a6
 	mv	a2, sp
 	li	a3, 1
-	call	aes_narrow.aes_narrow.blocks.process_in_batches.2
+	call	aes_narrow.aes_narrow.blocks.process_all_batches.2
 	call	aes_narrow.aes_cipher.zeroize.stack.wipe_stack.1024
 	ld	a0, 0(sp)
 	ld	a1, 8(sp)
@@ -14620,7 +14620,7 @@ aes_narrow.key_wrap.steps.unwrap_in_place: # @aes_narrow.key_wrap.steps.unwrap_i
 	or	a1, a5, a6
 	mv	a2, sp
 	li	a3, 1
-	call	aes_narrow.aes_narrow.blocks.process_in_batches.2
+	call	aes_narrow.aes_narrow.blocks.process_all_batches.2
 	call	aes_narrow.aes_cipher.zeroize.stack.wipe_stack.1024
 	ld	a0, 0(sp)
 	ld	a1, 8(sp)
@@ -14799,7 +14799,7 @@ aes_narrow.key_wrap.steps.unwrap_in_place: # @aes_narrow.key_wrap.steps.unwrap_i
 	or	a1, a5, a6
 	mv	a2, sp
 	li	a3, 1
-	call	aes_narrow.aes_narrow.blocks.process_in_batches.2
+	call	aes_narrow.aes_narrow.blocks.process_all_batches.2
 	call	aes_narrow.aes_cipher.zeroize.stack.wipe_stack.1024
 	ld	a0, 0(sp)
 	ld	a1, 8(sp)
@@ -14977,7 +14977,7 @@ aes_narrow.key_wrap.steps.unwrap_in_place: # @aes_narrow.key_wrap.steps.unwrap_i
 	or	a1, a5, a6
 	mv	a2, sp
 	li	a3, 1
-	call	aes_narrow.aes_narrow.blocks.process_in_batches.2
+	call	aes_narrow.aes_narrow.blocks.process_all_batches.2
 	call	aes_narrow.aes_cipher.zeroize.stack.wipe_stack.1024
 	ld	a0, 0(sp)
 	ld	a1, 8(sp)
@@ -15154,7 +15154,7 @@ aes_narrow.key_wrap.steps.unwrap_in_place: # @aes_narrow.key_wrap.steps.unwrap_i
 	or	a1, a2, a6
 	mv	a2, sp
 	li	a3, 1
-	call	aes_narrow.aes_narrow.blocks.process_in_batches.2
+	call	aes_narrow.aes_narrow.blocks.process_all_batches.2
 	call	aes_narrow.aes_cipher.zeroize.stack.wipe_stack.1024
 	ld	a0, 0(sp)
 	ld	a1, 8(sp)
@@ -15431,7 +15431,7 @@ aes_narrow.key_wrap.padded.unwrap_padded: # @aes_narrow.key_wrap.padded.unwrap_p
 	or	a1, a2, s0
 	addi	a2, sp, 8
 	li	a3, 1
-	call	aes_narrow.aes_narrow.blocks.process_in_batches.2
+	call	aes_narrow.aes_narrow.blocks.process_all_batches.2
 	call	aes_narrow.aes_cipher.zeroize.stack.wipe_stack.1024
 	ld	a0, 16(sp)
 	ld	s4, 8(sp)
@@ -19766,7 +19766,7 @@ aes_narrow.ccm.message.put_tag: # @aes_narrow.ccm.message.put_tag
 	or	a1, a1, a3
 	li	a3, 1
 	mv	a2, s5
-	call	aes_narrow.aes_narrow.blocks.process_in_batches.1
+	call	aes_narrow.aes_narrow.blocks.process_all_batches.1
 	call	aes_narrow.aes_cipher.zeroize.stack.wipe_stack.1024
 	beqz	s6, .Laes_narrow_BB35_15
 # %bb.4:                                # %join.3.i
@@ -19951,7 +19951,7 @@ aes_narrow.ccm.message.put_tag: # @aes_narrow.ccm.message.put_tag
 	or	a1, a1, a2
 	li	a3, 1
 	mv	a2, s5
-	call	aes_narrow.aes_narrow.blocks.process_in_batches.1
+	call	aes_narrow.aes_narrow.blocks.process_all_batches.1
 	call	aes_narrow.aes_cipher.zeroize.stack.wipe_stack.1024
 	bgeu	s8, s6, .Laes_narrow_BB35_15
 # %bb.11:                               # %join.5.i45.i.preheader
@@ -20083,7 +20083,7 @@ aes_narrow.ccm.message.put_tag: # @aes_narrow.ccm.message.put_tag
 	or	a1, a1, a2
 	li	a3, 1
 	mv	a2, s5
-	call	aes_narrow.aes_narrow.blocks.process_in_batches.1
+	call	aes_narrow.aes_narrow.blocks.process_all_batches.1
 	call	aes_narrow.aes_cipher.zeroize.stack.wipe_stack.1024
 	addi	s8, s8, -1
 	addi	s3, s3, 16
@@ -20230,7 +20230,7 @@ aes_narrow.ccm.message.put_tag: # @aes_narrow.ccm.message.put_tag
 	or	a1, a1, a2
 	li	a3, 1
 	mv	a2, s5
-	call	aes_narrow.aes_narrow.blocks.process_in_batches.1
+	call	aes_narrow.aes_narrow.blocks.process_all_batches.1
 	call	aes_narrow.aes_cipher.zeroize.stack.wipe_stack.1024
 	addi	s7, s7, -1
 	addi	s2, s2, 16
@@ -20335,7 +20335,7 @@ aes_narrow.ccm.message.put_tag: # @aes_narrow.ccm.message.put_tag
 	or	a1, a3, s1
 	addi	a2, sp, 32
 	li	a3, 1
-	call	aes_narrow.aes_narrow.blocks.process_in_batches.1
+	call	aes_narrow.aes_narrow.blocks.process_all_batches.1
 	call	aes_narrow.aes_cipher.zeroize.stack.wipe_stack.1024
 	lbu	a6, 4(s5)
 	lbu	a7, 5(s5)
@@ -20784,7 +20784,7 @@ aes_narrow.fotsgure_aes_cbc_encrypt:               # @aes_narrow.fotsgure_aes_cb
 	li	a3, 1
 	mv	a0, s3
 	mv	a1, s4
-	call	aes_narrow.aes_narrow.blocks.process_in_batches.1
+	call	aes_narrow.aes_narrow.blocks.process_all_batches.1
 	call	aes_narrow.aes_cipher.zeroize.stack.wipe_stack.1024
 	lbu	a6, 8(sp)
 	lbu	a7, 9(sp)
@@ -21037,7 +21037,7 @@ aes_narrow.fotsgure_aes_encrypt_blocks:            # @aes_narrow.fotsgure_aes_en
 	slli	a2, a2, 12
 	add	a2, a2, a1
 	addi	a1, a4, 56
-	call	aes_narrow.aes_narrow.blocks.process_in_batches.1
+	call	aes_narrow.aes_narrow.blocks.process_all_batches.1
 	call	aes_narrow.aes_cipher.zeroize.stack.wipe_stack.1024
 	li	a2, 0
 	ld	ra, 8(sp)                       # 8-byte Folded Reload
@@ -21145,7 +21145,7 @@ aes_narrow.fotsgure_aes_encrypt_blocks_to:         # @aes_narrow.fotsgure_aes_en
 	addi	a1, a1, 56
 	mv	a2, s2
 	mv	a3, s4
-	call	aes_narrow.aes_narrow.blocks.process_in_batches.1
+	call	aes_narrow.aes_narrow.blocks.process_all_batches.1
 	call	aes_narrow.aes_cipher.zeroize.stack.wipe_stack.1024
 	li	a0, 0
 .Laes_narrow_BB42_9:
@@ -21225,7 +21225,7 @@ aes_narrow.fotsgure_aes_encrypt_blocks_with:       # @aes_narrow.fotsgure_aes_en
 	mv	a1, s5
 	mv	a2, s4
 	mv	a3, s2
-	call	aes_narrow.aes_narrow.blocks.process_in_batches.1
+	call	aes_narrow.aes_narrow.blocks.process_all_batches.1
 	call	aes_narrow.aes_cipher.zeroize.stack.wipe_stack.1024
 	sd	zero, 16(sp)
 	mv	a0, s3
@@ -21596,7 +21596,7 @@ aes_narrow.fotsgure_aes_decrypt_blocks:            # @aes_narrow.fotsgure_aes_de
 	slli	a2, a2, 12
 	add	a2, a2, a1
 	addi	a1, a4, 56
-	call	aes_narrow.aes_narrow.blocks.process_in_batches.2
+	call	aes_narrow.aes_narrow.blocks.process_all_batches.2
 	call	aes_narrow.aes_cipher.zeroize.stack.wipe_stack.1024
 	li	a2, 0
 	ld	ra, 8(sp)                       # 8-byte Folded Reload
@@ -21704,7 +21704,7 @@ aes_narrow.fotsgure_aes_decrypt_blocks_to:         # @aes_narrow.fotsgure_aes_de
 	addi	a1, a1, 56
 	mv	a2, s2
 	mv	a3, s4
-	call	aes_narrow.aes_narrow.blocks.process_in_batches.2
+	call	aes_narrow.aes_narrow.blocks.process_all_batches.2
 	call	aes_narrow.aes_cipher.zeroize.stack.wipe_stack.1024
 	li	a0, 0
 .Laes_narrow_BB51_9:
@@ -22344,7 +22344,7 @@ aes_narrow.fotsgure_aes_decrypt_blocks_with:       # @aes_narrow.fotsgure_aes_de
 	addi	a1, s0, 56
 	mv	a0, s2
 	mv	a3, s3
-	call	aes_narrow.aes_narrow.blocks.process_in_batches.2
+	call	aes_narrow.aes_narrow.blocks.process_all_batches.2
 	call	aes_narrow.aes_cipher.zeroize.stack.wipe_stack.1024
 	li	s1, 0
 .Laes_narrow_BB63_5:                               # %"aes_c::blocks::fotsgure_aes_decrypt_blocks.exit.i"
@@ -22558,5 +22558,5 @@ aes_narrow.fotsgure_aes_ccm_seal:                  # @aes_narrow.fotsgure_aes_cc
 	.long	9, 123, 1
 	.asciz	"Fotsgure"
 	.p2align	2, 0x0
-	.asciz	"fotsgure_aes 0.4.0, riscv64/aes_narrow.s, sources SHA-256 93c4c1f9a119daf9c53c1b84582bcba4455d731c78c61c0f0737ce65242a1d65"
+	.asciz	"fotsgure_aes 0.4.0, riscv64/aes_narrow.s, sources SHA-256 6a1cfde10f68c64d860ebcdaaa811215e142521dd923be252f5cd60ac9711c13"
 	.p2align	2, 0x0

@@ -4456,14 +4456,14 @@ gcm.gcm.mode.BorrowedGcm.put_tag: # @gcm.gcm.mode.BorrowedGcm.put_tag
 	call	gcm.gcm.multiples.Multiples.three_products
 	addi	s1, s1, 48
 	bne	s1, s8, .Lgcm_BB18_4
-# %bb.5:                                # %"gcm::hash::hash_string_and::<#4e0b07d5b1f54653>.exit.loopexit.i.i"
+# %bb.5:                                # %"gcm::hash::hash_string_and_end::<#4e0b07d5b1f54653>.exit.loopexit.i.i"
 	vsetivli	zero, 16, e8, m1, ta, ma
 	vle8.v	v12, (s0)
 	csrr	a0, vlenb
 	add	a0, a0, sp
 	addi	a0, a0, 64
 	vl1r.v	v10, (a0)                       # vscale x 8-byte Folded Reload
-.Lgcm_BB18_6:                               # %"gcm::hash::hash_string_and::<#4e0b07d5b1f54653>.exit.i.i"
+.Lgcm_BB18_6:                               # %"gcm::hash::hash_string_and_end::<#4e0b07d5b1f54653>.exit.i.i"
 	vsetivli	zero, 2, e64, m1, ta, ma
 	vmv.v.i	v11, 0
 	addi	a0, sp, 16
@@ -15539,7 +15539,7 @@ gcm.gcm_siv.message.put_tag.2: # @gcm.gcm_siv.message.put_tag.2
 	call	gcm.gcm.multiples.Multiples.three_products
 	addi	s0, s0, 48
 	bne	s0, s2, .Lgcm_BB51_21
-# %bb.22:                               # %"gcm::hash::hash_string_and::<#1ace2c8123f9d1c9>.exit.loopexit.i"
+# %bb.22:                               # %"gcm::hash::hash_string_and_end::<#1ace2c8123f9d1c9>.exit.loopexit.i"
 	vsetivli	zero, 16, e8, m1, ta, ma
 	vle8.v	v11, (s1)
 	vsetivli	zero, 2, e64, m1, ta, ma
@@ -15549,7 +15549,7 @@ gcm.gcm_siv.message.put_tag.2: # @gcm.gcm_siv.message.put_tag.2
 	add	a0, a0, sp
 	addi	a0, a0, 96
 	vl1r.v	v12, (a0)                       # vscale x 8-byte Folded Reload
-.Lgcm_BB51_23:                              # %"gcm::hash::hash_string_and::<#1ace2c8123f9d1c9>.exit.i"
+.Lgcm_BB51_23:                              # %"gcm::hash::hash_string_and_end::<#1ace2c8123f9d1c9>.exit.i"
 	addi	a0, sp, 32
 	add	a1, s8, s7
 	vsetivli	zero, 2, e64, m1, ta, ma
@@ -20056,5 +20056,5 @@ gcm.fotsgure_gcm_accept_short:              # @gcm.fotsgure_gcm_accept_short
 	.long	9, 116, 1
 	.asciz	"Fotsgure"
 	.p2align	2, 0x0
-	.asciz	"fotsgure_gcm 0.4.0, riscv64/gcm.s, sources SHA-256 208602ae32e5dd5d4aa7a028ebc59ad6269492290ae4be105a6461c3e77eec69"
+	.asciz	"fotsgure_gcm 0.4.0, riscv64/gcm.s, sources SHA-256 2b79346c77bb0404dbcf8d7bfc3c037715623eca5ddd3ec8b81ec3dcd0649018"
 	.p2align	2, 0x0

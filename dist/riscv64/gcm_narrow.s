@@ -3595,7 +3595,7 @@ gcm_narrow.gcm.mode.BorrowedGcm.put_tag_so_far: # @gcm_narrow.gcm.mode.BorrowedG
 	li	a3, 1
 	li	s3, 1
 	mv	a2, s5
-	call	gcm_narrow.aes_narrow.blocks.process_in_batches
+	call	gcm_narrow.aes_narrow.blocks.process_all_batches
 	call	gcm_narrow.aes_cipher.zeroize.stack.wipe_stack.1024
 	ld	s1, 16(s1)
 	mv	a0, s1
@@ -3862,10 +3862,10 @@ gcm_narrow.gcm.mode.BorrowedGcm.put_tag_so_far: # @gcm_narrow.gcm.mode.BorrowedG
 .Lgcm_narrow_func_end10:
 	.size	gcm_narrow.gcm.mode.BorrowedGcm.put_tag_so_far, .Lgcm_narrow_func_end10-gcm_narrow.gcm.mode.BorrowedGcm.put_tag_so_far
                                         # -- End function
-	.section	.text.gcm_narrow.aes_narrow.blocks.process_in_batches,"ax",@progbits
-	.p2align	1                               # -- Begin function aes_narrow::blocks::process_in_batches::<#6ca5080f6f2d303b>
-	.type	gcm_narrow.aes_narrow.blocks.process_in_batches,@function
-gcm_narrow.aes_narrow.blocks.process_in_batches: # @gcm_narrow.aes_narrow.blocks.process_in_batches
+	.section	.text.gcm_narrow.aes_narrow.blocks.process_all_batches,"ax",@progbits
+	.p2align	1                               # -- Begin function aes_narrow::blocks::process_all_batches::<#6ca5080f6f2d303b>
+	.type	gcm_narrow.aes_narrow.blocks.process_all_batches,@function
+gcm_narrow.aes_narrow.blocks.process_all_batches: # @gcm_narrow.aes_narrow.blocks.process_all_batches
 # %bb.0:                                # %start
 	addi	sp, sp, -48
 	sd	ra, 40(sp)                      # 8-byte Folded Spill
@@ -3909,7 +3909,7 @@ gcm_narrow.aes_narrow.blocks.process_in_batches: # @gcm_narrow.aes_narrow.blocks
 	addi	sp, sp, 48
 	ret
 .Lgcm_narrow_func_end11:
-	.size	gcm_narrow.aes_narrow.blocks.process_in_batches, .Lgcm_narrow_func_end11-gcm_narrow.aes_narrow.blocks.process_in_batches
+	.size	gcm_narrow.aes_narrow.blocks.process_all_batches, .Lgcm_narrow_func_end11-gcm_narrow.aes_narrow.blocks.process_all_batches
                                         # -- End function
 	.section	.text.gcm_narrow.aes_narrow.blocks.process_filled_up,"ax",@progbits
 	.p2align	1                               # -- Begin function aes_narrow::blocks::process_filled_up::<#6ca5080f6f2d303b>
@@ -7507,7 +7507,7 @@ gcm_narrow.gcm.mode.put_subkey: # @gcm_narrow.gcm.mode.put_subkey
 	sd	zero, 16(sp)
 	addi	a2, sp, 8
 	li	a3, 1
-	call	gcm_narrow.aes_narrow.blocks.process_in_batches
+	call	gcm_narrow.aes_narrow.blocks.process_all_batches
 	call	gcm_narrow.aes_cipher.zeroize.stack.wipe_stack.1024
 	ld	a0, 16(sp)
 	ld	a1, 8(sp)
@@ -7697,7 +7697,7 @@ gcm_narrow.gcm.mode.BorrowedGcm.put_tag: # @gcm_narrow.gcm.mode.BorrowedGcm.put_
 	or	a1, a1, a5
 	li	a3, 1
 	mv	a2, s0
-	call	gcm_narrow.aes_narrow.blocks.process_in_batches
+	call	gcm_narrow.aes_narrow.blocks.process_all_batches
 	call	gcm_narrow.aes_cipher.zeroize.stack.wipe_stack.1024
 	ld	a1, 16(s1)
 	li	s4, 255
@@ -8308,7 +8308,7 @@ gcm_narrow.gcm.gctr.add_gctr: # @gcm_narrow.gcm.gctr.add_gctr
 	addi	a2, sp, 40
 	li	a3, 1
 	addi	s1, sp, 40
-	call	gcm_narrow.aes_narrow.blocks.process_in_batches
+	call	gcm_narrow.aes_narrow.blocks.process_all_batches
 	call	gcm_narrow.aes_cipher.zeroize.stack.wipe_stack.1024
 	beqz	s4, .Lgcm_narrow_BB20_14
 # %bb.4:                                # %then.1.i.i.i
@@ -9769,7 +9769,7 @@ gcm_narrow.gcm_c.siv.prepare: # @gcm_narrow.gcm_c.siv.prepare
 	mv	a2, sp
 	mv	a0, s4
 	mv	a1, s5
-	call	gcm_narrow.aes_narrow.blocks.process_in_batches
+	call	gcm_narrow.aes_narrow.blocks.process_all_batches
 	call	gcm_narrow.aes_cipher.zeroize.stack.wipe_stack.1024
 	lbu	a7, 7(sp)
 	lwu	a0, 16(sp)
@@ -10012,7 +10012,7 @@ gcm_narrow.gcm_siv.message.open: # @gcm_narrow.gcm_siv.message.open
 	li	a3, 1
 	mv	a0, s8
 	mv	a1, s9
-	call	gcm_narrow.aes_narrow.blocks.process_in_batches
+	call	gcm_narrow.aes_narrow.blocks.process_all_batches
 	call	gcm_narrow.aes_cipher.zeroize.stack.wipe_stack.1024
 	beqz	s2, .Lgcm_narrow_BB29_7
 # %bb.2:                                # %then.1.i.i.i
@@ -10273,7 +10273,7 @@ gcm_narrow.gcm_siv.message.open: # @gcm_narrow.gcm_siv.message.open
 	li	a3, 1
 	mv	a0, s3
 	mv	a1, s4
-	call	gcm_narrow.aes_narrow.blocks.process_in_batches
+	call	gcm_narrow.aes_narrow.blocks.process_all_batches
 	call	gcm_narrow.aes_cipher.zeroize.stack.wipe_stack.1024
 	beqz	s2, .Lgcm_narrow_BB29_15
 # %bb.10:                               # %then.1.i.i.i20
@@ -10749,7 +10749,7 @@ gcm_narrow.gcm_siv.message.put_tag: # @gcm_narrow.gcm_siv.message.put_tag
 	or	a1, a1, a2
 	li	a3, 1
 	mv	a2, s3
-	call	gcm_narrow.aes_narrow.blocks.process_in_batches
+	call	gcm_narrow.aes_narrow.blocks.process_all_batches
 	ld	ra, 136(sp)                     # 8-byte Folded Reload
 	ld	s0, 128(sp)                     # 8-byte Folded Reload
 	ld	s1, 120(sp)                     # 8-byte Folded Reload
@@ -12065,7 +12065,7 @@ gcm_narrow.gcm_siv.message.seal: # @gcm_narrow.gcm_siv.message.seal
 	li	a3, 1
 	mv	a0, s4
 	mv	a1, s6
-	call	gcm_narrow.aes_narrow.blocks.process_in_batches
+	call	gcm_narrow.aes_narrow.blocks.process_all_batches
 	call	gcm_narrow.aes_cipher.zeroize.stack.wipe_stack.1024
 	beqz	s3, .Lgcm_narrow_BB37_7
 # %bb.2:                                # %then.1.i.i.i
@@ -15754,5 +15754,5 @@ gcm_narrow.fotsgure_gcm_accept_short:              # @gcm_narrow.fotsgure_gcm_ac
 	.long	9, 123, 1
 	.asciz	"Fotsgure"
 	.p2align	2, 0x0
-	.asciz	"fotsgure_gcm 0.4.0, riscv64/gcm_narrow.s, sources SHA-256 208602ae32e5dd5d4aa7a028ebc59ad6269492290ae4be105a6461c3e77eec69"
+	.asciz	"fotsgure_gcm 0.4.0, riscv64/gcm_narrow.s, sources SHA-256 2b79346c77bb0404dbcf8d7bfc3c037715623eca5ddd3ec8b81ec3dcd0649018"
 	.p2align	2, 0x0

@@ -4086,7 +4086,7 @@ aes_v6m.aes_ctr.add_in_batches.add_keystream: @ @aes_v6m.aes_ctr.add_in_batches.
 	lsls	r4, r4, #24
 	adds	r3, r4, r3
 	adds	r3, r3, r1
-	bl	aes_v6m.aes_narrow.blocks.process_in_batches.1
+	bl	aes_v6m.aes_narrow.blocks.process_all_batches.1
 	bl	aes_v6m.aes_cipher.zeroize.stack.wipe_stack.1024
 	cmp	r7, #0
 	beq	.Laes_v6m_BB3_11
@@ -4486,12 +4486,12 @@ aes_v6m.aes_ctr.add_in_batches.add_keystream: @ @aes_v6m.aes_ctr.add_in_batches.
 	.cantunwind
 	.fnend
                                         @ -- End function
-	.section	.text.aes_v6m.aes_narrow.blocks.process_in_batches.1,"ax",%progbits
-	.p2align	1                               @ -- Begin function aes_narrow::blocks::process_in_batches::<#1a21aa7f601e7603>
-	.type	aes_v6m.aes_narrow.blocks.process_in_batches.1,%function
+	.section	.text.aes_v6m.aes_narrow.blocks.process_all_batches.1,"ax",%progbits
+	.p2align	1                               @ -- Begin function aes_narrow::blocks::process_all_batches::<#1a21aa7f601e7603>
+	.type	aes_v6m.aes_narrow.blocks.process_all_batches.1,%function
 	.code	16
 	.thumb_func
-aes_v6m.aes_narrow.blocks.process_in_batches.1: @ @aes_v6m.aes_narrow.blocks.process_in_batches.1
+aes_v6m.aes_narrow.blocks.process_all_batches.1: @ @aes_v6m.aes_narrow.blocks.process_all_batches.1
 	.fnstart
 @ %bb.0:                                @ %start
 	.save	{r4, r5, r6, r7, lr}
@@ -4555,7 +4555,7 @@ aes_v6m.aes_narrow.blocks.process_in_batches.1: @ @aes_v6m.aes_narrow.blocks.pro
 	add	sp, #44
 	pop	{r4, r5, r6, r7, pc}
 .Laes_v6m_func_end4:
-	.size	aes_v6m.aes_narrow.blocks.process_in_batches.1, .Laes_v6m_func_end4-aes_v6m.aes_narrow.blocks.process_in_batches.1
+	.size	aes_v6m.aes_narrow.blocks.process_all_batches.1, .Laes_v6m_func_end4-aes_v6m.aes_narrow.blocks.process_all_batches.1
 	.cantunwind
 	.fnend
                                         @ -- End function
@@ -10373,7 +10373,7 @@ aes_v6m.cmac.tags.tag: @ @aes_v6m.cmac.tags.tag
 	lsls	r6, r6, #24
 	adds	r3, r6, r3
 	adds	r3, r3, r1
-	bl	aes_v6m.aes_narrow.blocks.process_in_batches.1
+	bl	aes_v6m.aes_narrow.blocks.process_all_batches.1
 	bl	aes_v6m.aes_cipher.zeroize.stack.wipe_stack.1024
 	str	r7, [sp, #100]
 	str	r7, [sp, #104]
@@ -10703,7 +10703,7 @@ aes_v6m.cmac.tags.tag: @ @aes_v6m.cmac.tags.tag
 	lsls	r4, r4, #24
 	adds	r3, r4, r3
 	adds	r3, r3, r1
-	bl	aes_v6m.aes_narrow.blocks.process_in_batches.1
+	bl	aes_v6m.aes_narrow.blocks.process_all_batches.1
 	bl	aes_v6m.aes_cipher.zeroize.stack.wipe_stack.1024
 	movs	r2, #16
 	ldr	r0, [sp, #80]                   @ 4-byte Reload
@@ -10941,7 +10941,7 @@ aes_v6m.cmac.chaining.chain: @ @aes_v6m.cmac.chaining.chain
 	lsls	r4, r4, #24
 	adds	r3, r4, r3
 	adds	r3, r3, r1
-	bl	aes_v6m.aes_narrow.blocks.process_in_batches.1
+	bl	aes_v6m.aes_narrow.blocks.process_all_batches.1
 	ldr	r4, [sp, #152]                  @ 4-byte Reload
 	adds	r4, r4, #1
 	ldr	r6, [sp, #148]                  @ 4-byte Reload
@@ -11574,7 +11574,7 @@ aes_v6m.key_wrap.steps.wrap_in_place: @ @aes_v6m.key_wrap.steps.wrap_in_place
 	lsls	r7, r7, #24
 	adds	r3, r7, r3
 	adds	r3, r3, r1
-	bl	aes_v6m.aes_narrow.blocks.process_in_batches.1
+	bl	aes_v6m.aes_narrow.blocks.process_all_batches.1
 	bl	aes_v6m.aes_cipher.zeroize.stack.wipe_stack.1024
 	ldr	r0, [sp, #108]
 	strb	r0, [r5, #4]
@@ -11763,7 +11763,7 @@ aes_v6m.key_wrap.steps.wrap_in_place: @ @aes_v6m.key_wrap.steps.wrap_in_place
 	lsls	r7, r7, #24
 	adds	r3, r7, r3
 	adds	r3, r3, r1
-	bl	aes_v6m.aes_narrow.blocks.process_in_batches.1
+	bl	aes_v6m.aes_narrow.blocks.process_all_batches.1
 	bl	aes_v6m.aes_cipher.zeroize.stack.wipe_stack.1024
 	ldr	r0, [sp, #108]
 	strb	r0, [r5, #4]
@@ -11955,7 +11955,7 @@ aes_v6m.key_wrap.steps.wrap_in_place: @ @aes_v6m.key_wrap.steps.wrap_in_place
 	lsls	r7, r7, #24
 	adds	r3, r7, r3
 	adds	r3, r3, r1
-	bl	aes_v6m.aes_narrow.blocks.process_in_batches.1
+	bl	aes_v6m.aes_narrow.blocks.process_all_batches.1
 	bl	aes_v6m.aes_cipher.zeroize.stack.wipe_stack.1024
 	ldr	r0, [sp, #108]
 	strb	r0, [r5, #4]
@@ -12149,7 +12149,7 @@ aes_v6m.key_wrap.steps.wrap_in_place: @ @aes_v6m.key_wrap.steps.wrap_in_place
 	lsls	r7, r7, #24
 	adds	r3, r7, r3
 	adds	r3, r3, r1
-	bl	aes_v6m.aes_narrow.blocks.process_in_batches.1
+	bl	aes_v6m.aes_narrow.blocks.process_all_batches.1
 	bl	aes_v6m.aes_cipher.zeroize.stack.wipe_stack.1024
 	ldr	r0, [sp, #108]
 	strb	r0, [r5, #4]
@@ -12343,7 +12343,7 @@ aes_v6m.key_wrap.steps.wrap_in_place: @ @aes_v6m.key_wrap.steps.wrap_in_place
 	lsls	r7, r7, #24
 	adds	r3, r7, r3
 	adds	r3, r3, r1
-	bl	aes_v6m.aes_narrow.blocks.process_in_batches.1
+	bl	aes_v6m.aes_narrow.blocks.process_all_batches.1
 	bl	aes_v6m.aes_cipher.zeroize.stack.wipe_stack.1024
 	ldr	r0, [sp, #108]
 	strb	r0, [r5, #4]
@@ -12538,7 +12538,7 @@ aes_v6m.key_wrap.steps.wrap_in_place: @ @aes_v6m.key_wrap.steps.wrap_in_place
 	lsls	r7, r7, #24
 	adds	r3, r7, r3
 	adds	r3, r3, r1
-	bl	aes_v6m.aes_narrow.blocks.process_in_batches.1
+	bl	aes_v6m.aes_narrow.blocks.process_all_batches.1
 	bl	aes_v6m.aes_cipher.zeroize.stack.wipe_stack.1024
 	ldr	r0, [sp, #108]
 	strb	r0, [r5, #4]
@@ -13224,7 +13224,7 @@ aes_v6m.key_wrap.padded.wrap_padded: @ @aes_v6m.key_wrap.padded.wrap_padded
 	lsls	r5, r5, #24
 	adds	r3, r5, r3
 	adds	r3, r3, r1
-	bl	aes_v6m.aes_narrow.blocks.process_in_batches.1
+	bl	aes_v6m.aes_narrow.blocks.process_all_batches.1
 	bl	aes_v6m.aes_cipher.zeroize.stack.wipe_stack.1024
 	mov	r0, r6
 	ldr	r3, [sp, #92]
@@ -18738,12 +18738,12 @@ aes_v6m.aes_narrow.blocks.process_state.2: @ @aes_v6m.aes_narrow.blocks.process_
 	.cantunwind
 	.fnend
                                         @ -- End function
-	.section	.text.aes_v6m.aes_narrow.blocks.process_in_batches.2,"ax",%progbits
-	.p2align	1                               @ -- Begin function aes_narrow::blocks::process_in_batches::<#a3dcb71d05bd149b>
-	.type	aes_v6m.aes_narrow.blocks.process_in_batches.2,%function
+	.section	.text.aes_v6m.aes_narrow.blocks.process_all_batches.2,"ax",%progbits
+	.p2align	1                               @ -- Begin function aes_narrow::blocks::process_all_batches::<#a3dcb71d05bd149b>
+	.type	aes_v6m.aes_narrow.blocks.process_all_batches.2,%function
 	.code	16
 	.thumb_func
-aes_v6m.aes_narrow.blocks.process_in_batches.2: @ @aes_v6m.aes_narrow.blocks.process_in_batches.2
+aes_v6m.aes_narrow.blocks.process_all_batches.2: @ @aes_v6m.aes_narrow.blocks.process_all_batches.2
 	.fnstart
 @ %bb.0:                                @ %start
 	.save	{r4, r5, r6, r7, lr}
@@ -18807,7 +18807,7 @@ aes_v6m.aes_narrow.blocks.process_in_batches.2: @ @aes_v6m.aes_narrow.blocks.pro
 	add	sp, #44
 	pop	{r4, r5, r6, r7, pc}
 .Laes_v6m_func_end23:
-	.size	aes_v6m.aes_narrow.blocks.process_in_batches.2, .Laes_v6m_func_end23-aes_v6m.aes_narrow.blocks.process_in_batches.2
+	.size	aes_v6m.aes_narrow.blocks.process_all_batches.2, .Laes_v6m_func_end23-aes_v6m.aes_narrow.blocks.process_all_batches.2
 	.cantunwind
 	.fnend
                                         @ -- End function
@@ -19426,7 +19426,7 @@ aes_v6m.key_wrap.steps.unwrap_in_place: @ @aes_v6m.key_wrap.steps.unwrap_in_plac
 	adds	r3, r7, r3
 	ldr	r7, [sp, #84]                   @ 4-byte Reload
 	adds	r3, r3, r1
-	bl	aes_v6m.aes_narrow.blocks.process_in_batches.2
+	bl	aes_v6m.aes_narrow.blocks.process_all_batches.2
 	bl	aes_v6m.aes_cipher.zeroize.stack.wipe_stack.1024
 	ldr	r0, [sp, #100]
 	strb	r0, [r5, #4]
@@ -19620,7 +19620,7 @@ aes_v6m.key_wrap.steps.unwrap_in_place: @ @aes_v6m.key_wrap.steps.unwrap_in_plac
 	adds	r3, r7, r3
 	ldr	r7, [sp, #84]                   @ 4-byte Reload
 	adds	r3, r3, r1
-	bl	aes_v6m.aes_narrow.blocks.process_in_batches.2
+	bl	aes_v6m.aes_narrow.blocks.process_all_batches.2
 	bl	aes_v6m.aes_cipher.zeroize.stack.wipe_stack.1024
 	ldr	r0, [sp, #100]
 	strb	r0, [r5, #4]
@@ -19816,7 +19816,7 @@ aes_v6m.key_wrap.steps.unwrap_in_place: @ @aes_v6m.key_wrap.steps.unwrap_in_plac
 	adds	r3, r7, r3
 	ldr	r7, [sp, #84]                   @ 4-byte Reload
 	adds	r3, r3, r1
-	bl	aes_v6m.aes_narrow.blocks.process_in_batches.2
+	bl	aes_v6m.aes_narrow.blocks.process_all_batches.2
 	bl	aes_v6m.aes_cipher.zeroize.stack.wipe_stack.1024
 	ldr	r0, [sp, #100]
 	strb	r0, [r5, #4]
@@ -20010,7 +20010,7 @@ aes_v6m.key_wrap.steps.unwrap_in_place: @ @aes_v6m.key_wrap.steps.unwrap_in_plac
 	adds	r3, r7, r3
 	ldr	r7, [sp, #84]                   @ 4-byte Reload
 	adds	r3, r3, r1
-	bl	aes_v6m.aes_narrow.blocks.process_in_batches.2
+	bl	aes_v6m.aes_narrow.blocks.process_all_batches.2
 	bl	aes_v6m.aes_cipher.zeroize.stack.wipe_stack.1024
 	ldr	r0, [sp, #100]
 	strb	r0, [r5, #4]
@@ -20202,7 +20202,7 @@ aes_v6m.key_wrap.steps.unwrap_in_place: @ @aes_v6m.key_wrap.steps.unwrap_in_plac
 	adds	r3, r7, r3
 	ldr	r7, [sp, #84]                   @ 4-byte Reload
 	adds	r3, r3, r1
-	bl	aes_v6m.aes_narrow.blocks.process_in_batches.2
+	bl	aes_v6m.aes_narrow.blocks.process_all_batches.2
 	bl	aes_v6m.aes_cipher.zeroize.stack.wipe_stack.1024
 	ldr	r0, [sp, #100]
 	strb	r0, [r5, #4]
@@ -20385,7 +20385,7 @@ aes_v6m.key_wrap.steps.unwrap_in_place: @ @aes_v6m.key_wrap.steps.unwrap_in_plac
 	lsls	r4, r4, #24
 	adds	r3, r4, r3
 	adds	r3, r3, r1
-	bl	aes_v6m.aes_narrow.blocks.process_in_batches.2
+	bl	aes_v6m.aes_narrow.blocks.process_all_batches.2
 	bl	aes_v6m.aes_cipher.zeroize.stack.wipe_stack.1024
 	ldr	r0, [sp, #100]
 	strb	r0, [r5, #4]
@@ -20919,7 +20919,7 @@ aes_v6m.key_wrap.padded.unwrap_padded: @ @aes_v6m.key_wrap.padded.unwrap_padded
 	lsls	r4, r4, #24
 	adds	r3, r4, r3
 	adds	r3, r3, r1
-	bl	aes_v6m.aes_narrow.blocks.process_in_batches.2
+	bl	aes_v6m.aes_narrow.blocks.process_all_batches.2
 	bl	aes_v6m.aes_cipher.zeroize.stack.wipe_stack.1024
 	ldr	r0, [sp, #116]
 	strb	r0, [r7, #4]
@@ -25559,7 +25559,7 @@ aes_v6m.ccm.message.put_tag: @ @aes_v6m.ccm.message.put_tag
 	lsls	r5, r5, #24
 	adds	r3, r5, r3
 	adds	r3, r3, r1
-	bl	aes_v6m.aes_narrow.blocks.process_in_batches.1
+	bl	aes_v6m.aes_narrow.blocks.process_all_batches.1
 	bl	aes_v6m.aes_cipher.zeroize.stack.wipe_stack.1024
 	ldr	r0, [sp, #84]                   @ 4-byte Reload
 	cmp	r0, #0
@@ -25765,7 +25765,7 @@ aes_v6m.ccm.message.put_tag: @ @aes_v6m.ccm.message.put_tag
 	lsls	r6, r6, #24
 	adds	r3, r6, r3
 	adds	r3, r3, r1
-	bl	aes_v6m.aes_narrow.blocks.process_in_batches.1
+	bl	aes_v6m.aes_narrow.blocks.process_all_batches.1
 	bl	aes_v6m.aes_cipher.zeroize.stack.wipe_stack.1024
 	ldrb	r0, [r4, #15]
 	ldrb	r1, [r5, #15]
@@ -26253,7 +26253,7 @@ aes_v6m.fotsgure_aes_encrypt_blocks:            @ @aes_v6m.fotsgure_aes_encrypt_
 	adds	r2, #56
 	adcs	r3, r4
 	adds	r0, r0, #4
-	bl	aes_v6m.aes_narrow.blocks.process_in_batches.1
+	bl	aes_v6m.aes_narrow.blocks.process_all_batches.1
 	bl	aes_v6m.aes_cipher.zeroize.stack.wipe_stack.1024
 	mov	r0, r4
 	add	sp, #16
@@ -26314,7 +26314,7 @@ aes_v6m.fotsgure_aes_decrypt_blocks:            @ @aes_v6m.fotsgure_aes_decrypt_
 	adds	r2, #56
 	adcs	r3, r4
 	adds	r0, r0, #4
-	bl	aes_v6m.aes_narrow.blocks.process_in_batches.2
+	bl	aes_v6m.aes_narrow.blocks.process_all_batches.2
 	bl	aes_v6m.aes_cipher.zeroize.stack.wipe_stack.1024
 	mov	r0, r4
 	add	sp, #16
@@ -26510,7 +26510,7 @@ aes_v6m.fotsgure_aes_encrypt_blocks_to:         @ @aes_v6m.fotsgure_aes_encrypt_
 	lsls	r2, r1, #1
 	adds	r2, #56
 	adcs	r3, r5
-	bl	aes_v6m.aes_narrow.blocks.process_in_batches.1
+	bl	aes_v6m.aes_narrow.blocks.process_all_batches.1
 	bl	aes_v6m.aes_cipher.zeroize.stack.wipe_stack.1024
 	mov	r0, r5
 	add	sp, #52
@@ -26716,7 +26716,7 @@ aes_v6m.fotsgure_aes_decrypt_blocks_to:         @ @aes_v6m.fotsgure_aes_decrypt_
 	lsls	r2, r1, #1
 	adds	r2, #56
 	adcs	r3, r5
-	bl	aes_v6m.aes_narrow.blocks.process_in_batches.2
+	bl	aes_v6m.aes_narrow.blocks.process_all_batches.2
 	bl	aes_v6m.aes_cipher.zeroize.stack.wipe_stack.1024
 	mov	r0, r5
 	add	sp, #52
@@ -27275,7 +27275,7 @@ aes_v6m.fotsgure_aes_cbc_encrypt:               @ @aes_v6m.fotsgure_aes_cbc_encr
 	str	r6, [sp]
 	add	r3, sp, #20
 	ldm	r3, {r0, r2, r3}                @ 12-byte Folded Reload
-	bl	aes_v6m.aes_narrow.blocks.process_in_batches.1
+	bl	aes_v6m.aes_narrow.blocks.process_all_batches.1
 	bl	aes_v6m.aes_cipher.zeroize.stack.wipe_stack.1024
 	ldrb	r3, [r6]
 	ldr	r0, [sp, #104]                  @ 4-byte Reload
@@ -28451,7 +28451,7 @@ aes_v6m.fotsgure_aes_encrypt_blocks_with:       @ @aes_v6m.fotsgure_aes_encrypt_
 	adds	r2, #56
 	adcs	r3, r4
 	mov	r0, r7
-	bl	aes_v6m.aes_narrow.blocks.process_in_batches.1
+	bl	aes_v6m.aes_narrow.blocks.process_all_batches.1
 	bl	aes_v6m.aes_cipher.zeroize.stack.wipe_stack.1024
 	str	r4, [sp, #32]
 	mov	r0, r7
@@ -28561,7 +28561,7 @@ aes_v6m.fotsgure_aes_decrypt_blocks_with:       @ @aes_v6m.fotsgure_aes_decrypt_
 	adcs	r3, r7
 	ldr	r4, [sp, #28]                   @ 4-byte Reload
 	mov	r0, r4
-	bl	aes_v6m.aes_narrow.blocks.process_in_batches.2
+	bl	aes_v6m.aes_narrow.blocks.process_all_batches.2
 	bl	aes_v6m.aes_cipher.zeroize.stack.wipe_stack.1024
 	mov	r6, r7
 .Laes_v6m_BB66_11:                              @ %"aes_c::blocks::fotsgure_aes_decrypt_blocks.exit.i.i"
@@ -28734,5 +28734,5 @@ aes_v6m.fotsgure_aes_add_keystream_with:        @ @aes_v6m.fotsgure_aes_add_keys
 	.long	9, 118, 1
 	.asciz	"Fotsgure"
 	.p2align	2, 0x0
-	.asciz	"fotsgure_aes 0.4.0, thumb/aes_v6m.s, sources SHA-256 93c4c1f9a119daf9c53c1b84582bcba4455d731c78c61c0f0737ce65242a1d65"
+	.asciz	"fotsgure_aes 0.4.0, thumb/aes_v6m.s, sources SHA-256 6a1cfde10f68c64d860ebcdaaa811215e142521dd923be252f5cd60ac9711c13"
 	.p2align	2, 0x0

@@ -2170,7 +2170,7 @@ aes_v6m_small.aes_ctr.add_in_batches.add_to_one: @ @aes_v6m_small.aes_ctr.add_in
 	lsls	r4, r4, #24
 	adds	r3, r4, r3
 	adds	r3, r3, r1
-	bl	aes_v6m_small.aes_narrow.blocks.process_in_batches.1
+	bl	aes_v6m_small.aes_narrow.blocks.process_all_batches.1
 	bl	aes_v6m_small.aes_cipher.zeroize.stack.wipe_stack.1024
 	ldr	r0, [sp, #108]
 	str	r0, [sp, #12]
@@ -2355,12 +2355,12 @@ aes_v6m_small.aes_ctr.counter_blocks.WholeBlockCounterBlocks.put: @ @aes_v6m_sma
 	.cantunwind
 	.fnend
                                         @ -- End function
-	.section	.text.aes_v6m_small.aes_narrow.blocks.process_in_batches.1,"ax",%progbits
-	.p2align	1                               @ -- Begin function aes_narrow::blocks::process_in_batches::<#1a21aa7f601e7603>
-	.type	aes_v6m_small.aes_narrow.blocks.process_in_batches.1,%function
+	.section	.text.aes_v6m_small.aes_narrow.blocks.process_all_batches.1,"ax",%progbits
+	.p2align	1                               @ -- Begin function aes_narrow::blocks::process_all_batches::<#1a21aa7f601e7603>
+	.type	aes_v6m_small.aes_narrow.blocks.process_all_batches.1,%function
 	.code	16
 	.thumb_func
-aes_v6m_small.aes_narrow.blocks.process_in_batches.1: @ @aes_v6m_small.aes_narrow.blocks.process_in_batches.1
+aes_v6m_small.aes_narrow.blocks.process_all_batches.1: @ @aes_v6m_small.aes_narrow.blocks.process_all_batches.1
 	.fnstart
 @ %bb.0:                                @ %start
 	.save	{r4, r5, r6, r7, lr}
@@ -2424,7 +2424,7 @@ aes_v6m_small.aes_narrow.blocks.process_in_batches.1: @ @aes_v6m_small.aes_narro
 	add	sp, #44
 	pop	{r4, r5, r6, r7, pc}
 .Laes_v6m_small_func_end24:
-	.size	aes_v6m_small.aes_narrow.blocks.process_in_batches.1, .Laes_v6m_small_func_end24-aes_v6m_small.aes_narrow.blocks.process_in_batches.1
+	.size	aes_v6m_small.aes_narrow.blocks.process_all_batches.1, .Laes_v6m_small_func_end24-aes_v6m_small.aes_narrow.blocks.process_all_batches.1
 	.cantunwind
 	.fnend
                                         @ -- End function
@@ -5153,7 +5153,7 @@ aes_v6m_small.cmac.tags.tag: @ @aes_v6m_small.cmac.tags.tag
 	lsls	r6, r6, #24
 	adds	r3, r6, r3
 	adds	r3, r3, r1
-	bl	aes_v6m_small.aes_narrow.blocks.process_in_batches.1
+	bl	aes_v6m_small.aes_narrow.blocks.process_all_batches.1
 	bl	aes_v6m_small.aes_cipher.zeroize.stack.wipe_stack.1024
 	str	r7, [sp, #100]
 	str	r7, [sp, #104]
@@ -5483,7 +5483,7 @@ aes_v6m_small.cmac.tags.tag: @ @aes_v6m_small.cmac.tags.tag
 	lsls	r4, r4, #24
 	adds	r3, r4, r3
 	adds	r3, r3, r1
-	bl	aes_v6m_small.aes_narrow.blocks.process_in_batches.1
+	bl	aes_v6m_small.aes_narrow.blocks.process_all_batches.1
 	bl	aes_v6m_small.aes_cipher.zeroize.stack.wipe_stack.1024
 	movs	r2, #16
 	ldr	r0, [sp, #80]                   @ 4-byte Reload
@@ -5715,7 +5715,7 @@ aes_v6m_small.cmac.chaining.chain: @ @aes_v6m_small.cmac.chaining.chain
 	lsls	r4, r4, #24
 	adds	r3, r4, r3
 	adds	r3, r3, r1
-	bl	aes_v6m_small.aes_narrow.blocks.process_in_batches.1
+	bl	aes_v6m_small.aes_narrow.blocks.process_all_batches.1
 	ldr	r4, [sp, #152]                  @ 4-byte Reload
 	adds	r4, r4, #1
 	ldr	r6, [sp, #148]                  @ 4-byte Reload
@@ -6330,7 +6330,7 @@ aes_v6m_small.key_wrap.wrapping.wrap: @ @aes_v6m_small.key_wrap.wrapping.wrap
 	lsls	r5, r5, #24
 	adds	r3, r5, r3
 	adds	r3, r3, r1
-	bl	aes_v6m_small.aes_narrow.blocks.process_in_batches.1
+	bl	aes_v6m_small.aes_narrow.blocks.process_all_batches.1
 	bl	aes_v6m_small.aes_cipher.zeroize.stack.wipe_stack.1024
 	ldr	r0, [sp, #100]
 	strb	r0, [r7, #4]
@@ -7044,7 +7044,7 @@ aes_v6m_small.key_wrap.padded.wrap_padded: @ @aes_v6m_small.key_wrap.padded.wrap
 	lsls	r5, r5, #24
 	adds	r3, r5, r3
 	adds	r3, r3, r1
-	bl	aes_v6m_small.aes_narrow.blocks.process_in_batches.1
+	bl	aes_v6m_small.aes_narrow.blocks.process_all_batches.1
 	bl	aes_v6m_small.aes_cipher.zeroize.stack.wipe_stack.1024
 	mov	r0, r6
 	ldr	r3, [sp, #108]
@@ -7214,7 +7214,7 @@ aes_v6m_small.key_wrap.padded.wrap_padded: @ @aes_v6m_small.key_wrap.padded.wrap
 	adds	r3, r4, r3
 	ldr	r4, [sp, #28]                   @ 4-byte Reload
 	adds	r3, r3, r1
-	bl	aes_v6m_small.aes_narrow.blocks.process_in_batches.1
+	bl	aes_v6m_small.aes_narrow.blocks.process_all_batches.1
 	bl	aes_v6m_small.aes_cipher.zeroize.stack.wipe_stack.1024
 	ldr	r0, [sp, #100]
 	strb	r0, [r4, #4]
@@ -9760,12 +9760,12 @@ aes_v6m_small.aes_planes.soft.mix_columns.inv_mix_columns_1: @ @aes_v6m_small.ae
 	.cantunwind
 	.fnend
                                         @ -- End function
-	.section	.text.aes_v6m_small.aes_narrow.blocks.process_in_batches.2,"ax",%progbits
-	.p2align	1                               @ -- Begin function aes_narrow::blocks::process_in_batches::<#a3dcb71d05bd149b>
-	.type	aes_v6m_small.aes_narrow.blocks.process_in_batches.2,%function
+	.section	.text.aes_v6m_small.aes_narrow.blocks.process_all_batches.2,"ax",%progbits
+	.p2align	1                               @ -- Begin function aes_narrow::blocks::process_all_batches::<#a3dcb71d05bd149b>
+	.type	aes_v6m_small.aes_narrow.blocks.process_all_batches.2,%function
 	.code	16
 	.thumb_func
-aes_v6m_small.aes_narrow.blocks.process_in_batches.2: @ @aes_v6m_small.aes_narrow.blocks.process_in_batches.2
+aes_v6m_small.aes_narrow.blocks.process_all_batches.2: @ @aes_v6m_small.aes_narrow.blocks.process_all_batches.2
 	.fnstart
 @ %bb.0:                                @ %start
 	.save	{r4, r5, r6, r7, lr}
@@ -9829,7 +9829,7 @@ aes_v6m_small.aes_narrow.blocks.process_in_batches.2: @ @aes_v6m_small.aes_narro
 	add	sp, #44
 	pop	{r4, r5, r6, r7, pc}
 .Laes_v6m_small_func_end56:
-	.size	aes_v6m_small.aes_narrow.blocks.process_in_batches.2, .Laes_v6m_small_func_end56-aes_v6m_small.aes_narrow.blocks.process_in_batches.2
+	.size	aes_v6m_small.aes_narrow.blocks.process_all_batches.2, .Laes_v6m_small_func_end56-aes_v6m_small.aes_narrow.blocks.process_all_batches.2
 	.cantunwind
 	.fnend
                                         @ -- End function
@@ -10301,7 +10301,7 @@ aes_v6m_small.key_wrap.wrapping.unwrap: @ @aes_v6m_small.key_wrap.wrapping.unwra
 	lsls	r5, r5, #24
 	adds	r3, r5, r3
 	adds	r3, r3, r1
-	bl	aes_v6m_small.aes_narrow.blocks.process_in_batches.2
+	bl	aes_v6m_small.aes_narrow.blocks.process_all_batches.2
 	bl	aes_v6m_small.aes_cipher.zeroize.stack.wipe_stack.1024
 	ldr	r0, [sp, #112]
 	ldr	r1, [sp, #80]                   @ 4-byte Reload
@@ -10902,7 +10902,7 @@ aes_v6m_small.key_wrap.padded.unwrap_padded: @ @aes_v6m_small.key_wrap.padded.un
 	lsls	r4, r4, #24
 	adds	r3, r4, r3
 	adds	r3, r3, r1
-	bl	aes_v6m_small.aes_narrow.blocks.process_in_batches.2
+	bl	aes_v6m_small.aes_narrow.blocks.process_all_batches.2
 	bl	aes_v6m_small.aes_cipher.zeroize.stack.wipe_stack.1024
 	ldr	r0, [sp, #132]
 	strb	r0, [r7, #4]
@@ -11054,7 +11054,7 @@ aes_v6m_small.key_wrap.padded.unwrap_padded: @ @aes_v6m_small.key_wrap.padded.un
 	adds	r3, r5, r3
 	ldr	r5, [sp, #48]                   @ 4-byte Reload
 	adds	r3, r3, r1
-	bl	aes_v6m_small.aes_narrow.blocks.process_in_batches.2
+	bl	aes_v6m_small.aes_narrow.blocks.process_all_batches.2
 	bl	aes_v6m_small.aes_cipher.zeroize.stack.wipe_stack.1024
 	ldr	r0, [sp, #128]
 	ldr	r1, [sp, #92]                   @ 4-byte Reload
@@ -13542,7 +13542,7 @@ aes_v6m_small.ccm.message.put_tag: @ @aes_v6m_small.ccm.message.put_tag
 	lsls	r5, r5, #24
 	adds	r3, r5, r3
 	adds	r3, r3, r1
-	bl	aes_v6m_small.aes_narrow.blocks.process_in_batches.1
+	bl	aes_v6m_small.aes_narrow.blocks.process_all_batches.1
 	bl	aes_v6m_small.aes_cipher.zeroize.stack.wipe_stack.1024
 	ldr	r0, [sp, #84]                   @ 4-byte Reload
 	cmp	r0, #0
@@ -13748,7 +13748,7 @@ aes_v6m_small.ccm.message.put_tag: @ @aes_v6m_small.ccm.message.put_tag
 	lsls	r6, r6, #24
 	adds	r3, r6, r3
 	adds	r3, r3, r1
-	bl	aes_v6m_small.aes_narrow.blocks.process_in_batches.1
+	bl	aes_v6m_small.aes_narrow.blocks.process_all_batches.1
 	bl	aes_v6m_small.aes_cipher.zeroize.stack.wipe_stack.1024
 	ldrb	r0, [r4, #15]
 	ldrb	r1, [r5, #15]
@@ -14302,7 +14302,7 @@ aes_v6m_small.fotsgure_aes_encrypt_blocks:            @ @aes_v6m_small.fotsgure_
 	adds	r2, #56
 	adcs	r3, r4
 	adds	r0, r0, #4
-	bl	aes_v6m_small.aes_narrow.blocks.process_in_batches.1
+	bl	aes_v6m_small.aes_narrow.blocks.process_all_batches.1
 	bl	aes_v6m_small.aes_cipher.zeroize.stack.wipe_stack.1024
 .Laes_v6m_small_BB76_6:                               @ %wide_fotsgure_aes_encrypt_blocks.exit
 	mov	r0, r4
@@ -14362,7 +14362,7 @@ aes_v6m_small.fotsgure_aes_decrypt_blocks:            @ @aes_v6m_small.fotsgure_
 	adds	r2, #56
 	adcs	r3, r4
 	adds	r0, r0, #4
-	bl	aes_v6m_small.aes_narrow.blocks.process_in_batches.2
+	bl	aes_v6m_small.aes_narrow.blocks.process_all_batches.2
 	bl	aes_v6m_small.aes_cipher.zeroize.stack.wipe_stack.1024
 .Laes_v6m_small_BB77_6:                               @ %wide_fotsgure_aes_decrypt_blocks.exit
 	mov	r0, r4
@@ -14552,7 +14552,7 @@ aes_v6m_small.fotsgure_aes_encrypt_blocks_to:         @ @aes_v6m_small.fotsgure_
 	lsls	r2, r1, #1
 	adds	r2, #56
 	adcs	r3, r5
-	bl	aes_v6m_small.aes_narrow.blocks.process_in_batches.1
+	bl	aes_v6m_small.aes_narrow.blocks.process_all_batches.1
 	bl	aes_v6m_small.aes_cipher.zeroize.stack.wipe_stack.1024
 .Laes_v6m_small_BB78_21:                              @ %wide_fotsgure_aes_encrypt_blocks_to.exit
 	mov	r0, r5
@@ -14752,7 +14752,7 @@ aes_v6m_small.fotsgure_aes_decrypt_blocks_to:         @ @aes_v6m_small.fotsgure_
 	lsls	r2, r1, #1
 	adds	r2, #56
 	adcs	r3, r5
-	bl	aes_v6m_small.aes_narrow.blocks.process_in_batches.2
+	bl	aes_v6m_small.aes_narrow.blocks.process_all_batches.2
 	bl	aes_v6m_small.aes_cipher.zeroize.stack.wipe_stack.1024
 .Laes_v6m_small_BB79_21:                              @ %wide_fotsgure_aes_decrypt_blocks_to.exit
 	mov	r0, r5
@@ -15197,7 +15197,7 @@ aes_v6m_small.fotsgure_aes_cbc_encrypt:               @ @aes_v6m_small.fotsgure_
 	str	r6, [sp]
 	add	r3, sp, #20
 	ldm	r3, {r0, r2, r3}                @ 12-byte Folded Reload
-	bl	aes_v6m_small.aes_narrow.blocks.process_in_batches.1
+	bl	aes_v6m_small.aes_narrow.blocks.process_all_batches.1
 	bl	aes_v6m_small.aes_cipher.zeroize.stack.wipe_stack.1024
 	ldrb	r3, [r6]
 	ldr	r0, [sp, #104]                  @ 4-byte Reload
@@ -16334,7 +16334,7 @@ aes_v6m_small.fotsgure_aes_encrypt_blocks_with:       @ @aes_v6m_small.fotsgure_
 	adds	r2, #56
 	adcs	r3, r4
 	mov	r0, r7
-	bl	aes_v6m_small.aes_narrow.blocks.process_in_batches.1
+	bl	aes_v6m_small.aes_narrow.blocks.process_all_batches.1
 	bl	aes_v6m_small.aes_cipher.zeroize.stack.wipe_stack.1024
 	str	r4, [sp, #32]
 	mov	r0, r7
@@ -16438,7 +16438,7 @@ aes_v6m_small.fotsgure_aes_decrypt_blocks_with:       @ @aes_v6m_small.fotsgure_
 	adcs	r3, r7
 	ldr	r4, [sp, #28]                   @ 4-byte Reload
 	mov	r0, r4
-	bl	aes_v6m_small.aes_narrow.blocks.process_in_batches.2
+	bl	aes_v6m_small.aes_narrow.blocks.process_all_batches.2
 	bl	aes_v6m_small.aes_cipher.zeroize.stack.wipe_stack.1024
 	mov	r6, r7
 .Laes_v6m_small_BB99_10:                              @ %"aes_c::blocks::fotsgure_aes_decrypt_blocks.exit.i.i"
@@ -16679,5 +16679,5 @@ aes_v6m_small.fotsgure_aes_add_keystream_with:        @ @aes_v6m_small.fotsgure_
 	.long	9, 124, 1
 	.asciz	"Fotsgure"
 	.p2align	2, 0x0
-	.asciz	"fotsgure_aes 0.4.0, thumb/aes_v6m_small.s, sources SHA-256 93c4c1f9a119daf9c53c1b84582bcba4455d731c78c61c0f0737ce65242a1d65"
+	.asciz	"fotsgure_aes 0.4.0, thumb/aes_v6m_small.s, sources SHA-256 6a1cfde10f68c64d860ebcdaaa811215e142521dd923be252f5cd60ac9711c13"
 	.p2align	2, 0x0

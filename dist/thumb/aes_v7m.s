@@ -2347,7 +2347,7 @@ aes_v7m.aes_ctr.add_in_batches.add_keystream: @ @aes_v7m.aes_ctr.add_in_batches.
 	strb.w	r5, [sp, #118]
 	str	r7, [sp]
 	str	r4, [sp, #20]                   @ 4-byte Spill
-	bl	aes_v7m.aes_narrow.blocks.process_in_batches.1
+	bl	aes_v7m.aes_narrow.blocks.process_all_batches.1
 	bl	aes_v7m.aes_cipher.zeroize.stack.wipe_stack.1024
 	ldr.w	lr, [sp, #20]                   @ 4-byte Reload
 	cmp.w	lr, #0
@@ -2644,12 +2644,12 @@ aes_v7m.aes_ctr.add_in_batches.add_keystream: @ @aes_v7m.aes_ctr.add_in_batches.
 	.cantunwind
 	.fnend
                                         @ -- End function
-	.section	.text.aes_v7m.aes_narrow.blocks.process_in_batches.1,"ax",%progbits
-	.p2align	2                               @ -- Begin function aes_narrow::blocks::process_in_batches::<#1a21aa7f601e7603>
-	.type	aes_v7m.aes_narrow.blocks.process_in_batches.1,%function
+	.section	.text.aes_v7m.aes_narrow.blocks.process_all_batches.1,"ax",%progbits
+	.p2align	2                               @ -- Begin function aes_narrow::blocks::process_all_batches::<#1a21aa7f601e7603>
+	.type	aes_v7m.aes_narrow.blocks.process_all_batches.1,%function
 	.code	16
 	.thumb_func
-aes_v7m.aes_narrow.blocks.process_in_batches.1: @ @aes_v7m.aes_narrow.blocks.process_in_batches.1
+aes_v7m.aes_narrow.blocks.process_all_batches.1: @ @aes_v7m.aes_narrow.blocks.process_all_batches.1
 	.fnstart
 @ %bb.0:                                @ %start
 	.save	{r4, r5, r6, r7, r8, r9, r10, r11, lr}
@@ -2695,7 +2695,7 @@ aes_v7m.aes_narrow.blocks.process_in_batches.1: @ @aes_v7m.aes_narrow.blocks.pro
 	add	sp, #20
 	pop.w	{r4, r5, r6, r7, r8, r9, r10, r11, pc}
 .Laes_v7m_func_end4:
-	.size	aes_v7m.aes_narrow.blocks.process_in_batches.1, .Laes_v7m_func_end4-aes_v7m.aes_narrow.blocks.process_in_batches.1
+	.size	aes_v7m.aes_narrow.blocks.process_all_batches.1, .Laes_v7m_func_end4-aes_v7m.aes_narrow.blocks.process_all_batches.1
 	.cantunwind
 	.fnend
                                         @ -- End function
@@ -6167,7 +6167,7 @@ aes_v7m.cmac.tags.tag: @ @aes_v7m.cmac.tags.tag
 	strd	r5, r5, [sp, #100]
 	strd	r5, r5, [sp, #92]
 	str	r1, [sp]
-	bl	aes_v7m.aes_narrow.blocks.process_in_batches.1
+	bl	aes_v7m.aes_narrow.blocks.process_all_batches.1
 	bl	aes_v7m.aes_cipher.zeroize.stack.wipe_stack.1024
 	ldrb.w	r1, [sp, #93]
 	ldrb.w	r0, [sp, #92]
@@ -6395,7 +6395,7 @@ aes_v7m.cmac.tags.tag: @ @aes_v7m.cmac.tags.tag
 	strb.w	r8, [sp, #86]
 	strb.w	r10, [sp, #87]
 	str	r1, [sp]
-	bl	aes_v7m.aes_narrow.blocks.process_in_batches.1
+	bl	aes_v7m.aes_narrow.blocks.process_all_batches.1
 	bl	aes_v7m.aes_cipher.zeroize.stack.wipe_stack.1024
 	ldr	r2, [sp, #88]
 	ldrd	r1, r3, [sp, #80]
@@ -6553,7 +6553,7 @@ aes_v7m.cmac.chaining.chain: @ @aes_v7m.cmac.chaining.chain
 	mov.w	r10, #0
 	strd	r1, r7, [sp, #8]
 	str	r5, [sp]
-	bl	aes_v7m.aes_narrow.blocks.process_in_batches.1
+	bl	aes_v7m.aes_narrow.blocks.process_all_batches.1
 	bl	aes_v7m.aes_cipher.zeroize.stack.wipe_stack.1024
 	ldr	r1, [sp, #72]                   @ 4-byte Reload
 	ldrd	r7, lr, [sp, #24]               @ 8-byte Folded Reload
@@ -6880,7 +6880,7 @@ aes_v7m.key_wrap.steps.wrap_in_place: @ @aes_v7m.key_wrap.steps.wrap_in_place
 	str.w	lr, [sp, #44]
 	str.w	r12, [sp, #40]
 	str	r1, [sp]
-	bl	aes_v7m.aes_narrow.blocks.process_in_batches.1
+	bl	aes_v7m.aes_narrow.blocks.process_all_batches.1
 	bl	aes_v7m.aes_cipher.zeroize.stack.wipe_stack.1024
 	add	r3, sp, #32
 	ldm	r3, {r0, r1, r2, r3}
@@ -6931,7 +6931,7 @@ aes_v7m.key_wrap.steps.wrap_in_place: @ @aes_v7m.key_wrap.steps.wrap_in_place
 	strd	r1, r7, [sp, #8]
 	add	r1, sp, #32
 	str	r1, [sp]
-	bl	aes_v7m.aes_narrow.blocks.process_in_batches.1
+	bl	aes_v7m.aes_narrow.blocks.process_all_batches.1
 	bl	aes_v7m.aes_cipher.zeroize.stack.wipe_stack.1024
 	add	r3, sp, #32
 	ldm	r3, {r0, r1, r2, r3}
@@ -6987,7 +6987,7 @@ aes_v7m.key_wrap.steps.wrap_in_place: @ @aes_v7m.key_wrap.steps.wrap_in_place
 	strd	r6, r1, [sp, #8]
 	add	r1, sp, #32
 	str	r1, [sp]
-	bl	aes_v7m.aes_narrow.blocks.process_in_batches.1
+	bl	aes_v7m.aes_narrow.blocks.process_all_batches.1
 	bl	aes_v7m.aes_cipher.zeroize.stack.wipe_stack.1024
 	add	r3, sp, #32
 	ldm	r3, {r0, r1, r2, r3}
@@ -7043,7 +7043,7 @@ aes_v7m.key_wrap.steps.wrap_in_place: @ @aes_v7m.key_wrap.steps.wrap_in_place
 	add	r1, sp, #32
 	mov	r6, r7
 	str	r1, [sp]
-	bl	aes_v7m.aes_narrow.blocks.process_in_batches.1
+	bl	aes_v7m.aes_narrow.blocks.process_all_batches.1
 	bl	aes_v7m.aes_cipher.zeroize.stack.wipe_stack.1024
 	add	r3, sp, #32
 	ldm	r3, {r0, r1, r2, r3}
@@ -7100,7 +7100,7 @@ aes_v7m.key_wrap.steps.wrap_in_place: @ @aes_v7m.key_wrap.steps.wrap_in_place
 	strd	r6, r1, [sp, #8]
 	add	r1, sp, #32
 	str	r1, [sp]
-	bl	aes_v7m.aes_narrow.blocks.process_in_batches.1
+	bl	aes_v7m.aes_narrow.blocks.process_all_batches.1
 	bl	aes_v7m.aes_cipher.zeroize.stack.wipe_stack.1024
 	add	r3, sp, #32
 	ldm	r3, {r0, r1, r2, r3}
@@ -7156,7 +7156,7 @@ aes_v7m.key_wrap.steps.wrap_in_place: @ @aes_v7m.key_wrap.steps.wrap_in_place
 	add	r1, sp, #32
 	mov	r6, r7
 	str	r1, [sp]
-	bl	aes_v7m.aes_narrow.blocks.process_in_batches.1
+	bl	aes_v7m.aes_narrow.blocks.process_all_batches.1
 	bl	aes_v7m.aes_cipher.zeroize.stack.wipe_stack.1024
 	add	r3, sp, #32
 	ldm	r3, {r0, r1, r2, r3}
@@ -7510,7 +7510,7 @@ aes_v7m.key_wrap.padded.wrap_padded: @ @aes_v7m.key_wrap.padded.wrap_padded
 	add	r7, sp, #56
 	mov	r0, r1
 	str	r7, [sp]
-	bl	aes_v7m.aes_narrow.blocks.process_in_batches.1
+	bl	aes_v7m.aes_narrow.blocks.process_all_batches.1
 	bl	aes_v7m.aes_cipher.zeroize.stack.wipe_stack.1024
 	add	r7, sp, #56
 	ldm	r7, {r1, r2, r3, r7}
@@ -10831,12 +10831,12 @@ aes_v7m.aes_narrow.blocks.process_state.2: @ @aes_v7m.aes_narrow.blocks.process_
 	.cantunwind
 	.fnend
                                         @ -- End function
-	.section	.text.aes_v7m.aes_narrow.blocks.process_in_batches.2,"ax",%progbits
-	.p2align	2                               @ -- Begin function aes_narrow::blocks::process_in_batches::<#a3dcb71d05bd149b>
-	.type	aes_v7m.aes_narrow.blocks.process_in_batches.2,%function
+	.section	.text.aes_v7m.aes_narrow.blocks.process_all_batches.2,"ax",%progbits
+	.p2align	2                               @ -- Begin function aes_narrow::blocks::process_all_batches::<#a3dcb71d05bd149b>
+	.type	aes_v7m.aes_narrow.blocks.process_all_batches.2,%function
 	.code	16
 	.thumb_func
-aes_v7m.aes_narrow.blocks.process_in_batches.2: @ @aes_v7m.aes_narrow.blocks.process_in_batches.2
+aes_v7m.aes_narrow.blocks.process_all_batches.2: @ @aes_v7m.aes_narrow.blocks.process_all_batches.2
 	.fnstart
 @ %bb.0:                                @ %start
 	.save	{r4, r5, r6, r7, r8, r9, r10, r11, lr}
@@ -10882,7 +10882,7 @@ aes_v7m.aes_narrow.blocks.process_in_batches.2: @ @aes_v7m.aes_narrow.blocks.pro
 	add	sp, #20
 	pop.w	{r4, r5, r6, r7, r8, r9, r10, r11, pc}
 .Laes_v7m_func_end23:
-	.size	aes_v7m.aes_narrow.blocks.process_in_batches.2, .Laes_v7m_func_end23-aes_v7m.aes_narrow.blocks.process_in_batches.2
+	.size	aes_v7m.aes_narrow.blocks.process_all_batches.2, .Laes_v7m_func_end23-aes_v7m.aes_narrow.blocks.process_all_batches.2
 	.cantunwind
 	.fnend
                                         @ -- End function
@@ -11138,7 +11138,7 @@ aes_v7m.key_wrap.steps.unwrap_in_place: @ @aes_v7m.key_wrap.steps.unwrap_in_plac
 	strd	r1, r6, [sp, #8]
 	add	r6, sp, #32
 	str	r6, [sp]
-	bl	aes_v7m.aes_narrow.blocks.process_in_batches.2
+	bl	aes_v7m.aes_narrow.blocks.process_all_batches.2
 	bl	aes_v7m.aes_cipher.zeroize.stack.wipe_stack.1024
 	add	r3, sp, #32
 	ldm	r3, {r0, r1, r2, r3}
@@ -11198,7 +11198,7 @@ aes_v7m.key_wrap.steps.unwrap_in_place: @ @aes_v7m.key_wrap.steps.unwrap_in_plac
 	movs	r1, #0
 	strd	r12, r1, [sp, #8]
 	str	r6, [sp]
-	bl	aes_v7m.aes_narrow.blocks.process_in_batches.2
+	bl	aes_v7m.aes_narrow.blocks.process_all_batches.2
 	bl	aes_v7m.aes_cipher.zeroize.stack.wipe_stack.1024
 	add	r3, sp, #32
 	ldm	r3, {r0, r1, r2, r3}
@@ -11258,7 +11258,7 @@ aes_v7m.key_wrap.steps.unwrap_in_place: @ @aes_v7m.key_wrap.steps.unwrap_in_plac
 	movs	r6, #0
 	strd	r1, r6, [sp, #8]
 	str.w	r10, [sp]
-	bl	aes_v7m.aes_narrow.blocks.process_in_batches.2
+	bl	aes_v7m.aes_narrow.blocks.process_all_batches.2
 	bl	aes_v7m.aes_cipher.zeroize.stack.wipe_stack.1024
 	add	r3, sp, #32
 	ldm	r3, {r0, r1, r2, r3}
@@ -11319,7 +11319,7 @@ aes_v7m.key_wrap.steps.unwrap_in_place: @ @aes_v7m.key_wrap.steps.unwrap_in_plac
 	str.w	r12, [sp, #40]
 	strd	r1, r6, [sp, #8]
 	str.w	r8, [sp]
-	bl	aes_v7m.aes_narrow.blocks.process_in_batches.2
+	bl	aes_v7m.aes_narrow.blocks.process_all_batches.2
 	bl	aes_v7m.aes_cipher.zeroize.stack.wipe_stack.1024
 	add	r3, sp, #32
 	ldm	r3, {r0, r1, r2, r3}
@@ -11377,7 +11377,7 @@ aes_v7m.key_wrap.steps.unwrap_in_place: @ @aes_v7m.key_wrap.steps.unwrap_in_plac
 	str.w	r12, [sp, #40]
 	strd	r1, r6, [sp, #8]
 	str.w	r8, [sp]
-	bl	aes_v7m.aes_narrow.blocks.process_in_batches.2
+	bl	aes_v7m.aes_narrow.blocks.process_all_batches.2
 	bl	aes_v7m.aes_cipher.zeroize.stack.wipe_stack.1024
 	add	r3, sp, #32
 	ldm	r3, {r0, r1, r2, r3}
@@ -11426,7 +11426,7 @@ aes_v7m.key_wrap.steps.unwrap_in_place: @ @aes_v7m.key_wrap.steps.unwrap_in_plac
 	add	r1, sp, #32
 	str.w	r12, [sp, #40]
 	str	r1, [sp]
-	bl	aes_v7m.aes_narrow.blocks.process_in_batches.2
+	bl	aes_v7m.aes_narrow.blocks.process_all_batches.2
 	bl	aes_v7m.aes_cipher.zeroize.stack.wipe_stack.1024
 	add	r3, sp, #32
 	ldm	r3, {r0, r1, r2, r3}
@@ -11657,7 +11657,7 @@ aes_v7m.key_wrap.padded.unwrap_padded: @ @aes_v7m.key_wrap.padded.unwrap_padded
 	add	r4, sp, #32
 	strd	r7, r1, [sp, #8]
 	str	r4, [sp]
-	bl	aes_v7m.aes_narrow.blocks.process_in_batches.2
+	bl	aes_v7m.aes_narrow.blocks.process_all_batches.2
 	bl	aes_v7m.aes_cipher.zeroize.stack.wipe_stack.1024
 	ldrd	r1, r0, [sp, #40]
 	ldrd	r7, r6, [sp, #32]
@@ -14224,7 +14224,7 @@ aes_v7m.ccm.message.put_tag: @ @aes_v7m.ccm.message.put_tag
 	movs	r5, #1
 	strd	r5, r4, [sp, #8]
 	str.w	r9, [sp]
-	bl	aes_v7m.aes_narrow.blocks.process_in_batches.1
+	bl	aes_v7m.aes_narrow.blocks.process_all_batches.1
 	bl	aes_v7m.aes_cipher.zeroize.stack.wipe_stack.1024
 	ldr	r2, [sp, #160]
 	cmp.w	r8, #0
@@ -14328,7 +14328,7 @@ aes_v7m.ccm.message.put_tag: @ @aes_v7m.ccm.message.put_tag
 	strb.w	r6, [sp, #55]
 	strd	r5, r4, [sp, #8]
 	str	r1, [sp]
-	bl	aes_v7m.aes_narrow.blocks.process_in_batches.1
+	bl	aes_v7m.aes_narrow.blocks.process_all_batches.1
 	bl	aes_v7m.aes_cipher.zeroize.stack.wipe_stack.1024
 	ldrb.w	r0, [r9, #4]
 	ldrb.w	r4, [r9, #14]
@@ -14708,7 +14708,7 @@ aes_v7m.fotsgure_aes_encrypt_blocks:            @ @aes_v7m.fotsgure_aes_encrypt_
 	strd	r2, r4, [sp, #8]
 	mov	r2, r12
 	str	r1, [sp]
-	bl	aes_v7m.aes_narrow.blocks.process_in_batches.1
+	bl	aes_v7m.aes_narrow.blocks.process_all_batches.1
 	bl	aes_v7m.aes_cipher.zeroize.stack.wipe_stack.1024
 	mov	r0, r4
 	add	sp, #16
@@ -14764,7 +14764,7 @@ aes_v7m.fotsgure_aes_decrypt_blocks:            @ @aes_v7m.fotsgure_aes_decrypt_
 	strd	r2, r4, [sp, #8]
 	mov	r2, r12
 	str	r1, [sp]
-	bl	aes_v7m.aes_narrow.blocks.process_in_batches.2
+	bl	aes_v7m.aes_narrow.blocks.process_all_batches.2
 	bl	aes_v7m.aes_cipher.zeroize.stack.wipe_stack.1024
 	mov	r0, r4
 	add	sp, #16
@@ -14968,7 +14968,7 @@ aes_v7m.fotsgure_aes_encrypt_blocks_to:         @ @aes_v7m.fotsgure_aes_encrypt_
 	strd	r2, r5, [sp, #8]
 	mov	r2, r1
 	str.w	r8, [sp]
-	bl	aes_v7m.aes_narrow.blocks.process_in_batches.1
+	bl	aes_v7m.aes_narrow.blocks.process_all_batches.1
 	bl	aes_v7m.aes_cipher.zeroize.stack.wipe_stack.1024
 	mov	r0, r5
 	add	sp, #20
@@ -15172,7 +15172,7 @@ aes_v7m.fotsgure_aes_decrypt_blocks_to:         @ @aes_v7m.fotsgure_aes_decrypt_
 	strd	r2, r5, [sp, #8]
 	mov	r2, r1
 	str.w	r8, [sp]
-	bl	aes_v7m.aes_narrow.blocks.process_in_batches.2
+	bl	aes_v7m.aes_narrow.blocks.process_all_batches.2
 	bl	aes_v7m.aes_cipher.zeroize.stack.wipe_stack.1024
 	mov	r0, r5
 	add	sp, #20
@@ -15616,7 +15616,7 @@ aes_v7m.fotsgure_aes_cbc_encrypt:               @ @aes_v7m.fotsgure_aes_cbc_encr
 	strb.w	lr, [sp, #114]
 	strb.w	r7, [sp, #115]
 	str	r1, [sp]
-	bl	aes_v7m.aes_narrow.blocks.process_in_batches.1
+	bl	aes_v7m.aes_narrow.blocks.process_all_batches.1
 	bl	aes_v7m.aes_cipher.zeroize.stack.wipe_stack.1024
 	ldrb.w	r7, [sp, #116]
 	ldrb.w	r1, [sp, #112]
@@ -16560,7 +16560,7 @@ aes_v7m.fotsgure_aes_encrypt_blocks_with:       @ @aes_v7m.fotsgure_aes_encrypt_
 	str	r4, [sp, #16]
 	strd	r10, r6, [sp, #8]
 	str.w	r11, [sp]
-	bl	aes_v7m.aes_narrow.blocks.process_in_batches.1
+	bl	aes_v7m.aes_narrow.blocks.process_all_batches.1
 	bl	aes_v7m.aes_cipher.zeroize.stack.wipe_stack.1024
 	mov	r0, r5
 	str	r6, [sp, #16]
@@ -16651,7 +16651,7 @@ aes_v7m.fotsgure_aes_decrypt_blocks_with:       @ @aes_v7m.fotsgure_aes_decrypt_
 	mov	r0, r9
 	strd	r8, r6, [sp, #8]
 	str	r5, [sp]
-	bl	aes_v7m.aes_narrow.blocks.process_in_batches.2
+	bl	aes_v7m.aes_narrow.blocks.process_all_batches.2
 	bl	aes_v7m.aes_cipher.zeroize.stack.wipe_stack.1024
 .Laes_v7m_BB66_7:                               @ %"aes_c::blocks::fotsgure_aes_decrypt_blocks.exit.i.i"
 	movs	r0, #0
@@ -16791,5 +16791,5 @@ aes_v7m.fotsgure_aes_add_keystream_with:        @ @aes_v7m.fotsgure_aes_add_keys
 	.long	9, 118, 1
 	.asciz	"Fotsgure"
 	.p2align	2, 0x0
-	.asciz	"fotsgure_aes 0.4.0, thumb/aes_v7m.s, sources SHA-256 93c4c1f9a119daf9c53c1b84582bcba4455d731c78c61c0f0737ce65242a1d65"
+	.asciz	"fotsgure_aes 0.4.0, thumb/aes_v7m.s, sources SHA-256 6a1cfde10f68c64d860ebcdaaa811215e142521dd923be252f5cd60ac9711c13"
 	.p2align	2, 0x0

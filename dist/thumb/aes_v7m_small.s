@@ -1438,7 +1438,7 @@ aes_v7m_small.aes_ctr.add_in_batches.add_to_one: @ @aes_v7m_small.aes_ctr.add_in
 	ldr	r3, [r6, #12]
 	strd	r5, r7, [sp, #8]
 	str.w	r11, [sp]
-	bl	aes_v7m_small.aes_narrow.blocks.process_in_batches.1
+	bl	aes_v7m_small.aes_narrow.blocks.process_all_batches.1
 	bl	aes_v7m_small.aes_cipher.zeroize.stack.wipe_stack.1024
 	and	r2, r4, #15
 	mov	r0, r11
@@ -1560,12 +1560,12 @@ aes_v7m_small.aes_ctr.counter_blocks.WholeBlockCounterBlocks.put: @ @aes_v7m_sma
 	.cantunwind
 	.fnend
                                         @ -- End function
-	.section	.text.aes_v7m_small.aes_narrow.blocks.process_in_batches.1,"ax",%progbits
-	.p2align	2                               @ -- Begin function aes_narrow::blocks::process_in_batches::<#1a21aa7f601e7603>
-	.type	aes_v7m_small.aes_narrow.blocks.process_in_batches.1,%function
+	.section	.text.aes_v7m_small.aes_narrow.blocks.process_all_batches.1,"ax",%progbits
+	.p2align	2                               @ -- Begin function aes_narrow::blocks::process_all_batches::<#1a21aa7f601e7603>
+	.type	aes_v7m_small.aes_narrow.blocks.process_all_batches.1,%function
 	.code	16
 	.thumb_func
-aes_v7m_small.aes_narrow.blocks.process_in_batches.1: @ @aes_v7m_small.aes_narrow.blocks.process_in_batches.1
+aes_v7m_small.aes_narrow.blocks.process_all_batches.1: @ @aes_v7m_small.aes_narrow.blocks.process_all_batches.1
 	.fnstart
 @ %bb.0:                                @ %start
 	.save	{r4, r5, r6, r7, r8, r9, r10, r11, lr}
@@ -1611,7 +1611,7 @@ aes_v7m_small.aes_narrow.blocks.process_in_batches.1: @ @aes_v7m_small.aes_narro
 	add	sp, #20
 	pop.w	{r4, r5, r6, r7, r8, r9, r10, r11, pc}
 .Laes_v7m_small_func_end24:
-	.size	aes_v7m_small.aes_narrow.blocks.process_in_batches.1, .Laes_v7m_small_func_end24-aes_v7m_small.aes_narrow.blocks.process_in_batches.1
+	.size	aes_v7m_small.aes_narrow.blocks.process_all_batches.1, .Laes_v7m_small_func_end24-aes_v7m_small.aes_narrow.blocks.process_all_batches.1
 	.cantunwind
 	.fnend
                                         @ -- End function
@@ -3381,7 +3381,7 @@ aes_v7m_small.cmac.tags.tag: @ @aes_v7m_small.cmac.tags.tag
 	str	r7, [sp, #68]                   @ 4-byte Spill
 	str	r5, [sp, #92]
 	str	r1, [sp]
-	bl	aes_v7m_small.aes_narrow.blocks.process_in_batches.1
+	bl	aes_v7m_small.aes_narrow.blocks.process_all_batches.1
 	bl	aes_v7m_small.aes_cipher.zeroize.stack.wipe_stack.1024
 	ldrb.w	r1, [sp, #93]
 	ldrb.w	r0, [sp, #92]
@@ -3606,7 +3606,7 @@ aes_v7m_small.cmac.tags.tag: @ @aes_v7m_small.cmac.tags.tag
 	strb.w	r8, [sp, #86]
 	strb.w	r10, [sp, #87]
 	str	r1, [sp]
-	bl	aes_v7m_small.aes_narrow.blocks.process_in_batches.1
+	bl	aes_v7m_small.aes_narrow.blocks.process_all_batches.1
 	bl	aes_v7m_small.aes_cipher.zeroize.stack.wipe_stack.1024
 	ldr	r2, [sp, #88]
 	ldrd	r1, r3, [sp, #80]
@@ -3764,7 +3764,7 @@ aes_v7m_small.cmac.chaining.chain: @ @aes_v7m_small.cmac.chaining.chain
 	mov.w	r10, #0
 	strd	r1, r7, [sp, #8]
 	str	r5, [sp]
-	bl	aes_v7m_small.aes_narrow.blocks.process_in_batches.1
+	bl	aes_v7m_small.aes_narrow.blocks.process_all_batches.1
 	bl	aes_v7m_small.aes_cipher.zeroize.stack.wipe_stack.1024
 	ldr	r1, [sp, #72]                   @ 4-byte Reload
 	ldrd	r7, lr, [sp, #24]               @ 8-byte Folded Reload
@@ -4087,7 +4087,7 @@ aes_v7m_small.key_wrap.wrapping.wrap: @ @aes_v7m_small.key_wrap.wrapping.wrap
 	add	r1, sp, #56
 	str	r1, [sp]
 	mov	r6, lr
-	bl	aes_v7m_small.aes_narrow.blocks.process_in_batches.1
+	bl	aes_v7m_small.aes_narrow.blocks.process_all_batches.1
 	bl	aes_v7m_small.aes_cipher.zeroize.stack.wipe_stack.1024
 	add	r3, sp, #56
 	ldm	r3, {r0, r1, r2, r3}
@@ -4470,7 +4470,7 @@ aes_v7m_small.key_wrap.padded.wrap_padded: @ @aes_v7m_small.key_wrap.padded.wrap
 	strd	r1, r4, [sp, #8]
 	add	r1, sp, #64
 	str	r1, [sp]
-	bl	aes_v7m_small.aes_narrow.blocks.process_in_batches.1
+	bl	aes_v7m_small.aes_narrow.blocks.process_all_batches.1
 	bl	aes_v7m_small.aes_cipher.zeroize.stack.wipe_stack.1024
 	add	r6, sp, #64
 	ldm	r6, {r1, r2, r3, r6}
@@ -4545,7 +4545,7 @@ aes_v7m_small.key_wrap.padded.wrap_padded: @ @aes_v7m_small.key_wrap.padded.wrap
 	add	r1, sp, #64
 	mov	r5, r12
 	str	r1, [sp]
-	bl	aes_v7m_small.aes_narrow.blocks.process_in_batches.1
+	bl	aes_v7m_small.aes_narrow.blocks.process_all_batches.1
 	bl	aes_v7m_small.aes_cipher.zeroize.stack.wipe_stack.1024
 	add	r3, sp, #64
 	ldm	r3, {r0, r1, r2, r3}
@@ -6203,12 +6203,12 @@ aes_v7m_small.aes_planes.soft.mix_columns.inv_mix_columns_1: @ @aes_v7m_small.ae
 	.cantunwind
 	.fnend
                                         @ -- End function
-	.section	.text.aes_v7m_small.aes_narrow.blocks.process_in_batches.2,"ax",%progbits
-	.p2align	2                               @ -- Begin function aes_narrow::blocks::process_in_batches::<#a3dcb71d05bd149b>
-	.type	aes_v7m_small.aes_narrow.blocks.process_in_batches.2,%function
+	.section	.text.aes_v7m_small.aes_narrow.blocks.process_all_batches.2,"ax",%progbits
+	.p2align	2                               @ -- Begin function aes_narrow::blocks::process_all_batches::<#a3dcb71d05bd149b>
+	.type	aes_v7m_small.aes_narrow.blocks.process_all_batches.2,%function
 	.code	16
 	.thumb_func
-aes_v7m_small.aes_narrow.blocks.process_in_batches.2: @ @aes_v7m_small.aes_narrow.blocks.process_in_batches.2
+aes_v7m_small.aes_narrow.blocks.process_all_batches.2: @ @aes_v7m_small.aes_narrow.blocks.process_all_batches.2
 	.fnstart
 @ %bb.0:                                @ %start
 	.save	{r4, r5, r6, r7, r8, r9, r10, r11, lr}
@@ -6254,7 +6254,7 @@ aes_v7m_small.aes_narrow.blocks.process_in_batches.2: @ @aes_v7m_small.aes_narro
 	add	sp, #20
 	pop.w	{r4, r5, r6, r7, r8, r9, r10, r11, pc}
 .Laes_v7m_small_func_end56:
-	.size	aes_v7m_small.aes_narrow.blocks.process_in_batches.2, .Laes_v7m_small_func_end56-aes_v7m_small.aes_narrow.blocks.process_in_batches.2
+	.size	aes_v7m_small.aes_narrow.blocks.process_all_batches.2, .Laes_v7m_small_func_end56-aes_v7m_small.aes_narrow.blocks.process_all_batches.2
 	.cantunwind
 	.fnend
                                         @ -- End function
@@ -6450,7 +6450,7 @@ aes_v7m_small.key_wrap.wrapping.unwrap: @ @aes_v7m_small.key_wrap.wrapping.unwra
 	strd	r6, r1, [sp, #8]
 	add	r6, sp, #40
 	str	r6, [sp]
-	bl	aes_v7m_small.aes_narrow.blocks.process_in_batches.2
+	bl	aes_v7m_small.aes_narrow.blocks.process_all_batches.2
 	bl	aes_v7m_small.aes_cipher.zeroize.stack.wipe_stack.1024
 	ldrd	r0, r1, [sp, #48]
 	ldrd	r9, r10, [sp, #40]
@@ -6720,7 +6720,7 @@ aes_v7m_small.key_wrap.padded.unwrap_padded: @ @aes_v7m_small.key_wrap.padded.un
 	add	r4, sp, #56
 	strd	r7, r1, [sp, #8]
 	str	r4, [sp]
-	bl	aes_v7m_small.aes_narrow.blocks.process_in_batches.2
+	bl	aes_v7m_small.aes_narrow.blocks.process_all_batches.2
 	bl	aes_v7m_small.aes_cipher.zeroize.stack.wipe_stack.1024
 	ldrd	r0, r11, [sp, #56]
 	ldrd	r1, r2, [sp, #64]
@@ -6786,7 +6786,7 @@ aes_v7m_small.key_wrap.padded.unwrap_padded: @ @aes_v7m_small.key_wrap.padded.un
 	strd	r5, r1, [sp, #8]
 	add	r5, sp, #56
 	str	r5, [sp]
-	bl	aes_v7m_small.aes_narrow.blocks.process_in_batches.2
+	bl	aes_v7m_small.aes_narrow.blocks.process_all_batches.2
 	bl	aes_v7m_small.aes_cipher.zeroize.stack.wipe_stack.1024
 	ldrd	r0, r1, [sp, #64]
 	ldr	r2, [sp, #120]
@@ -8062,7 +8062,7 @@ aes_v7m_small.ccm.message.put_tag: @ @aes_v7m_small.ccm.message.put_tag
 	movs	r5, #1
 	strd	r5, r4, [sp, #8]
 	str.w	r9, [sp]
-	bl	aes_v7m_small.aes_narrow.blocks.process_in_batches.1
+	bl	aes_v7m_small.aes_narrow.blocks.process_all_batches.1
 	bl	aes_v7m_small.aes_cipher.zeroize.stack.wipe_stack.1024
 	ldr	r2, [sp, #160]
 	cmp.w	r8, #0
@@ -8164,7 +8164,7 @@ aes_v7m_small.ccm.message.put_tag: @ @aes_v7m_small.ccm.message.put_tag
 	strb.w	r6, [sp, #55]
 	strd	r5, r4, [sp, #8]
 	str	r1, [sp]
-	bl	aes_v7m_small.aes_narrow.blocks.process_in_batches.1
+	bl	aes_v7m_small.aes_narrow.blocks.process_all_batches.1
 	bl	aes_v7m_small.aes_cipher.zeroize.stack.wipe_stack.1024
 	ldrb.w	r0, [r9, #4]
 	ldrb.w	r4, [r9, #14]
@@ -8560,7 +8560,7 @@ aes_v7m_small.fotsgure_aes_encrypt_blocks:            @ @aes_v7m_small.fotsgure_
 	strd	r2, r4, [sp, #8]
 	mov	r2, r12
 	str	r1, [sp]
-	bl	aes_v7m_small.aes_narrow.blocks.process_in_batches.1
+	bl	aes_v7m_small.aes_narrow.blocks.process_all_batches.1
 	bl	aes_v7m_small.aes_cipher.zeroize.stack.wipe_stack.1024
 .Laes_v7m_small_BB76_4:                               @ %wide_fotsgure_aes_encrypt_blocks.exit
 	mov	r0, r4
@@ -8614,7 +8614,7 @@ aes_v7m_small.fotsgure_aes_decrypt_blocks:            @ @aes_v7m_small.fotsgure_
 	strd	r2, r4, [sp, #8]
 	mov	r2, r12
 	str	r1, [sp]
-	bl	aes_v7m_small.aes_narrow.blocks.process_in_batches.2
+	bl	aes_v7m_small.aes_narrow.blocks.process_all_batches.2
 	bl	aes_v7m_small.aes_cipher.zeroize.stack.wipe_stack.1024
 .Laes_v7m_small_BB77_4:                               @ %wide_fotsgure_aes_decrypt_blocks.exit
 	mov	r0, r4
@@ -8813,7 +8813,7 @@ aes_v7m_small.fotsgure_aes_encrypt_blocks_to:         @ @aes_v7m_small.fotsgure_
 	strd	r2, r5, [sp, #8]
 	mov	r2, r1
 	str.w	r8, [sp]
-	bl	aes_v7m_small.aes_narrow.blocks.process_in_batches.1
+	bl	aes_v7m_small.aes_narrow.blocks.process_all_batches.1
 	bl	aes_v7m_small.aes_cipher.zeroize.stack.wipe_stack.1024
 .Laes_v7m_small_BB78_15:                              @ %wide_fotsgure_aes_encrypt_blocks_to.exit
 	mov	r0, r5
@@ -9012,7 +9012,7 @@ aes_v7m_small.fotsgure_aes_decrypt_blocks_to:         @ @aes_v7m_small.fotsgure_
 	strd	r2, r5, [sp, #8]
 	mov	r2, r1
 	str.w	r8, [sp]
-	bl	aes_v7m_small.aes_narrow.blocks.process_in_batches.2
+	bl	aes_v7m_small.aes_narrow.blocks.process_all_batches.2
 	bl	aes_v7m_small.aes_cipher.zeroize.stack.wipe_stack.1024
 .Laes_v7m_small_BB79_15:                              @ %wide_fotsgure_aes_decrypt_blocks_to.exit
 	mov	r0, r5
@@ -9364,7 +9364,7 @@ aes_v7m_small.fotsgure_aes_cbc_encrypt:               @ @aes_v7m_small.fotsgure_
 	strb.w	lr, [sp, #114]
 	strb.w	r7, [sp, #115]
 	str	r1, [sp]
-	bl	aes_v7m_small.aes_narrow.blocks.process_in_batches.1
+	bl	aes_v7m_small.aes_narrow.blocks.process_all_batches.1
 	bl	aes_v7m_small.aes_cipher.zeroize.stack.wipe_stack.1024
 	ldrb.w	r7, [sp, #116]
 	ldrb.w	r1, [sp, #112]
@@ -10288,7 +10288,7 @@ aes_v7m_small.fotsgure_aes_encrypt_blocks_with:       @ @aes_v7m_small.fotsgure_
 	str	r4, [sp, #16]
 	strd	r10, r6, [sp, #8]
 	str.w	r11, [sp]
-	bl	aes_v7m_small.aes_narrow.blocks.process_in_batches.1
+	bl	aes_v7m_small.aes_narrow.blocks.process_all_batches.1
 	bl	aes_v7m_small.aes_cipher.zeroize.stack.wipe_stack.1024
 	mov	r0, r5
 	str	r6, [sp, #16]
@@ -10375,7 +10375,7 @@ aes_v7m_small.fotsgure_aes_decrypt_blocks_with:       @ @aes_v7m_small.fotsgure_
 	mov	r0, r9
 	strd	r8, r6, [sp, #8]
 	str	r5, [sp]
-	bl	aes_v7m_small.aes_narrow.blocks.process_in_batches.2
+	bl	aes_v7m_small.aes_narrow.blocks.process_all_batches.2
 	bl	aes_v7m_small.aes_cipher.zeroize.stack.wipe_stack.1024
 .Laes_v7m_small_BB99_7:                               @ %"aes_c::blocks::fotsgure_aes_decrypt_blocks.exit.i.i"
 	movs	r0, #0
@@ -10546,5 +10546,5 @@ aes_v7m_small.fotsgure_aes_add_keystream_with:        @ @aes_v7m_small.fotsgure_
 	.long	9, 124, 1
 	.asciz	"Fotsgure"
 	.p2align	2, 0x0
-	.asciz	"fotsgure_aes 0.4.0, thumb/aes_v7m_small.s, sources SHA-256 93c4c1f9a119daf9c53c1b84582bcba4455d731c78c61c0f0737ce65242a1d65"
+	.asciz	"fotsgure_aes 0.4.0, thumb/aes_v7m_small.s, sources SHA-256 6a1cfde10f68c64d860ebcdaaa811215e142521dd923be252f5cd60ac9711c13"
 	.p2align	2, 0x0

@@ -4960,7 +4960,7 @@ gcm_v6m.gcm.mode.BorrowedGcm.put_tag_so_far: @ @gcm_v6m.gcm.mode.BorrowedGcm.put
 	lsls	r7, r7, #24
 	adds	r3, r7, r3
 	adds	r3, r3, r1
-	bl	gcm_v6m.aes_narrow.blocks.process_in_batches
+	bl	gcm_v6m.aes_narrow.blocks.process_all_batches
 	bl	gcm_v6m.aes_cipher.zeroize.stack.wipe_stack.1024
 	ldr	r0, [r6, #16]
 	mov	r1, r5
@@ -5106,12 +5106,12 @@ gcm_v6m.gcm.mode.BorrowedGcm.put_tag_so_far: @ @gcm_v6m.gcm.mode.BorrowedGcm.put
 	.cantunwind
 	.fnend
                                         @ -- End function
-	.section	.text.gcm_v6m.aes_narrow.blocks.process_in_batches,"ax",%progbits
-	.p2align	1                               @ -- Begin function aes_narrow::blocks::process_in_batches::<#f6c900d3ac1e47b9>
-	.type	gcm_v6m.aes_narrow.blocks.process_in_batches,%function
+	.section	.text.gcm_v6m.aes_narrow.blocks.process_all_batches,"ax",%progbits
+	.p2align	1                               @ -- Begin function aes_narrow::blocks::process_all_batches::<#f6c900d3ac1e47b9>
+	.type	gcm_v6m.aes_narrow.blocks.process_all_batches,%function
 	.code	16
 	.thumb_func
-gcm_v6m.aes_narrow.blocks.process_in_batches: @ @gcm_v6m.aes_narrow.blocks.process_in_batches
+gcm_v6m.aes_narrow.blocks.process_all_batches: @ @gcm_v6m.aes_narrow.blocks.process_all_batches
 	.fnstart
 @ %bb.0:                                @ %start
 	.save	{r4, r5, r6, r7, lr}
@@ -5172,7 +5172,7 @@ gcm_v6m.aes_narrow.blocks.process_in_batches: @ @gcm_v6m.aes_narrow.blocks.proce
 	add	sp, #44
 	pop	{r4, r5, r6, r7, pc}
 .Lgcm_v6m_func_end13:
-	.size	gcm_v6m.aes_narrow.blocks.process_in_batches, .Lgcm_v6m_func_end13-gcm_v6m.aes_narrow.blocks.process_in_batches
+	.size	gcm_v6m.aes_narrow.blocks.process_all_batches, .Lgcm_v6m_func_end13-gcm_v6m.aes_narrow.blocks.process_all_batches
 	.cantunwind
 	.fnend
                                         @ -- End function
@@ -9741,7 +9741,7 @@ gcm_v6m.gcm.mode.put_subkey: @ @gcm_v6m.gcm.mode.put_subkey
 	str	r1, [sp, #12]
 	add	r4, sp, #16
 	str	r4, [sp]
-	bl	gcm_v6m.aes_narrow.blocks.process_in_batches
+	bl	gcm_v6m.aes_narrow.blocks.process_all_batches
 	bl	gcm_v6m.aes_cipher.zeroize.stack.wipe_stack.1024
 	ldrb	r1, [r4, #11]
 	ldr	r0, [sp, #40]
@@ -9924,7 +9924,7 @@ gcm_v6m.gcm.mode.BorrowedGcm.put_tag: @ @gcm_v6m.gcm.mode.BorrowedGcm.put_tag
 	lsls	r6, r6, #24
 	adds	r3, r6, r3
 	adds	r3, r3, r1
-	bl	gcm_v6m.aes_narrow.blocks.process_in_batches
+	bl	gcm_v6m.aes_narrow.blocks.process_all_batches
 	bl	gcm_v6m.aes_cipher.zeroize.stack.wipe_stack.1024
 	ldr	r0, [r5, #16]
 	ldrb	r1, [r0, #3]
@@ -10520,7 +10520,7 @@ gcm_v6m.gcm.gctr.add_gctr: @ @gcm_v6m.gcm.gctr.add_gctr
 	lsls	r4, r4, #24
 	adds	r3, r4, r3
 	adds	r3, r3, r1
-	bl	gcm_v6m.aes_narrow.blocks.process_in_batches
+	bl	gcm_v6m.aes_narrow.blocks.process_all_batches
 	bl	gcm_v6m.aes_cipher.zeroize.stack.wipe_stack.1024
 	str	r7, [sp, #24]                   @ 4-byte Spill
 	cmp	r7, #0
@@ -12505,7 +12505,7 @@ gcm_v6m.gcm_c.siv.prepare: @ @gcm_v6m.gcm_c.siv.prepare
 	adds	r2, #56
 	adcs	r3, r4
 	ldr	r0, [sp, #20]                   @ 4-byte Reload
-	bl	gcm_v6m.aes_narrow.blocks.process_in_batches
+	bl	gcm_v6m.aes_narrow.blocks.process_all_batches
 	bl	gcm_v6m.aes_cipher.zeroize.stack.wipe_stack.1024
 	ldr	r2, [sp, #56]
 	lsrs	r1, r2, #17
@@ -12933,7 +12933,7 @@ gcm_v6m.gcm_siv.message.put_tag: @ @gcm_v6m.gcm_siv.message.put_tag
 	lsls	r4, r4, #24
 	adds	r3, r4, r3
 	adds	r3, r3, r1
-	bl	gcm_v6m.aes_narrow.blocks.process_in_batches
+	bl	gcm_v6m.aes_narrow.blocks.process_all_batches
 	bl	gcm_v6m.aes_cipher.zeroize.stack.wipe_stack.1024
 	subs	r6, r7, #7
 	subs	r6, #5
@@ -13297,7 +13297,7 @@ gcm_v6m.gcm_siv.message.apply: @ @gcm_v6m.gcm_siv.message.apply
 	lsls	r5, r5, #24
 	adds	r3, r5, r3
 	adds	r3, r3, r1
-	bl	gcm_v6m.aes_narrow.blocks.process_in_batches
+	bl	gcm_v6m.aes_narrow.blocks.process_all_batches
 	bl	gcm_v6m.aes_cipher.zeroize.stack.wipe_stack.1024
 	ldr	r2, [sp, #112]                  @ 4-byte Reload
 	lsls	r0, r2, #27
@@ -18835,5 +18835,5 @@ gcm_v6m.fotsgure_gcm_siv_wipe:                  @ @gcm_v6m.fotsgure_gcm_siv_wipe
 	.long	9, 118, 1
 	.asciz	"Fotsgure"
 	.p2align	2, 0x0
-	.asciz	"fotsgure_gcm 0.4.0, thumb/gcm_v6m.s, sources SHA-256 208602ae32e5dd5d4aa7a028ebc59ad6269492290ae4be105a6461c3e77eec69"
+	.asciz	"fotsgure_gcm 0.4.0, thumb/gcm_v6m.s, sources SHA-256 2b79346c77bb0404dbcf8d7bfc3c037715623eca5ddd3ec8b81ec3dcd0649018"
 	.p2align	2, 0x0

@@ -3188,7 +3188,7 @@ gcm_v6m_small.gcm.mode.BorrowedGcm.put_tag_so_far: @ @gcm_v6m_small.gcm.mode.Bor
 	lsls	r7, r7, #24
 	adds	r3, r7, r3
 	adds	r3, r3, r1
-	bl	gcm_v6m_small.aes_narrow.blocks.process_in_batches
+	bl	gcm_v6m_small.aes_narrow.blocks.process_all_batches
 	bl	gcm_v6m_small.aes_cipher.zeroize.stack.wipe_stack.1024
 	mov	r0, r5
 	mov	r1, r6
@@ -3336,12 +3336,12 @@ gcm_v6m_small.gcm.mode.BorrowedGcm.put_tag_so_far: @ @gcm_v6m_small.gcm.mode.Bor
 	.cantunwind
 	.fnend
                                         @ -- End function
-	.section	.text.gcm_v6m_small.aes_narrow.blocks.process_in_batches,"ax",%progbits
-	.p2align	1                               @ -- Begin function aes_narrow::blocks::process_in_batches::<#f6c900d3ac1e47b9>
-	.type	gcm_v6m_small.aes_narrow.blocks.process_in_batches,%function
+	.section	.text.gcm_v6m_small.aes_narrow.blocks.process_all_batches,"ax",%progbits
+	.p2align	1                               @ -- Begin function aes_narrow::blocks::process_all_batches::<#f6c900d3ac1e47b9>
+	.type	gcm_v6m_small.aes_narrow.blocks.process_all_batches,%function
 	.code	16
 	.thumb_func
-gcm_v6m_small.aes_narrow.blocks.process_in_batches: @ @gcm_v6m_small.aes_narrow.blocks.process_in_batches
+gcm_v6m_small.aes_narrow.blocks.process_all_batches: @ @gcm_v6m_small.aes_narrow.blocks.process_all_batches
 	.fnstart
 @ %bb.0:                                @ %start
 	.save	{r4, r5, r6, r7, lr}
@@ -3402,7 +3402,7 @@ gcm_v6m_small.aes_narrow.blocks.process_in_batches: @ @gcm_v6m_small.aes_narrow.
 	add	sp, #44
 	pop	{r4, r5, r6, r7, pc}
 .Lgcm_v6m_small_func_end32:
-	.size	gcm_v6m_small.aes_narrow.blocks.process_in_batches, .Lgcm_v6m_small_func_end32-gcm_v6m_small.aes_narrow.blocks.process_in_batches
+	.size	gcm_v6m_small.aes_narrow.blocks.process_all_batches, .Lgcm_v6m_small_func_end32-gcm_v6m_small.aes_narrow.blocks.process_all_batches
 	.cantunwind
 	.fnend
                                         @ -- End function
@@ -5373,7 +5373,7 @@ gcm_v6m_small.gcm.mode.put_subkey: @ @gcm_v6m_small.gcm.mode.put_subkey
 	lsls	r6, r6, #24
 	adds	r3, r6, r3
 	adds	r3, r3, r1
-	bl	gcm_v6m_small.aes_narrow.blocks.process_in_batches
+	bl	gcm_v6m_small.aes_narrow.blocks.process_all_batches
 	bl	gcm_v6m_small.aes_cipher.zeroize.stack.wipe_stack.1024
 	ldrb	r0, [r5, #11]
 	strb	r0, [r4, #11]
@@ -5564,7 +5564,7 @@ gcm_v6m_small.gcm.mode.BorrowedGcm.put_tag: @ @gcm_v6m_small.gcm.mode.BorrowedGc
 	lsls	r6, r6, #24
 	adds	r3, r6, r3
 	adds	r3, r3, r1
-	bl	gcm_v6m_small.aes_narrow.blocks.process_in_batches
+	bl	gcm_v6m_small.aes_narrow.blocks.process_all_batches
 	bl	gcm_v6m_small.aes_cipher.zeroize.stack.wipe_stack.1024
 	ldr	r0, [r5, #16]
 	ldrb	r1, [r0]
@@ -6110,7 +6110,7 @@ gcm_v6m_small.aes_ctr.add_in_batches.add_to_one.1: @ @gcm_v6m_small.aes_ctr.add_
 	lsls	r4, r4, #24
 	adds	r3, r4, r3
 	adds	r3, r3, r1
-	bl	gcm_v6m_small.aes_narrow.blocks.process_in_batches
+	bl	gcm_v6m_small.aes_narrow.blocks.process_all_batches
 	bl	gcm_v6m_small.aes_cipher.zeroize.stack.wipe_stack.1024
 	ldr	r0, [sp, #100]
 	str	r0, [sp, #12]
@@ -7621,7 +7621,7 @@ gcm_v6m_small.gcm_c.siv.prepare: @ @gcm_v6m_small.gcm_c.siv.prepare
 	adds	r2, #56
 	adcs	r3, r4
 	ldr	r0, [sp, #20]                   @ 4-byte Reload
-	bl	gcm_v6m_small.aes_narrow.blocks.process_in_batches
+	bl	gcm_v6m_small.aes_narrow.blocks.process_all_batches
 	bl	gcm_v6m_small.aes_cipher.zeroize.stack.wipe_stack.1024
 	ldr	r2, [sp, #56]
 	lsrs	r1, r2, #17
@@ -8223,7 +8223,7 @@ gcm_v6m_small.gcm_siv.message.put_tag: @ @gcm_v6m_small.gcm_siv.message.put_tag
 	lsls	r4, r4, #24
 	adds	r3, r4, r3
 	adds	r3, r3, r1
-	bl	gcm_v6m_small.aes_narrow.blocks.process_in_batches
+	bl	gcm_v6m_small.aes_narrow.blocks.process_all_batches
 	bl	gcm_v6m_small.aes_cipher.zeroize.stack.wipe_stack.1024
 	subs	r6, r7, #7
 	subs	r6, #5
@@ -8559,7 +8559,7 @@ gcm_v6m_small.aes_ctr.add_in_batches.add_to_one.2: @ @gcm_v6m_small.aes_ctr.add_
 	lsls	r4, r4, #24
 	adds	r3, r4, r3
 	adds	r3, r3, r1
-	bl	gcm_v6m_small.aes_narrow.blocks.process_in_batches
+	bl	gcm_v6m_small.aes_narrow.blocks.process_all_batches
 	bl	gcm_v6m_small.aes_cipher.zeroize.stack.wipe_stack.1024
 	ldr	r0, [sp, #92]
 	str	r0, [sp, #12]
@@ -13456,5 +13456,5 @@ gcm_v6m_small.fotsgure_gcm_siv_wipe:                  @ @gcm_v6m_small.fotsgure_
 	.long	9, 124, 1
 	.asciz	"Fotsgure"
 	.p2align	2, 0x0
-	.asciz	"fotsgure_gcm 0.4.0, thumb/gcm_v6m_small.s, sources SHA-256 208602ae32e5dd5d4aa7a028ebc59ad6269492290ae4be105a6461c3e77eec69"
+	.asciz	"fotsgure_gcm 0.4.0, thumb/gcm_v6m_small.s, sources SHA-256 2b79346c77bb0404dbcf8d7bfc3c037715623eca5ddd3ec8b81ec3dcd0649018"
 	.p2align	2, 0x0

@@ -2972,7 +2972,7 @@ gcm_v7m.gcm.mode.BorrowedGcm.put_tag_so_far: @ @gcm_v7m.gcm.mode.BorrowedGcm.put
 	movs	r1, #1
 	strd	r1, r12, [sp, #8]
 	str	r4, [sp]
-	bl	gcm_v7m.aes_narrow.blocks.process_in_batches
+	bl	gcm_v7m.aes_narrow.blocks.process_all_batches
 	bl	gcm_v7m.aes_cipher.zeroize.stack.wipe_stack.1024
 	ldr.w	r0, [r8, #16]
 	mov	r1, r6
@@ -3075,12 +3075,12 @@ gcm_v7m.gcm.mode.BorrowedGcm.put_tag_so_far: @ @gcm_v7m.gcm.mode.BorrowedGcm.put
 	.cantunwind
 	.fnend
                                         @ -- End function
-	.section	.text.gcm_v7m.aes_narrow.blocks.process_in_batches,"ax",%progbits
-	.p2align	2                               @ -- Begin function aes_narrow::blocks::process_in_batches::<#f6c900d3ac1e47b9>
-	.type	gcm_v7m.aes_narrow.blocks.process_in_batches,%function
+	.section	.text.gcm_v7m.aes_narrow.blocks.process_all_batches,"ax",%progbits
+	.p2align	2                               @ -- Begin function aes_narrow::blocks::process_all_batches::<#f6c900d3ac1e47b9>
+	.type	gcm_v7m.aes_narrow.blocks.process_all_batches,%function
 	.code	16
 	.thumb_func
-gcm_v7m.aes_narrow.blocks.process_in_batches: @ @gcm_v7m.aes_narrow.blocks.process_in_batches
+gcm_v7m.aes_narrow.blocks.process_all_batches: @ @gcm_v7m.aes_narrow.blocks.process_all_batches
 	.fnstart
 @ %bb.0:                                @ %start
 	.save	{r4, r5, r6, r7, r8, r9, r10, r11, lr}
@@ -3123,7 +3123,7 @@ gcm_v7m.aes_narrow.blocks.process_in_batches: @ @gcm_v7m.aes_narrow.blocks.proce
 	add	sp, #20
 	pop.w	{r4, r5, r6, r7, r8, r9, r10, r11, pc}
 .Lgcm_v7m_func_end12:
-	.size	gcm_v7m.aes_narrow.blocks.process_in_batches, .Lgcm_v7m_func_end12-gcm_v7m.aes_narrow.blocks.process_in_batches
+	.size	gcm_v7m.aes_narrow.blocks.process_all_batches, .Lgcm_v7m_func_end12-gcm_v7m.aes_narrow.blocks.process_all_batches
 	.cantunwind
 	.fnend
                                         @ -- End function
@@ -5696,7 +5696,7 @@ gcm_v7m.gcm.mode.put_subkey: @ @gcm_v7m.gcm.mode.put_subkey
 	strd	r1, r1, [sp, #24]
 	strd	r1, r1, [sp, #16]
 	str	r4, [sp]
-	bl	gcm_v7m.aes_narrow.blocks.process_in_batches
+	bl	gcm_v7m.aes_narrow.blocks.process_all_batches
 	bl	gcm_v7m.aes_cipher.zeroize.stack.wipe_stack.1024
 	add	r3, sp, #16
 	ldm	r3, {r0, r1, r2, r3}
@@ -5806,7 +5806,7 @@ gcm_v7m.gcm.mode.BorrowedGcm.put_tag: @ @gcm_v7m.gcm.mode.BorrowedGcm.put_tag
 	strd	r2, r7, [sp, #8]
 	mov	r2, r1
 	str	r5, [sp]
-	bl	gcm_v7m.aes_narrow.blocks.process_in_batches
+	bl	gcm_v7m.aes_narrow.blocks.process_all_batches
 	bl	gcm_v7m.aes_cipher.zeroize.stack.wipe_stack.1024
 	ldr	r3, [r4, #16]
 	ldm	r3, {r0, r1, r2, r3}
@@ -6077,7 +6077,7 @@ gcm_v7m.gcm.gctr.add_gctr: @ @gcm_v7m.gcm.gctr.add_gctr
 	str.w	r9, [sp, #124]
 	strb.w	r5, [sp, #128]
 	str.w	r10, [sp]
-	bl	gcm_v7m.aes_narrow.blocks.process_in_batches
+	bl	gcm_v7m.aes_narrow.blocks.process_all_batches
 	bl	gcm_v7m.aes_cipher.zeroize.stack.wipe_stack.1024
 	cmp.w	r11, #0
 	beq	.Lgcm_v7m_BB21_6
@@ -7548,7 +7548,7 @@ gcm_v7m.gcm_c.siv.prepare: @ @gcm_v7m.gcm_c.siv.prepare
 	str	r4, [sp, #52]
 	strd	r6, r1, [sp, #8]
 	str	r7, [sp]
-	bl	gcm_v7m.aes_narrow.blocks.process_in_batches
+	bl	gcm_v7m.aes_narrow.blocks.process_all_batches
 	bl	gcm_v7m.aes_cipher.zeroize.stack.wipe_stack.1024
 	ldrd	r6, r7, [sp, #52]
 	ldrd	r1, r0, [sp, #20]
@@ -7851,7 +7851,7 @@ gcm_v7m.gcm_siv.message.put_tag: @ @gcm_v7m.gcm_siv.message.put_tag
 	movs	r5, #0
 	strd	r1, r5, [sp, #8]
 	str	r6, [sp]
-	bl	gcm_v7m.aes_narrow.blocks.process_in_batches
+	bl	gcm_v7m.aes_narrow.blocks.process_all_batches
 	sub.w	r4, r7, #12
 	mov	sp, r4
 	pop.w	{r4, r5, r6, r7, r8, r9, r10, r11, lr}
@@ -8056,7 +8056,7 @@ gcm_v7m.gcm_siv.message.apply: @ @gcm_v7m.gcm_siv.message.apply
 	strb.w	r6, [sp, #107]
 	str.w	lr, [sp, #92]
 	str	r5, [sp]
-	bl	gcm_v7m.aes_narrow.blocks.process_in_batches
+	bl	gcm_v7m.aes_narrow.blocks.process_all_batches
 	bl	gcm_v7m.aes_cipher.zeroize.stack.wipe_stack.1024
 	lsls.w	r0, r9, #27
 	beq.w	.Lgcm_v7m_BB35_5
@@ -11999,5 +11999,5 @@ gcm_v7m.fotsgure_gcm_siv_wipe:                  @ @gcm_v7m.fotsgure_gcm_siv_wipe
 	.long	9, 118, 1
 	.asciz	"Fotsgure"
 	.p2align	2, 0x0
-	.asciz	"fotsgure_gcm 0.4.0, thumb/gcm_v7m.s, sources SHA-256 208602ae32e5dd5d4aa7a028ebc59ad6269492290ae4be105a6461c3e77eec69"
+	.asciz	"fotsgure_gcm 0.4.0, thumb/gcm_v7m.s, sources SHA-256 2b79346c77bb0404dbcf8d7bfc3c037715623eca5ddd3ec8b81ec3dcd0649018"
 	.p2align	2, 0x0

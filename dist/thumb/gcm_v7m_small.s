@@ -2130,7 +2130,7 @@ gcm_v7m_small.gcm.mode.BorrowedGcm.put_tag_so_far: @ @gcm_v7m_small.gcm.mode.Bor
 	movs	r1, #1
 	strd	r1, r12, [sp, #8]
 	str	r4, [sp]
-	bl	gcm_v7m_small.aes_narrow.blocks.process_in_batches
+	bl	gcm_v7m_small.aes_narrow.blocks.process_all_batches
 	bl	gcm_v7m_small.aes_cipher.zeroize.stack.wipe_stack.1024
 	mov	r0, r8
 	mov	r1, r6
@@ -2235,12 +2235,12 @@ gcm_v7m_small.gcm.mode.BorrowedGcm.put_tag_so_far: @ @gcm_v7m_small.gcm.mode.Bor
 	.cantunwind
 	.fnend
                                         @ -- End function
-	.section	.text.gcm_v7m_small.aes_narrow.blocks.process_in_batches,"ax",%progbits
-	.p2align	2                               @ -- Begin function aes_narrow::blocks::process_in_batches::<#f6c900d3ac1e47b9>
-	.type	gcm_v7m_small.aes_narrow.blocks.process_in_batches,%function
+	.section	.text.gcm_v7m_small.aes_narrow.blocks.process_all_batches,"ax",%progbits
+	.p2align	2                               @ -- Begin function aes_narrow::blocks::process_all_batches::<#f6c900d3ac1e47b9>
+	.type	gcm_v7m_small.aes_narrow.blocks.process_all_batches,%function
 	.code	16
 	.thumb_func
-gcm_v7m_small.aes_narrow.blocks.process_in_batches: @ @gcm_v7m_small.aes_narrow.blocks.process_in_batches
+gcm_v7m_small.aes_narrow.blocks.process_all_batches: @ @gcm_v7m_small.aes_narrow.blocks.process_all_batches
 	.fnstart
 @ %bb.0:                                @ %start
 	.save	{r4, r5, r6, r7, r8, r9, r10, r11, lr}
@@ -2283,7 +2283,7 @@ gcm_v7m_small.aes_narrow.blocks.process_in_batches: @ @gcm_v7m_small.aes_narrow.
 	add	sp, #20
 	pop.w	{r4, r5, r6, r7, r8, r9, r10, r11, pc}
 .Lgcm_v7m_small_func_end31:
-	.size	gcm_v7m_small.aes_narrow.blocks.process_in_batches, .Lgcm_v7m_small_func_end31-gcm_v7m_small.aes_narrow.blocks.process_in_batches
+	.size	gcm_v7m_small.aes_narrow.blocks.process_all_batches, .Lgcm_v7m_small_func_end31-gcm_v7m_small.aes_narrow.blocks.process_all_batches
 	.cantunwind
 	.fnend
                                         @ -- End function
@@ -3498,7 +3498,7 @@ gcm_v7m_small.gcm.mode.put_subkey: @ @gcm_v7m_small.gcm.mode.put_subkey
 	add	r5, sp, #16
 	mov	r0, r1
 	str	r5, [sp]
-	bl	gcm_v7m_small.aes_narrow.blocks.process_in_batches
+	bl	gcm_v7m_small.aes_narrow.blocks.process_all_batches
 	bl	gcm_v7m_small.aes_cipher.zeroize.stack.wipe_stack.1024
 	add	r3, sp, #16
 	ldm	r3, {r0, r1, r2, r3}
@@ -3611,7 +3611,7 @@ gcm_v7m_small.gcm.mode.BorrowedGcm.put_tag: @ @gcm_v7m_small.gcm.mode.BorrowedGc
 	strd	r2, r5, [sp, #8]
 	mov	r2, r1
 	str	r6, [sp]
-	bl	gcm_v7m_small.aes_narrow.blocks.process_in_batches
+	bl	gcm_v7m_small.aes_narrow.blocks.process_all_batches
 	bl	gcm_v7m_small.aes_cipher.zeroize.stack.wipe_stack.1024
 	ldr	r0, [r4, #16]
 	ldrd	r1, r2, [r0]
@@ -3916,7 +3916,7 @@ gcm_v7m_small.aes_ctr.add_in_batches.add_to_one.1: @ @gcm_v7m_small.aes_ctr.add_
 	strb.w	r12, [sp, #34]
 	strb.w	r6, [sp, #35]
 	str	r5, [sp]
-	bl	gcm_v7m_small.aes_narrow.blocks.process_in_batches
+	bl	gcm_v7m_small.aes_narrow.blocks.process_all_batches
 	bl	gcm_v7m_small.aes_cipher.zeroize.stack.wipe_stack.1024
 	ldr	r1, [sp, #72]
 	and	r2, r11, #15
@@ -5001,7 +5001,7 @@ gcm_v7m_small.gcm_c.siv.prepare: @ @gcm_v7m_small.gcm_c.siv.prepare
 	str	r4, [sp, #52]
 	strd	r6, r1, [sp, #8]
 	str	r7, [sp]
-	bl	gcm_v7m_small.aes_narrow.blocks.process_in_batches
+	bl	gcm_v7m_small.aes_narrow.blocks.process_all_batches
 	bl	gcm_v7m_small.aes_cipher.zeroize.stack.wipe_stack.1024
 	ldrd	r6, r7, [sp, #52]
 	ldrd	r1, r0, [sp, #20]
@@ -5370,7 +5370,7 @@ gcm_v7m_small.gcm_siv.message.put_tag: @ @gcm_v7m_small.gcm_siv.message.put_tag
 	movs	r5, #0
 	strd	r1, r5, [sp, #8]
 	str	r6, [sp]
-	bl	gcm_v7m_small.aes_narrow.blocks.process_in_batches
+	bl	gcm_v7m_small.aes_narrow.blocks.process_all_batches
 	sub.w	r4, r7, #12
 	mov	sp, r4
 	pop.w	{r4, r5, r6, r7, r8, r9, r10, r11, lr}
@@ -5553,7 +5553,7 @@ gcm_v7m_small.aes_ctr.add_in_batches.add_to_one.2: @ @gcm_v7m_small.aes_ctr.add_
 	add	r5, sp, #20
 	mov	r0, r1
 	str	r5, [sp]
-	bl	gcm_v7m_small.aes_narrow.blocks.process_in_batches
+	bl	gcm_v7m_small.aes_narrow.blocks.process_all_batches
 	bl	gcm_v7m_small.aes_cipher.zeroize.stack.wipe_stack.1024
 	mov	r0, r5
 	movs	r2, #0
@@ -8955,5 +8955,5 @@ gcm_v7m_small.fotsgure_gcm_siv_wipe:                  @ @gcm_v7m_small.fotsgure_
 	.long	9, 124, 1
 	.asciz	"Fotsgure"
 	.p2align	2, 0x0
-	.asciz	"fotsgure_gcm 0.4.0, thumb/gcm_v7m_small.s, sources SHA-256 208602ae32e5dd5d4aa7a028ebc59ad6269492290ae4be105a6461c3e77eec69"
+	.asciz	"fotsgure_gcm 0.4.0, thumb/gcm_v7m_small.s, sources SHA-256 2b79346c77bb0404dbcf8d7bfc3c037715623eca5ddd3ec8b81ec3dcd0649018"
 	.p2align	2, 0x0

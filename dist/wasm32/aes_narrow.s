@@ -9,7 +9,7 @@
 	.functype	aes_planes__soft__word__word32__U32Word__constant_planes (i32, i32) -> ()
 	.functype	aes_cipher__zeroize__stack__wipe_stack____768_ () -> ()
 	.functype	aes_ctr__add_in_batches__add_keystream____4f733d09d7f6c6b4_ (i32, i32, i64, i32, i64) -> ()
-	.functype	aes_narrow__blocks__process_in_batches____1a21aa7f601e7603_ (i32, i64, i32, i64) -> ()
+	.functype	aes_narrow__blocks__process_all_batches____1a21aa7f601e7603_ (i32, i64, i32, i64) -> ()
 	.functype	aes_narrow__blocks__process_filled_up____1a21aa7f601e7603_ (i32, i64, i32, i64) -> ()
 	.functype	aes_narrow__blocks__process_state____1a21aa7f601e7603_ (i32, i64, i32) -> ()
 	.functype	aes_planes__soft__word__word32__U32Word__turn_planes (i32, i32, i32, i32) -> ()
@@ -32,7 +32,7 @@
 	.functype	aes_narrow__blocks__process_filled_up____a3dcb71d05bd149b_ (i32, i64, i32, i64) -> ()
 	.functype	aes_narrow__blocks__process_state____a3dcb71d05bd149b_ (i32, i64, i32) -> ()
 	.functype	aes_c__blocks__fotsgure_aes_decrypt_blocks (i32, i32, i64) -> (i32)
-	.functype	aes_narrow__blocks__process_in_batches____a3dcb71d05bd149b_ (i32, i64, i32, i64) -> ()
+	.functype	aes_narrow__blocks__process_all_batches____a3dcb71d05bd149b_ (i32, i64, i32, i64) -> ()
 	.functype	key_wrap__wrapping__unwrap____10c636071cb6e37c_ (i32, i32, i32, i64, i32, i64) -> ()
 	.functype	key_wrap__steps__unwrap_in_place____10c636071cb6e37c_ (i32, i32, i32, i64) -> ()
 	.functype	key_wrap__steps__decrypt_halves____10c636071cb6e37c_ (i32, i32, i32) -> ()
@@ -5289,7 +5289,7 @@ aes_ctr__add_in_batches__add_keystream____4f733d09d7f6c6b4_: # @aes_ctr__add_in_
 	i32.const	48
 	i32.add 
 	i64.const	1
-	call	aes_narrow__blocks__process_in_batches____1a21aa7f601e7603_
+	call	aes_narrow__blocks__process_all_batches____1a21aa7f601e7603_
 	call	aes_cipher__zeroize__stack__wipe_stack____1024_
 	block   	
 	local.get	7
@@ -5828,10 +5828,10 @@ aes_ctr__add_in_batches__add_keystream____4f733d09d7f6c6b4_: # @aes_ctr__add_in_
                                         # fallthrough-return
 	end_function
                                         # -- End function
-	.section	.text.aes_narrow__blocks__process_in_batches____1a21aa7f601e7603_,"",@
-	.type	aes_narrow__blocks__process_in_batches____1a21aa7f601e7603_,@function # -- Begin function aes_narrow__blocks__process_in_batches____1a21aa7f601e7603_
-aes_narrow__blocks__process_in_batches____1a21aa7f601e7603_: # @aes_narrow__blocks__process_in_batches____1a21aa7f601e7603_
-	.functype	aes_narrow__blocks__process_in_batches____1a21aa7f601e7603_ (i32, i64, i32, i64) -> ()
+	.section	.text.aes_narrow__blocks__process_all_batches____1a21aa7f601e7603_,"",@
+	.type	aes_narrow__blocks__process_all_batches____1a21aa7f601e7603_,@function # -- Begin function aes_narrow__blocks__process_all_batches____1a21aa7f601e7603_
+aes_narrow__blocks__process_all_batches____1a21aa7f601e7603_: # @aes_narrow__blocks__process_all_batches____1a21aa7f601e7603_
+	.functype	aes_narrow__blocks__process_all_batches____1a21aa7f601e7603_ (i32, i64, i32, i64) -> ()
 	.local  	i64, i64
 # %bb.0:                                # %start
 	block   	
@@ -13352,7 +13352,7 @@ cmac__tags__tag____4f733d09d7f6c6b4_:   # @cmac__tags__tag____4f733d09d7f6c6b4_
 	i32.const	32
 	i32.add 
 	i64.const	1
-	call	aes_narrow__blocks__process_in_batches____1a21aa7f601e7603_
+	call	aes_narrow__blocks__process_all_batches____1a21aa7f601e7603_
 	call	aes_cipher__zeroize__stack__wipe_stack____1024_
 	local.get	4
 	i64.const	0
@@ -14066,7 +14066,7 @@ cmac__tags__tag____4f733d09d7f6c6b4_:   # @cmac__tags__tag____4f733d09d7f6c6b4_
 	i64.load	8:p2align=0
 	local.get	4
 	i64.const	1
-	call	aes_narrow__blocks__process_in_batches____1a21aa7f601e7603_
+	call	aes_narrow__blocks__process_all_batches____1a21aa7f601e7603_
 	call	aes_cipher__zeroize__stack__wipe_stack____1024_
 	local.get	0
 	local.get	4
@@ -14314,7 +14314,7 @@ cmac__chaining__chain____4f733d09d7f6c6b4_: # @cmac__chaining__chain____4f733d09
 	i64.load	8:p2align=0
 	local.get	1
 	i64.const	1
-	call	aes_narrow__blocks__process_in_batches____1a21aa7f601e7603_
+	call	aes_narrow__blocks__process_all_batches____1a21aa7f601e7603_
 	local.get	6
 	i32.const	-16
 	i32.add 
@@ -15189,7 +15189,7 @@ key_wrap__steps__encrypt_halves____4f733d09d7f6c6b4_: # @key_wrap__steps__encryp
 	i64.load	8:p2align=0
 	local.get	3
 	i64.const	1
-	call	aes_narrow__blocks__process_in_batches____1a21aa7f601e7603_
+	call	aes_narrow__blocks__process_all_batches____1a21aa7f601e7603_
 	call	aes_cipher__zeroize__stack__wipe_stack____1024_
 	local.get	1
 	local.get	3
@@ -22166,7 +22166,7 @@ aes_c__blocks__fotsgure_aes_decrypt_blocks: # @aes_c__blocks__fotsgure_aes_decry
 	i64.add 
 	local.get	1
 	local.get	2
-	call	aes_narrow__blocks__process_in_batches____a3dcb71d05bd149b_
+	call	aes_narrow__blocks__process_all_batches____a3dcb71d05bd149b_
 	call	aes_cipher__zeroize__stack__wipe_stack____1024_
 	i32.const	0
 	local.set	4
@@ -22176,10 +22176,10 @@ aes_c__blocks__fotsgure_aes_decrypt_blocks: # @aes_c__blocks__fotsgure_aes_decry
                                         # fallthrough-return
 	end_function
                                         # -- End function
-	.section	.text.aes_narrow__blocks__process_in_batches____a3dcb71d05bd149b_,"",@
-	.type	aes_narrow__blocks__process_in_batches____a3dcb71d05bd149b_,@function # -- Begin function aes_narrow__blocks__process_in_batches____a3dcb71d05bd149b_
-aes_narrow__blocks__process_in_batches____a3dcb71d05bd149b_: # @aes_narrow__blocks__process_in_batches____a3dcb71d05bd149b_
-	.functype	aes_narrow__blocks__process_in_batches____a3dcb71d05bd149b_ (i32, i64, i32, i64) -> ()
+	.section	.text.aes_narrow__blocks__process_all_batches____a3dcb71d05bd149b_,"",@
+	.type	aes_narrow__blocks__process_all_batches____a3dcb71d05bd149b_,@function # -- Begin function aes_narrow__blocks__process_all_batches____a3dcb71d05bd149b_
+aes_narrow__blocks__process_all_batches____a3dcb71d05bd149b_: # @aes_narrow__blocks__process_all_batches____a3dcb71d05bd149b_
+	.functype	aes_narrow__blocks__process_all_batches____a3dcb71d05bd149b_ (i32, i64, i32, i64) -> ()
 	.local  	i64, i64
 # %bb.0:                                # %start
 	block   	
@@ -23012,7 +23012,7 @@ key_wrap__steps__decrypt_halves____10c636071cb6e37c_: # @key_wrap__steps__decryp
 	i64.load	8:p2align=0
 	local.get	3
 	i64.const	1
-	call	aes_narrow__blocks__process_in_batches____a3dcb71d05bd149b_
+	call	aes_narrow__blocks__process_all_batches____a3dcb71d05bd149b_
 	call	aes_cipher__zeroize__stack__wipe_stack____1024_
 	local.get	1
 	local.get	3
@@ -29839,7 +29839,7 @@ ccm__message__put_tag____4f733d09d7f6c6b4_: # @ccm__message__put_tag____4f733d09
 	i64.load	8:p2align=0
 	local.get	8
 	i64.const	1
-	call	aes_narrow__blocks__process_in_batches____1a21aa7f601e7603_
+	call	aes_narrow__blocks__process_all_batches____1a21aa7f601e7603_
 	call	aes_cipher__zeroize__stack__wipe_stack____1024_
 	block   	
 	local.get	12
@@ -30010,7 +30010,7 @@ ccm__message__put_tag____4f733d09d7f6c6b4_: # @ccm__message__put_tag____4f733d09
 	i32.const	8
 	i32.add 
 	i64.const	1
-	call	aes_narrow__blocks__process_in_batches____1a21aa7f601e7603_
+	call	aes_narrow__blocks__process_all_batches____1a21aa7f601e7603_
 	call	aes_cipher__zeroize__stack__wipe_stack____1024_
 	local.get	8
 	i32.load8_u	0
@@ -30408,7 +30408,7 @@ fotsgure_aes_encrypt_blocks:            # @fotsgure_aes_encrypt_blocks
 	i32.add 
 	local.get	2
 	i64.extend_i32_u
-	call	aes_narrow__blocks__process_in_batches____1a21aa7f601e7603_
+	call	aes_narrow__blocks__process_all_batches____1a21aa7f601e7603_
 	call	aes_cipher__zeroize__stack__wipe_stack____1024_
 .LBB52_3:                               # %wide_fotsgure_aes_encrypt_blocks.exit
 	end_block                               # label141:
@@ -30679,7 +30679,7 @@ fotsgure_aes_encrypt_blocks_to:         # @fotsgure_aes_encrypt_blocks_to
 	i64.add 
 	local.get	7
 	local.get	10
-	call	aes_narrow__blocks__process_in_batches____1a21aa7f601e7603_
+	call	aes_narrow__blocks__process_all_batches____1a21aa7f601e7603_
 	call	aes_cipher__zeroize__stack__wipe_stack____1024_
 	i32.const	0
 	local.set	5
@@ -30933,7 +30933,7 @@ fotsgure_aes_decrypt_blocks_to:         # @fotsgure_aes_decrypt_blocks_to
 	i64.add 
 	local.get	7
 	local.get	10
-	call	aes_narrow__blocks__process_in_batches____a3dcb71d05bd149b_
+	call	aes_narrow__blocks__process_all_batches____a3dcb71d05bd149b_
 	call	aes_cipher__zeroize__stack__wipe_stack____1024_
 	i32.const	0
 	local.set	5
@@ -31436,7 +31436,7 @@ fotsgure_aes_cbc_encrypt:               # @fotsgure_aes_cbc_encrypt
 	local.get	5
 	local.get	4
 	i64.const	1
-	call	aes_narrow__blocks__process_in_batches____1a21aa7f601e7603_
+	call	aes_narrow__blocks__process_all_batches____1a21aa7f601e7603_
 	call	aes_cipher__zeroize__stack__wipe_stack____1024_
 	local.get	21
 	local.get	4
@@ -32556,7 +32556,7 @@ fotsgure_aes_encrypt_blocks_with:       # @fotsgure_aes_encrypt_blocks_with
 	i32.add 
 	local.get	3
 	i64.extend_i32_u
-	call	aes_narrow__blocks__process_in_batches____1a21aa7f601e7603_
+	call	aes_narrow__blocks__process_all_batches____1a21aa7f601e7603_
 	call	aes_cipher__zeroize__stack__wipe_stack____1024_
 	local.get	4
 	i32.const	0

@@ -4948,12 +4948,12 @@ gcm__mode__BorrowedGcm__put_tag____e698720ccb2969c4_: # @gcm__mode__BorrowedGcm_
 	i64.const	0
 	i64.ne  
 	br_if   	0                               # 0: up to label54
-# %bb.3:                                # %gcm__hash__hash_string_and____4e0b07d5b1f54653_.exit.loopexit.i.i
+# %bb.3:                                # %gcm__hash__hash_string_and_end____4e0b07d5b1f54653_.exit.loopexit.i.i
 	end_loop
 	local.get	7
 	v128.load	144
 	local.set	8
-.LBB25_4:                               # %gcm__hash__hash_string_and____4e0b07d5b1f54653_.exit.i.i
+.LBB25_4:                               # %gcm__hash__hash_string_and_end____4e0b07d5b1f54653_.exit.i.i
 	end_block                               # label53:
 	local.get	7
 	v128.const	0, 0
@@ -18354,12 +18354,12 @@ gcm_siv__message__put_tag____7927255b4de34720_: # @gcm_siv__message__put_tag____
 	i64.const	0
 	i64.ne  
 	br_if   	0                               # 0: up to label219
-# %bb.38:                               # %gcm__hash__hash_string_and____1ace2c8123f9d1c9_.exit.loopexit.i
+# %bb.38:                               # %gcm__hash__hash_string_and_end____1ace2c8123f9d1c9_.exit.loopexit.i
 	end_loop
 	local.get	8
 	v128.load	176
 	local.set	10
-.LBB66_39:                              # %gcm__hash__hash_string_and____1ace2c8123f9d1c9_.exit.i
+.LBB66_39:                              # %gcm__hash__hash_string_and_end____1ace2c8123f9d1c9_.exit.i
 	end_block                               # label218:
 	local.get	8
 	local.get	9

@@ -20,7 +20,7 @@
 	.functype	gcm__tags__lengths_of (i32, i64, i64) -> ()
 	.functype	aes_cipher__zeroize__stack__wipe_stack____512_ () -> ()
 	.functype	gcm__mode__BorrowedGcm__put_tag_so_far____c01aad2b5fbc92b1_ (i32, i32, i32) -> ()
-	.functype	aes_narrow__blocks__process_in_batches____f6c900d3ac1e47b9_ (i32, i64, i32, i64) -> ()
+	.functype	aes_narrow__blocks__process_all_batches____f6c900d3ac1e47b9_ (i32, i64, i32, i64) -> ()
 	.functype	aes_narrow__blocks__process_filled_up____f6c900d3ac1e47b9_ (i32, i64, i32, i64) -> ()
 	.functype	aes_narrow__blocks__process_state____f6c900d3ac1e47b9_ (i32, i64, i32) -> ()
 	.functype	aes_planes__soft__word__word32__U32Word__turn_planes (i32, i32, i32, i32) -> ()
@@ -6559,7 +6559,7 @@ gcm__mode__BorrowedGcm__put_tag_so_far____c01aad2b5fbc92b1_: # @gcm__mode__Borro
 	i64.load	8:p2align=0
 	local.get	2
 	i64.const	1
-	call	aes_narrow__blocks__process_in_batches____f6c900d3ac1e47b9_
+	call	aes_narrow__blocks__process_all_batches____f6c900d3ac1e47b9_
 	call	aes_cipher__zeroize__stack__wipe_stack____1024_
 	local.get	3
 	i32.const	16
@@ -6607,10 +6607,10 @@ gcm__mode__BorrowedGcm__put_tag_so_far____c01aad2b5fbc92b1_: # @gcm__mode__Borro
                                         # fallthrough-return
 	end_function
                                         # -- End function
-	.section	.text.aes_narrow__blocks__process_in_batches____f6c900d3ac1e47b9_,"",@
-	.type	aes_narrow__blocks__process_in_batches____f6c900d3ac1e47b9_,@function # -- Begin function aes_narrow__blocks__process_in_batches____f6c900d3ac1e47b9_
-aes_narrow__blocks__process_in_batches____f6c900d3ac1e47b9_: # @aes_narrow__blocks__process_in_batches____f6c900d3ac1e47b9_
-	.functype	aes_narrow__blocks__process_in_batches____f6c900d3ac1e47b9_ (i32, i64, i32, i64) -> ()
+	.section	.text.aes_narrow__blocks__process_all_batches____f6c900d3ac1e47b9_,"",@
+	.type	aes_narrow__blocks__process_all_batches____f6c900d3ac1e47b9_,@function # -- Begin function aes_narrow__blocks__process_all_batches____f6c900d3ac1e47b9_
+aes_narrow__blocks__process_all_batches____f6c900d3ac1e47b9_: # @aes_narrow__blocks__process_all_batches____f6c900d3ac1e47b9_
+	.functype	aes_narrow__blocks__process_all_batches____f6c900d3ac1e47b9_ (i32, i64, i32, i64) -> ()
 	.local  	i64, i64
 # %bb.0:                                # %start
 	i64.const	0
@@ -12683,7 +12683,7 @@ gcm__mode__put_subkey____107cc7d9d0728059_: # @gcm__mode__put_subkey____107cc7d9
 	i64.load	8:p2align=0
 	local.get	2
 	i64.const	1
-	call	aes_narrow__blocks__process_in_batches____f6c900d3ac1e47b9_
+	call	aes_narrow__blocks__process_all_batches____f6c900d3ac1e47b9_
 	call	aes_cipher__zeroize__stack__wipe_stack____1024_
 	local.get	1
 	local.get	2
@@ -12891,7 +12891,7 @@ gcm__mode__BorrowedGcm__put_tag____c01aad2b5fbc92b1_: # @gcm__mode__BorrowedGcm_
 	i64.load	8:p2align=0
 	local.get	6
 	i64.const	1
-	call	aes_narrow__blocks__process_in_batches____f6c900d3ac1e47b9_
+	call	aes_narrow__blocks__process_all_batches____f6c900d3ac1e47b9_
 	call	aes_cipher__zeroize__stack__wipe_stack____1024_
 	local.get	7
 	local.get	0
@@ -13511,7 +13511,7 @@ gcm__gctr__add_gctr____099a9bc28799ce6c_: # @gcm__gctr__add_gctr____099a9bc28799
 	i32.const	48
 	i32.add 
 	i64.const	1
-	call	aes_narrow__blocks__process_in_batches____f6c900d3ac1e47b9_
+	call	aes_narrow__blocks__process_all_batches____f6c900d3ac1e47b9_
 	call	aes_cipher__zeroize__stack__wipe_stack____1024_
 	block   	
 	local.get	7
@@ -16268,7 +16268,7 @@ gcm_c__siv__prepare____6c5a95c66ef7471a_: # @gcm_c__siv__prepare____6c5a95c66ef7
 	i64.shr_u
 	i64.const	2
 	i64.add 
-	call	aes_narrow__blocks__process_in_batches____f6c900d3ac1e47b9_
+	call	aes_narrow__blocks__process_all_batches____f6c900d3ac1e47b9_
 	call	aes_cipher__zeroize__stack__wipe_stack____1024_
 	local.get	3
 	local.get	4
@@ -16891,7 +16891,7 @@ gcm_siv__message__put_tag____fe07397204778e73_: # @gcm_siv__message__put_tag____
 	i64.load	8:p2align=0
 	local.get	7
 	i64.const	1
-	call	aes_narrow__blocks__process_in_batches____f6c900d3ac1e47b9_
+	call	aes_narrow__blocks__process_all_batches____f6c900d3ac1e47b9_
 	call	aes_cipher__zeroize__stack__wipe_stack____1024_
 	local.get	8
 	i32.const	64
@@ -17157,7 +17157,7 @@ gcm_siv__message__apply____099a9bc28799ce6c_: # @gcm_siv__message__apply____099a
 	i32.const	48
 	i32.add 
 	i64.const	1
-	call	aes_narrow__blocks__process_in_batches____f6c900d3ac1e47b9_
+	call	aes_narrow__blocks__process_all_batches____f6c900d3ac1e47b9_
 	call	aes_cipher__zeroize__stack__wipe_stack____1024_
 	block   	
 	local.get	6

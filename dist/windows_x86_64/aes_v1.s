@@ -2228,7 +2228,7 @@ aes_v1.aes_ctr.add_in_batches.add_keystream: # @aes_v1.aes_ctr.add_in_batches.ad
 	movq	%rsp, %r15
 	movl	$1, %ecx
 	movq	%r15, %rdx
-	callq	aes_v1.aes_narrow.blocks.process_in_batches.1
+	callq	aes_v1.aes_narrow.blocks.process_all_batches.1
 	callq	aes_v1.aes_cipher.zeroize.stack.wipe_stack.1024
 	xorl	%ecx, %ecx
 	testq	%r12, %r12
@@ -2346,13 +2346,13 @@ aes_v1.aes_ctr.add_in_batches.add_keystream: # @aes_v1.aes_ctr.add_in_batches.ad
 	retq
 	.seh_endproc
                                         # -- End function
-	.def	aes_v1.aes_narrow.blocks.process_in_batches.1;
+	.def	aes_v1.aes_narrow.blocks.process_all_batches.1;
 	.scl	3;
 	.type	32;
 	.endef
-	.p2align	4                               # -- Begin function aes_narrow::blocks::process_in_batches::<#1a21aa7f601e7603>
-aes_v1.aes_narrow.blocks.process_in_batches.1: # @aes_v1.aes_narrow.blocks.process_in_batches.1
-.seh_proc aes_v1.aes_narrow.blocks.process_in_batches.1
+	.p2align	4                               # -- Begin function aes_narrow::blocks::process_all_batches::<#1a21aa7f601e7603>
+aes_v1.aes_narrow.blocks.process_all_batches.1: # @aes_v1.aes_narrow.blocks.process_all_batches.1
+.seh_proc aes_v1.aes_narrow.blocks.process_all_batches.1
 # %bb.0:                                # %start
 	pushq	%r15
 	.seh_pushreg %r15
@@ -5928,7 +5928,7 @@ aes_v1.cmac.tags.tag: # @aes_v1.cmac.tags.tag
 	movaps	%xmm0, 32(%rsp)
 	leaq	32(%rsp), %rdx
 	movl	$1, %ecx
-	callq	aes_v1.aes_narrow.blocks.process_in_batches.1
+	callq	aes_v1.aes_narrow.blocks.process_all_batches.1
 	callq	aes_v1.aes_cipher.zeroize.stack.wipe_stack.1024
 	pxor	%xmm7, %xmm7
 	movq	32(%rsp), %rax
@@ -6035,7 +6035,7 @@ aes_v1.cmac.tags.tag: # @aes_v1.cmac.tags.tag
 	movq	8(%r14), %rsi
 	leaq	48(%rsp), %rdx
 	movl	$1, %ecx
-	callq	aes_v1.aes_narrow.blocks.process_in_batches.1
+	callq	aes_v1.aes_narrow.blocks.process_all_batches.1
 	callq	aes_v1.aes_cipher.zeroize.stack.wipe_stack.1024
 	movaps	48(%rsp), %xmm0
 	movups	%xmm0, (%rbx)
@@ -6106,7 +6106,7 @@ aes_v1.cmac.chaining.chain: # @aes_v1.cmac.chaining.chain
 	movq	8(%rbx), %rsi
 	movl	$1, %ecx
 	movq	%r15, %rdx
-	callq	aes_v1.aes_narrow.blocks.process_in_batches.1
+	callq	aes_v1.aes_narrow.blocks.process_all_batches.1
 	callq	aes_v1.aes_cipher.zeroize.stack.wipe_stack.1024
 	movq	40(%rsp), %rcx                  # 8-byte Reload
 	addq	$16, %rbp
@@ -6362,7 +6362,7 @@ aes_v1.key_wrap.steps.wrap_in_place: # @aes_v1.key_wrap.steps.wrap_in_place
 	movq	%rcx, 16(%rsp)
 	leaq	8(%rsp), %rdx
 	movl	$1, %ecx
-	callq	aes_v1.aes_narrow.blocks.process_in_batches.1
+	callq	aes_v1.aes_narrow.blocks.process_all_batches.1
 	callq	aes_v1.aes_cipher.zeroize.stack.wipe_stack.1024
 	movq	8(%rsp), %rax
 	movq	16(%rsp), %rcx
@@ -6391,7 +6391,7 @@ aes_v1.key_wrap.steps.wrap_in_place: # @aes_v1.key_wrap.steps.wrap_in_place
 	movq	%rcx, 16(%rsp)
 	leaq	8(%rsp), %rdx
 	movl	$1, %ecx
-	callq	aes_v1.aes_narrow.blocks.process_in_batches.1
+	callq	aes_v1.aes_narrow.blocks.process_all_batches.1
 	callq	aes_v1.aes_cipher.zeroize.stack.wipe_stack.1024
 	movq	8(%rsp), %rax
 	movq	16(%rsp), %rcx
@@ -6418,7 +6418,7 @@ aes_v1.key_wrap.steps.wrap_in_place: # @aes_v1.key_wrap.steps.wrap_in_place
 	movq	%rcx, 16(%rsp)
 	leaq	8(%rsp), %rdx
 	movl	$1, %ecx
-	callq	aes_v1.aes_narrow.blocks.process_in_batches.1
+	callq	aes_v1.aes_narrow.blocks.process_all_batches.1
 	callq	aes_v1.aes_cipher.zeroize.stack.wipe_stack.1024
 	movq	8(%rsp), %rax
 	movq	16(%rsp), %rcx
@@ -6446,7 +6446,7 @@ aes_v1.key_wrap.steps.wrap_in_place: # @aes_v1.key_wrap.steps.wrap_in_place
 	movq	%rcx, 16(%rsp)
 	leaq	8(%rsp), %rdx
 	movl	$1, %ecx
-	callq	aes_v1.aes_narrow.blocks.process_in_batches.1
+	callq	aes_v1.aes_narrow.blocks.process_all_batches.1
 	callq	aes_v1.aes_cipher.zeroize.stack.wipe_stack.1024
 	movq	8(%rsp), %rax
 	movq	16(%rsp), %rcx
@@ -6473,7 +6473,7 @@ aes_v1.key_wrap.steps.wrap_in_place: # @aes_v1.key_wrap.steps.wrap_in_place
 	movq	%rcx, 16(%rsp)
 	leaq	8(%rsp), %rdx
 	movl	$1, %ecx
-	callq	aes_v1.aes_narrow.blocks.process_in_batches.1
+	callq	aes_v1.aes_narrow.blocks.process_all_batches.1
 	callq	aes_v1.aes_cipher.zeroize.stack.wipe_stack.1024
 	movq	8(%rsp), %rax
 	movq	16(%rsp), %rcx
@@ -6501,7 +6501,7 @@ aes_v1.key_wrap.steps.wrap_in_place: # @aes_v1.key_wrap.steps.wrap_in_place
 	movq	%rcx, 16(%rsp)
 	leaq	8(%rsp), %rdx
 	movl	$1, %ecx
-	callq	aes_v1.aes_narrow.blocks.process_in_batches.1
+	callq	aes_v1.aes_narrow.blocks.process_all_batches.1
 	callq	aes_v1.aes_cipher.zeroize.stack.wipe_stack.1024
 	movq	8(%rsp), %rax
 	movq	16(%rsp), %rcx
@@ -6688,7 +6688,7 @@ aes_v1.key_wrap.padded.wrap_padded: # @aes_v1.key_wrap.padded.wrap_padded
 	leaq	32(%rsp), %rdx
 	movl	$1, %ecx
 	movq	%rax, %rdi
-	callq	aes_v1.aes_narrow.blocks.process_in_batches.1
+	callq	aes_v1.aes_narrow.blocks.process_all_batches.1
 	callq	aes_v1.aes_cipher.zeroize.stack.wipe_stack.1024
 	movaps	32(%rsp), %xmm0
 	movups	%xmm0, (%rbx)
@@ -10409,13 +10409,13 @@ aes_v1.aes_narrow.blocks.process_state.2: # @aes_v1.aes_narrow.blocks.process_st
 	retq
 	.seh_endproc
                                         # -- End function
-	.def	aes_v1.aes_narrow.blocks.process_in_batches.2;
+	.def	aes_v1.aes_narrow.blocks.process_all_batches.2;
 	.scl	3;
 	.type	32;
 	.endef
-	.p2align	4                               # -- Begin function aes_narrow::blocks::process_in_batches::<#a3dcb71d05bd149b>
-aes_v1.aes_narrow.blocks.process_in_batches.2: # @aes_v1.aes_narrow.blocks.process_in_batches.2
-.seh_proc aes_v1.aes_narrow.blocks.process_in_batches.2
+	.p2align	4                               # -- Begin function aes_narrow::blocks::process_all_batches::<#a3dcb71d05bd149b>
+aes_v1.aes_narrow.blocks.process_all_batches.2: # @aes_v1.aes_narrow.blocks.process_all_batches.2
+.seh_proc aes_v1.aes_narrow.blocks.process_all_batches.2
 # %bb.0:                                # %start
 	pushq	%r15
 	.seh_pushreg %r15
@@ -10668,7 +10668,7 @@ aes_v1.key_wrap.steps.unwrap_in_place: # @aes_v1.key_wrap.steps.unwrap_in_place
 	leaq	8(%rsp), %r13
 	movl	$1, %ecx
 	movq	%r13, %rdx
-	callq	aes_v1.aes_narrow.blocks.process_in_batches.2
+	callq	aes_v1.aes_narrow.blocks.process_all_batches.2
 	callq	aes_v1.aes_cipher.zeroize.stack.wipe_stack.1024
 	movq	8(%rsp), %rax
 	movq	16(%rsp), %rcx
@@ -10697,7 +10697,7 @@ aes_v1.key_wrap.steps.unwrap_in_place: # @aes_v1.key_wrap.steps.unwrap_in_place
 	leaq	8(%rsp), %r13
 	movl	$1, %ecx
 	movq	%r13, %rdx
-	callq	aes_v1.aes_narrow.blocks.process_in_batches.2
+	callq	aes_v1.aes_narrow.blocks.process_all_batches.2
 	callq	aes_v1.aes_cipher.zeroize.stack.wipe_stack.1024
 	movq	8(%rsp), %rax
 	movq	16(%rsp), %rcx
@@ -10726,7 +10726,7 @@ aes_v1.key_wrap.steps.unwrap_in_place: # @aes_v1.key_wrap.steps.unwrap_in_place
 	leaq	8(%rsp), %r13
 	movl	$1, %ecx
 	movq	%r13, %rdx
-	callq	aes_v1.aes_narrow.blocks.process_in_batches.2
+	callq	aes_v1.aes_narrow.blocks.process_all_batches.2
 	callq	aes_v1.aes_cipher.zeroize.stack.wipe_stack.1024
 	movq	8(%rsp), %rax
 	movq	16(%rsp), %rcx
@@ -10755,7 +10755,7 @@ aes_v1.key_wrap.steps.unwrap_in_place: # @aes_v1.key_wrap.steps.unwrap_in_place
 	leaq	8(%rsp), %r13
 	movl	$1, %ecx
 	movq	%r13, %rdx
-	callq	aes_v1.aes_narrow.blocks.process_in_batches.2
+	callq	aes_v1.aes_narrow.blocks.process_all_batches.2
 	callq	aes_v1.aes_cipher.zeroize.stack.wipe_stack.1024
 	movq	8(%rsp), %rax
 	movq	16(%rsp), %rcx
@@ -10784,7 +10784,7 @@ aes_v1.key_wrap.steps.unwrap_in_place: # @aes_v1.key_wrap.steps.unwrap_in_place
 	leaq	8(%rsp), %r13
 	movl	$1, %ecx
 	movq	%r13, %rdx
-	callq	aes_v1.aes_narrow.blocks.process_in_batches.2
+	callq	aes_v1.aes_narrow.blocks.process_all_batches.2
 	callq	aes_v1.aes_cipher.zeroize.stack.wipe_stack.1024
 	movq	8(%rsp), %rax
 	movq	16(%rsp), %rcx
@@ -10812,7 +10812,7 @@ aes_v1.key_wrap.steps.unwrap_in_place: # @aes_v1.key_wrap.steps.unwrap_in_place
 	leaq	8(%rsp), %r13
 	movl	$1, %ecx
 	movq	%r13, %rdx
-	callq	aes_v1.aes_narrow.blocks.process_in_batches.2
+	callq	aes_v1.aes_narrow.blocks.process_all_batches.2
 	callq	aes_v1.aes_cipher.zeroize.stack.wipe_stack.1024
 	movq	8(%rsp), %rax
 	movq	16(%rsp), %rcx
@@ -10989,7 +10989,7 @@ aes_v1.key_wrap.padded.unwrap_padded: # @aes_v1.key_wrap.padded.unwrap_padded
 	leaq	48(%rsp), %r12
 	movl	$1, %ecx
 	movq	%r12, %rdx
-	callq	aes_v1.aes_narrow.blocks.process_in_batches.2
+	callq	aes_v1.aes_narrow.blocks.process_all_batches.2
 	callq	aes_v1.aes_cipher.zeroize.stack.wipe_stack.1024
 	movq	48(%rsp), %r13
 	movq	56(%rsp), %rax
@@ -14157,7 +14157,7 @@ aes_v1.ccm.message.put_tag: # @aes_v1.ccm.message.put_tag
 	movq	8(%r14), %rsi
 	movl	$1, %ecx
 	movq	%rbx, %rdx
-	callq	aes_v1.aes_narrow.blocks.process_in_batches.1
+	callq	aes_v1.aes_narrow.blocks.process_all_batches.1
 	callq	aes_v1.aes_cipher.zeroize.stack.wipe_stack.1024
 	movq	160(%rsp), %rdx
 	testq	%rbp, %rbp
@@ -14237,7 +14237,7 @@ aes_v1.ccm.message.put_tag: # @aes_v1.ccm.message.put_tag
 	movq	8(%r14), %rsi
 	leaq	48(%rsp), %rdx
 	movl	$1, %ecx
-	callq	aes_v1.aes_narrow.blocks.process_in_batches.1
+	callq	aes_v1.aes_narrow.blocks.process_all_batches.1
 	callq	aes_v1.aes_cipher.zeroize.stack.wipe_stack.1024
 	movups	(%rbx), %xmm0
 	xorps	48(%rsp), %xmm0
@@ -14574,7 +14574,7 @@ aes_v1.fotsgure_aes_cbc_encrypt:               # @aes_v1.fotsgure_aes_cbc_encryp
 	movl	$1, %ecx
 	movq	%r12, %rdi
 	movq	%r13, %rsi
-	callq	aes_v1.aes_narrow.blocks.process_in_batches.1
+	callq	aes_v1.aes_narrow.blocks.process_all_batches.1
 	callq	aes_v1.aes_cipher.zeroize.stack.wipe_stack.1024
 	movaps	(%rsp), %xmm0
 	movups	%xmm0, (%r15)
@@ -14875,7 +14875,7 @@ aes_v1.fotsgure_aes_encrypt_blocks:            # @aes_v1.fotsgure_aes_encrypt_bl
 	movq	%rcx, %rdi
 	movq	%rax, %rdx
 	movq	%r8, %rcx
-	callq	aes_v1.aes_narrow.blocks.process_in_batches.1
+	callq	aes_v1.aes_narrow.blocks.process_all_batches.1
 	callq	aes_v1.aes_cipher.zeroize.stack.wipe_stack.1024
 	xorl	%eax, %eax
 .Laes_v1_BB43_3:                               # %"aes_c::blocks::fotsgure_aes_encrypt_blocks.exit"
@@ -15046,7 +15046,7 @@ aes_v1.fotsgure_aes_encrypt_blocks_to:         # @aes_v1.fotsgure_aes_encrypt_bl
 	leaq	56(,%rax,2), %rsi
 	movq	%r9, %rdx
 	movq	%r8, %rcx
-	callq	aes_v1.aes_narrow.blocks.process_in_batches.1
+	callq	aes_v1.aes_narrow.blocks.process_all_batches.1
 	callq	aes_v1.aes_cipher.zeroize.stack.wipe_stack.1024
 	xorl	%eax, %eax
 .Laes_v1_BB44_14:                              # %"aes_c::blocks::fotsgure_aes_encrypt_blocks_to.exit"
@@ -15158,7 +15158,7 @@ aes_v1.fotsgure_aes_encrypt_blocks_with:       # @aes_v1.fotsgure_aes_encrypt_bl
 	movq	%r12, %rdi
 	movq	%r15, %rdx
 	movq	%rbx, %rcx
-	callq	aes_v1.aes_narrow.blocks.process_in_batches.1
+	callq	aes_v1.aes_narrow.blocks.process_all_batches.1
 	callq	aes_v1.aes_cipher.zeroize.stack.wipe_stack.1024
 	movl	$0, 44(%rsp)
 	movq	%r12, %rdi
@@ -15648,7 +15648,7 @@ aes_v1.fotsgure_aes_decrypt_blocks:            # @aes_v1.fotsgure_aes_decrypt_bl
 	movq	%rcx, %rdi
 	movq	%rax, %rdx
 	movq	%r8, %rcx
-	callq	aes_v1.aes_narrow.blocks.process_in_batches.2
+	callq	aes_v1.aes_narrow.blocks.process_all_batches.2
 	callq	aes_v1.aes_cipher.zeroize.stack.wipe_stack.1024
 	xorl	%eax, %eax
 .Laes_v1_BB52_3:                               # %"aes_c::blocks::fotsgure_aes_decrypt_blocks.exit"
@@ -15819,7 +15819,7 @@ aes_v1.fotsgure_aes_decrypt_blocks_to:         # @aes_v1.fotsgure_aes_decrypt_bl
 	leaq	56(,%rax,2), %rsi
 	movq	%r9, %rdx
 	movq	%r8, %rcx
-	callq	aes_v1.aes_narrow.blocks.process_in_batches.2
+	callq	aes_v1.aes_narrow.blocks.process_all_batches.2
 	callq	aes_v1.aes_cipher.zeroize.stack.wipe_stack.1024
 	xorl	%eax, %eax
 .Laes_v1_BB53_14:                              # %"aes_c::blocks::fotsgure_aes_decrypt_blocks_to.exit"
@@ -16990,7 +16990,7 @@ aes_v1.fotsgure_aes_decrypt_blocks_with:       # @aes_v1.fotsgure_aes_decrypt_bl
 	movq	%rbx, %rdi
 	movq	%r14, %rdx
 	movq	32(%rsp), %rcx                  # 8-byte Reload
-	callq	aes_v1.aes_narrow.blocks.process_in_batches.2
+	callq	aes_v1.aes_narrow.blocks.process_all_batches.2
 	callq	aes_v1.aes_cipher.zeroize.stack.wipe_stack.1024
 	xorl	%ebp, %ebp
 .Laes_v1_BB65_5:                               # %"aes_c::blocks::fotsgure_aes_decrypt_blocks.exit.i"
@@ -17305,4 +17305,4 @@ aes_v1.fotsgure_aes_ccm_seal:                  # @aes_v1.fotsgure_aes_ccm_seal
 
 
 	.section	.rdata,"dr"
-	.asciz	"fotsgure_aes 0.4.0, windows_x86_64/aes_v1.s, sources SHA-256 93c4c1f9a119daf9c53c1b84582bcba4455d731c78c61c0f0737ce65242a1d65"
+	.asciz	"fotsgure_aes 0.4.0, windows_x86_64/aes_v1.s, sources SHA-256 6a1cfde10f68c64d860ebcdaaa811215e142521dd923be252f5cd60ac9711c13"

@@ -4929,11 +4929,11 @@ gcm_v2.gcm.mode.BorrowedGcm.put_tag: # @gcm_v2.gcm.mode.BorrowedGcm.put_tag
 	addq	$48, %r14
 	decq	%r13
 	jne	.Lgcm_v2_BB18_2
-# %bb.3:                                # %"gcm::hash::hash_string_and::<#4e0b07d5b1f54653>.exit.loopexit.i.i"
+# %bb.3:                                # %"gcm::hash::hash_string_and_end::<#4e0b07d5b1f54653>.exit.loopexit.i.i"
 	movdqa	32(%rsp), %xmm0
 	movq	176(%rsp), %r14
 	movdqa	80(%rsp), %xmm7                 # 16-byte Reload
-.Lgcm_v2_BB18_4:                               # %"gcm::hash::hash_string_and::<#4e0b07d5b1f54653>.exit.i.i"
+.Lgcm_v2_BB18_4:                               # %"gcm::hash::hash_string_and_end::<#4e0b07d5b1f54653>.exit.i.i"
 	pinsrb	$15, %ebx, %xmm7
 	pxor	%xmm1, %xmm1
 	movdqa	%xmm1, 64(%rsp)
@@ -14110,12 +14110,12 @@ gcm_v2.gcm_siv.message.put_tag.2: # @gcm_v2.gcm_siv.message.put_tag.2
 	addq	$48, %r12
 	decq	%rbx
 	jne	.Lgcm_v2_BB51_19
-# %bb.20:                               # %"gcm::hash::hash_string_and::<#1ace2c8123f9d1c9>.exit.loopexit.i"
+# %bb.20:                               # %"gcm::hash::hash_string_and_end::<#1ace2c8123f9d1c9>.exit.loopexit.i"
 	movdqa	32(%rsp), %xmm6
 	movq	%r14, %r12
 	movdqa	96(%rsp), %xmm8                 # 16-byte Reload
 	movl	76(%rsp), %r9d                  # 4-byte Reload
-.Lgcm_v2_BB51_21:                              # %"gcm::hash::hash_string_and::<#1ace2c8123f9d1c9>.exit.i"
+.Lgcm_v2_BB51_21:                              # %"gcm::hash::hash_string_and_end::<#1ace2c8123f9d1c9>.exit.i"
 	pinsrb	$15, %r9d, %xmm8
 	movq	200(%rsp), %rbx
 	pxor	%xmm0, %xmm0
@@ -18792,4 +18792,4 @@ gcm_v2.fotsgure_gcm_accept_short:              # @gcm_v2.fotsgure_gcm_accept_sho
 
 
 	.section	.rdata,"dr"
-	.asciz	"fotsgure_gcm 0.4.0, windows_x86_64/gcm.s, sources SHA-256 208602ae32e5dd5d4aa7a028ebc59ad6269492290ae4be105a6461c3e77eec69"
+	.asciz	"fotsgure_gcm 0.4.0, windows_x86_64/gcm.s, sources SHA-256 2b79346c77bb0404dbcf8d7bfc3c037715623eca5ddd3ec8b81ec3dcd0649018"

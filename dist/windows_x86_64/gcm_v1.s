@@ -2622,7 +2622,7 @@ gcm_v1.gcm.mode.BorrowedGcm.put_tag_so_far: # @gcm_v1.gcm.mode.BorrowedGcm.put_t
 	movq	(%rdi), %rdi
 	movq	8(%r14), %rsi
 	movl	$1, %ecx
-	callq	gcm_v1.aes_narrow.blocks.process_in_batches
+	callq	gcm_v1.aes_narrow.blocks.process_all_batches
 	callq	gcm_v1.aes_cipher.zeroize.stack.wipe_stack.1024
 	movq	16(%r14), %r14
 	movq	%r14, %rdi
@@ -2711,13 +2711,13 @@ gcm_v1.gcm.mode.BorrowedGcm.put_tag_so_far: # @gcm_v1.gcm.mode.BorrowedGcm.put_t
 	retq
 	.seh_endproc
                                         # -- End function
-	.def	gcm_v1.aes_narrow.blocks.process_in_batches;
+	.def	gcm_v1.aes_narrow.blocks.process_all_batches;
 	.scl	3;
 	.type	32;
 	.endef
-	.p2align	4                               # -- Begin function aes_narrow::blocks::process_in_batches::<#f6c900d3ac1e47b9>
-gcm_v1.aes_narrow.blocks.process_in_batches: # @gcm_v1.aes_narrow.blocks.process_in_batches
-.seh_proc gcm_v1.aes_narrow.blocks.process_in_batches
+	.p2align	4                               # -- Begin function aes_narrow::blocks::process_all_batches::<#f6c900d3ac1e47b9>
+gcm_v1.aes_narrow.blocks.process_all_batches: # @gcm_v1.aes_narrow.blocks.process_all_batches
+.seh_proc gcm_v1.aes_narrow.blocks.process_all_batches
 # %bb.0:                                # %start
 	pushq	%r15
 	.seh_pushreg %r15
@@ -5814,7 +5814,7 @@ gcm_v1.gcm.mode.put_subkey: # @gcm_v1.gcm.mode.put_subkey
 	movq	%rsp, %r14
 	movl	$1, %ecx
 	movq	%r14, %rdx
-	callq	gcm_v1.aes_narrow.blocks.process_in_batches
+	callq	gcm_v1.aes_narrow.blocks.process_all_batches
 	callq	gcm_v1.aes_cipher.zeroize.stack.wipe_stack.1024
 	movq	(%rsp), %rax
 	movq	8(%rsp), %rcx
@@ -5951,7 +5951,7 @@ gcm_v1.gcm.mode.BorrowedGcm.put_tag: # @gcm_v1.gcm.mode.BorrowedGcm.put_tag
 	movq	(%rdi), %rdi
 	movq	8(%r15), %rsi
 	movl	$1, %ecx
-	callq	gcm_v1.aes_narrow.blocks.process_in_batches
+	callq	gcm_v1.aes_narrow.blocks.process_all_batches
 	callq	gcm_v1.aes_cipher.zeroize.stack.wipe_stack.1024
 	movq	16(%r15), %rax
 	movq	(%rax), %r15
@@ -6258,7 +6258,7 @@ gcm_v1.gcm.gctr.add_gctr: # @gcm_v1.gcm.gctr.add_gctr
 	movq	%rsp, %rbx
 	movl	$1, %ecx
 	movq	%rbx, %rdx
-	callq	gcm_v1.aes_narrow.blocks.process_in_batches
+	callq	gcm_v1.aes_narrow.blocks.process_all_batches
 	callq	gcm_v1.aes_cipher.zeroize.stack.wipe_stack.1024
 	testq	%r14, %r14
 	je	.Lgcm_v1_BB20_3
@@ -7165,7 +7165,7 @@ gcm_v1.gcm_c.siv.prepare: # @gcm_v1.gcm_c.siv.prepare
 	shrl	$3, %ecx
 	addq	$2, %rcx
 	leaq	32(%rsp), %rdx
-	callq	gcm_v1.aes_narrow.blocks.process_in_batches
+	callq	gcm_v1.aes_narrow.blocks.process_all_batches
 	callq	gcm_v1.aes_cipher.zeroize.stack.wipe_stack.1024
 	movq	32(%rsp), %rax
 	movq	48(%rsp), %rcx
@@ -7563,7 +7563,7 @@ gcm_v1.gcm_siv.message.put_tag: # @gcm_v1.gcm_siv.message.put_tag
 	movq	(%rax), %rdi
 	movq	8(%rax), %rsi
 	movl	$1, %ecx
-	callq	gcm_v1.aes_narrow.blocks.process_in_batches
+	callq	gcm_v1.aes_narrow.blocks.process_all_batches
 	nop
 	addq	$56, %rsp
 	popq	%rbx
@@ -7742,7 +7742,7 @@ gcm_v1.gcm_siv.message.apply: # @gcm_v1.gcm_siv.message.apply
 	movl	$1, %ecx
 	movq	%rax, %rdi
 	movq	%r8, %rsi
-	callq	gcm_v1.aes_narrow.blocks.process_in_batches
+	callq	gcm_v1.aes_narrow.blocks.process_all_batches
 	callq	gcm_v1.aes_cipher.zeroize.stack.wipe_stack.1024
 	testq	%r14, %r14
 	je	.Lgcm_v1_BB33_4
@@ -12211,4 +12211,4 @@ gcm_v1.fotsgure_gcm_accept_short:              # @gcm_v1.fotsgure_gcm_accept_sho
 
 
 	.section	.rdata,"dr"
-	.asciz	"fotsgure_gcm 0.4.0, windows_x86_64/gcm_v1.s, sources SHA-256 208602ae32e5dd5d4aa7a028ebc59ad6269492290ae4be105a6461c3e77eec69"
+	.asciz	"fotsgure_gcm 0.4.0, windows_x86_64/gcm_v1.s, sources SHA-256 2b79346c77bb0404dbcf8d7bfc3c037715623eca5ddd3ec8b81ec3dcd0649018"

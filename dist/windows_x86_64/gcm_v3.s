@@ -4475,11 +4475,11 @@ gcm_v3.gcm.mode.BorrowedGcm.put_tag: # @gcm_v3.gcm.mode.BorrowedGcm.put_tag
 	addq	$48, %r14
 	decq	%rbx
 	jne	.Lgcm_v3_BB18_2
-# %bb.3:                                # %"gcm::hash::hash_string_and::<#4e0b07d5b1f54653>.exit.loopexit.i.i"
+# %bb.3:                                # %"gcm::hash::hash_string_and_end::<#4e0b07d5b1f54653>.exit.loopexit.i.i"
 	vmovdqa	32(%rsp), %xmm6
 	movq	176(%rsp), %r14
 	vmovdqa	80(%rsp), %xmm0                 # 16-byte Reload
-.Lgcm_v3_BB18_4:                               # %"gcm::hash::hash_string_and::<#4e0b07d5b1f54653>.exit.i.i"
+.Lgcm_v3_BB18_4:                               # %"gcm::hash::hash_string_and_end::<#4e0b07d5b1f54653>.exit.i.i"
 	vpinsrb	$15, %ebp, %xmm0, %xmm7
 	vpxor	%xmm0, %xmm0, %xmm0
 	vmovdqa	%xmm0, 64(%rsp)
@@ -14327,11 +14327,11 @@ gcm_v3.gcm_siv.message.put_tag.2: # @gcm_v3.gcm_siv.message.put_tag.2
 	addq	$48, %r12
 	decq	%rbp
 	jne	.Lgcm_v3_BB51_19
-# %bb.20:                               # %"gcm::hash::hash_string_and::<#1ace2c8123f9d1c9>.exit.loopexit.i"
+# %bb.20:                               # %"gcm::hash::hash_string_and_end::<#1ace2c8123f9d1c9>.exit.loopexit.i"
 	vmovdqa	32(%rsp), %xmm6
 	movq	88(%rsp), %r12                  # 8-byte Reload
 	vmovdqa	96(%rsp), %xmm0                 # 16-byte Reload
-.Lgcm_v3_BB51_21:                              # %"gcm::hash::hash_string_and::<#1ace2c8123f9d1c9>.exit.i"
+.Lgcm_v3_BB51_21:                              # %"gcm::hash::hash_string_and_end::<#1ace2c8123f9d1c9>.exit.i"
 	movq	200(%rsp), %rbp
 	vpinsrb	$15, %ebx, %xmm0, %xmm7
 	vpxor	%xmm0, %xmm0, %xmm0
@@ -19031,4 +19031,4 @@ gcm_v3.fotsgure_gcm_accept_short:              # @gcm_v3.fotsgure_gcm_accept_sho
 
 
 	.section	.rdata,"dr"
-	.asciz	"fotsgure_gcm 0.4.0, windows_x86_64/gcm_v3.s, sources SHA-256 208602ae32e5dd5d4aa7a028ebc59ad6269492290ae4be105a6461c3e77eec69"
+	.asciz	"fotsgure_gcm 0.4.0, windows_x86_64/gcm_v3.s, sources SHA-256 2b79346c77bb0404dbcf8d7bfc3c037715623eca5ddd3ec8b81ec3dcd0649018"

@@ -2198,7 +2198,7 @@ aes_v1.aes_ctr.add_in_batches.add_keystream: # @aes_v1.aes_ctr.add_in_batches.ad
 	movq	%rsp, %r15
 	movl	$1, %ecx
 	movq	%r15, %rdx
-	callq	aes_v1.aes_narrow.blocks.process_in_batches.1
+	callq	aes_v1.aes_narrow.blocks.process_all_batches.1
 	callq	aes_v1.aes_cipher.zeroize.stack.wipe_stack.1024
 	xorl	%ecx, %ecx
 	testq	%r12, %r12
@@ -2317,10 +2317,10 @@ aes_v1.aes_ctr.add_in_batches.add_keystream: # @aes_v1.aes_ctr.add_in_batches.ad
 .Laes_v1_func_end3:
 	.size	aes_v1.aes_ctr.add_in_batches.add_keystream, .Laes_v1_func_end3-aes_v1.aes_ctr.add_in_batches.add_keystream
                                         # -- End function
-	.section	.text.aes_v1.aes_narrow.blocks.process_in_batches.1,"ax",@progbits
-	.p2align	4                               # -- Begin function aes_narrow::blocks::process_in_batches::<#1a21aa7f601e7603>
-	.type	aes_v1.aes_narrow.blocks.process_in_batches.1,@function
-aes_v1.aes_narrow.blocks.process_in_batches.1: # @aes_v1.aes_narrow.blocks.process_in_batches.1
+	.section	.text.aes_v1.aes_narrow.blocks.process_all_batches.1,"ax",@progbits
+	.p2align	4                               # -- Begin function aes_narrow::blocks::process_all_batches::<#1a21aa7f601e7603>
+	.type	aes_v1.aes_narrow.blocks.process_all_batches.1,@function
+aes_v1.aes_narrow.blocks.process_all_batches.1: # @aes_v1.aes_narrow.blocks.process_all_batches.1
 # %bb.0:                                # %start
 	testq	%rcx, %rcx
 	je	.Laes_v1_BB4_4
@@ -2361,7 +2361,7 @@ aes_v1.aes_narrow.blocks.process_in_batches.1: # @aes_v1.aes_narrow.blocks.proce
 .Laes_v1_BB4_4:                                # %after.1
 	retq
 .Laes_v1_func_end4:
-	.size	aes_v1.aes_narrow.blocks.process_in_batches.1, .Laes_v1_func_end4-aes_v1.aes_narrow.blocks.process_in_batches.1
+	.size	aes_v1.aes_narrow.blocks.process_all_batches.1, .Laes_v1_func_end4-aes_v1.aes_narrow.blocks.process_all_batches.1
                                         # -- End function
 	.section	.rodata.cst16,"aM",@progbits,16
 	.p2align	4, 0x0                          # -- Begin function aes_narrow::blocks::process_filled_up::<#1a21aa7f601e7603>
@@ -5846,7 +5846,7 @@ aes_v1.cmac.tags.tag: # @aes_v1.cmac.tags.tag
 	movaps	%xmm0, (%rsp)
 	movq	%rsp, %rdx
 	movl	$1, %ecx
-	callq	aes_v1.aes_narrow.blocks.process_in_batches.1
+	callq	aes_v1.aes_narrow.blocks.process_all_batches.1
 	callq	aes_v1.aes_cipher.zeroize.stack.wipe_stack.1024
 	movq	(%rsp), %rax
 	movq	8(%rsp), %rcx
@@ -5958,7 +5958,7 @@ aes_v1.cmac.tags.tag: # @aes_v1.cmac.tags.tag
 	movq	8(%r14), %rsi
 	leaq	16(%rsp), %rdx
 	movl	$1, %ecx
-	callq	aes_v1.aes_narrow.blocks.process_in_batches.1
+	callq	aes_v1.aes_narrow.blocks.process_all_batches.1
 	callq	aes_v1.aes_cipher.zeroize.stack.wipe_stack.1024
 	movaps	16(%rsp), %xmm0
 	movups	%xmm0, (%rbx)
@@ -6021,7 +6021,7 @@ aes_v1.cmac.chaining.chain: # @aes_v1.cmac.chaining.chain
 	movq	8(%rax), %rsi
 	movl	$1, %ecx
 	movq	%r15, %rdx
-	callq	aes_v1.aes_narrow.blocks.process_in_batches.1
+	callq	aes_v1.aes_narrow.blocks.process_all_batches.1
 	callq	aes_v1.aes_cipher.zeroize.stack.wipe_stack.1024
 	addq	$16, %rbp
 	addq	$-16, %r14
@@ -6264,7 +6264,7 @@ aes_v1.key_wrap.steps.wrap_in_place: # @aes_v1.key_wrap.steps.wrap_in_place
 	movq	%rcx, 16(%rsp)
 	leaq	8(%rsp), %rdx
 	movl	$1, %ecx
-	callq	aes_v1.aes_narrow.blocks.process_in_batches.1
+	callq	aes_v1.aes_narrow.blocks.process_all_batches.1
 	callq	aes_v1.aes_cipher.zeroize.stack.wipe_stack.1024
 	movq	8(%rsp), %rax
 	movq	16(%rsp), %rcx
@@ -6293,7 +6293,7 @@ aes_v1.key_wrap.steps.wrap_in_place: # @aes_v1.key_wrap.steps.wrap_in_place
 	movq	%rcx, 16(%rsp)
 	leaq	8(%rsp), %rdx
 	movl	$1, %ecx
-	callq	aes_v1.aes_narrow.blocks.process_in_batches.1
+	callq	aes_v1.aes_narrow.blocks.process_all_batches.1
 	callq	aes_v1.aes_cipher.zeroize.stack.wipe_stack.1024
 	movq	8(%rsp), %rax
 	movq	16(%rsp), %rcx
@@ -6320,7 +6320,7 @@ aes_v1.key_wrap.steps.wrap_in_place: # @aes_v1.key_wrap.steps.wrap_in_place
 	movq	%rcx, 16(%rsp)
 	leaq	8(%rsp), %rdx
 	movl	$1, %ecx
-	callq	aes_v1.aes_narrow.blocks.process_in_batches.1
+	callq	aes_v1.aes_narrow.blocks.process_all_batches.1
 	callq	aes_v1.aes_cipher.zeroize.stack.wipe_stack.1024
 	movq	8(%rsp), %rax
 	movq	16(%rsp), %rcx
@@ -6348,7 +6348,7 @@ aes_v1.key_wrap.steps.wrap_in_place: # @aes_v1.key_wrap.steps.wrap_in_place
 	movq	%rcx, 16(%rsp)
 	leaq	8(%rsp), %rdx
 	movl	$1, %ecx
-	callq	aes_v1.aes_narrow.blocks.process_in_batches.1
+	callq	aes_v1.aes_narrow.blocks.process_all_batches.1
 	callq	aes_v1.aes_cipher.zeroize.stack.wipe_stack.1024
 	movq	8(%rsp), %rax
 	movq	16(%rsp), %rcx
@@ -6375,7 +6375,7 @@ aes_v1.key_wrap.steps.wrap_in_place: # @aes_v1.key_wrap.steps.wrap_in_place
 	movq	%rcx, 16(%rsp)
 	leaq	8(%rsp), %rdx
 	movl	$1, %ecx
-	callq	aes_v1.aes_narrow.blocks.process_in_batches.1
+	callq	aes_v1.aes_narrow.blocks.process_all_batches.1
 	callq	aes_v1.aes_cipher.zeroize.stack.wipe_stack.1024
 	movq	8(%rsp), %rax
 	movq	16(%rsp), %rcx
@@ -6403,7 +6403,7 @@ aes_v1.key_wrap.steps.wrap_in_place: # @aes_v1.key_wrap.steps.wrap_in_place
 	movq	%rcx, 16(%rsp)
 	leaq	8(%rsp), %rdx
 	movl	$1, %ecx
-	callq	aes_v1.aes_narrow.blocks.process_in_batches.1
+	callq	aes_v1.aes_narrow.blocks.process_all_batches.1
 	callq	aes_v1.aes_cipher.zeroize.stack.wipe_stack.1024
 	movq	8(%rsp), %rax
 	movq	16(%rsp), %rcx
@@ -6599,7 +6599,7 @@ aes_v1.key_wrap.padded.wrap_padded: # @aes_v1.key_wrap.padded.wrap_padded
 	movq	%rsp, %rdx
 	movl	$1, %ecx
 	movq	%rax, %rdi
-	callq	aes_v1.aes_narrow.blocks.process_in_batches.1
+	callq	aes_v1.aes_narrow.blocks.process_all_batches.1
 	callq	aes_v1.aes_cipher.zeroize.stack.wipe_stack.1024
 	movaps	(%rsp), %xmm0
 	movups	%xmm0, (%rbx)
@@ -10288,10 +10288,10 @@ aes_v1.aes_narrow.blocks.process_state.2: # @aes_v1.aes_narrow.blocks.process_st
 .Laes_v1_func_end22:
 	.size	aes_v1.aes_narrow.blocks.process_state.2, .Laes_v1_func_end22-aes_v1.aes_narrow.blocks.process_state.2
                                         # -- End function
-	.section	.text.aes_v1.aes_narrow.blocks.process_in_batches.2,"ax",@progbits
-	.p2align	4                               # -- Begin function aes_narrow::blocks::process_in_batches::<#a3dcb71d05bd149b>
-	.type	aes_v1.aes_narrow.blocks.process_in_batches.2,@function
-aes_v1.aes_narrow.blocks.process_in_batches.2: # @aes_v1.aes_narrow.blocks.process_in_batches.2
+	.section	.text.aes_v1.aes_narrow.blocks.process_all_batches.2,"ax",@progbits
+	.p2align	4                               # -- Begin function aes_narrow::blocks::process_all_batches::<#a3dcb71d05bd149b>
+	.type	aes_v1.aes_narrow.blocks.process_all_batches.2,@function
+aes_v1.aes_narrow.blocks.process_all_batches.2: # @aes_v1.aes_narrow.blocks.process_all_batches.2
 # %bb.0:                                # %start
 	testq	%rcx, %rcx
 	je	.Laes_v1_BB23_4
@@ -10332,7 +10332,7 @@ aes_v1.aes_narrow.blocks.process_in_batches.2: # @aes_v1.aes_narrow.blocks.proce
 .Laes_v1_BB23_4:                               # %after.1
 	retq
 .Laes_v1_func_end23:
-	.size	aes_v1.aes_narrow.blocks.process_in_batches.2, .Laes_v1_func_end23-aes_v1.aes_narrow.blocks.process_in_batches.2
+	.size	aes_v1.aes_narrow.blocks.process_all_batches.2, .Laes_v1_func_end23-aes_v1.aes_narrow.blocks.process_all_batches.2
                                         # -- End function
 	.section	.text.aes_v1.key_wrap.wrapping.unwrap,"ax",@progbits
 	.p2align	4                               # -- Begin function key_wrap::wrapping::unwrap::<#10c636071cb6e37c>
@@ -10523,7 +10523,7 @@ aes_v1.key_wrap.steps.unwrap_in_place: # @aes_v1.key_wrap.steps.unwrap_in_place
 	leaq	8(%rsp), %r13
 	movl	$1, %ecx
 	movq	%r13, %rdx
-	callq	aes_v1.aes_narrow.blocks.process_in_batches.2
+	callq	aes_v1.aes_narrow.blocks.process_all_batches.2
 	callq	aes_v1.aes_cipher.zeroize.stack.wipe_stack.1024
 	movq	8(%rsp), %rax
 	movq	16(%rsp), %rcx
@@ -10552,7 +10552,7 @@ aes_v1.key_wrap.steps.unwrap_in_place: # @aes_v1.key_wrap.steps.unwrap_in_place
 	leaq	8(%rsp), %r13
 	movl	$1, %ecx
 	movq	%r13, %rdx
-	callq	aes_v1.aes_narrow.blocks.process_in_batches.2
+	callq	aes_v1.aes_narrow.blocks.process_all_batches.2
 	callq	aes_v1.aes_cipher.zeroize.stack.wipe_stack.1024
 	movq	8(%rsp), %rax
 	movq	16(%rsp), %rcx
@@ -10581,7 +10581,7 @@ aes_v1.key_wrap.steps.unwrap_in_place: # @aes_v1.key_wrap.steps.unwrap_in_place
 	leaq	8(%rsp), %r13
 	movl	$1, %ecx
 	movq	%r13, %rdx
-	callq	aes_v1.aes_narrow.blocks.process_in_batches.2
+	callq	aes_v1.aes_narrow.blocks.process_all_batches.2
 	callq	aes_v1.aes_cipher.zeroize.stack.wipe_stack.1024
 	movq	8(%rsp), %rax
 	movq	16(%rsp), %rcx
@@ -10610,7 +10610,7 @@ aes_v1.key_wrap.steps.unwrap_in_place: # @aes_v1.key_wrap.steps.unwrap_in_place
 	leaq	8(%rsp), %r13
 	movl	$1, %ecx
 	movq	%r13, %rdx
-	callq	aes_v1.aes_narrow.blocks.process_in_batches.2
+	callq	aes_v1.aes_narrow.blocks.process_all_batches.2
 	callq	aes_v1.aes_cipher.zeroize.stack.wipe_stack.1024
 	movq	8(%rsp), %rax
 	movq	16(%rsp), %rcx
@@ -10639,7 +10639,7 @@ aes_v1.key_wrap.steps.unwrap_in_place: # @aes_v1.key_wrap.steps.unwrap_in_place
 	leaq	8(%rsp), %r13
 	movl	$1, %ecx
 	movq	%r13, %rdx
-	callq	aes_v1.aes_narrow.blocks.process_in_batches.2
+	callq	aes_v1.aes_narrow.blocks.process_all_batches.2
 	callq	aes_v1.aes_cipher.zeroize.stack.wipe_stack.1024
 	movq	8(%rsp), %rax
 	movq	16(%rsp), %rcx
@@ -10667,7 +10667,7 @@ aes_v1.key_wrap.steps.unwrap_in_place: # @aes_v1.key_wrap.steps.unwrap_in_place
 	leaq	8(%rsp), %r13
 	movl	$1, %ecx
 	movq	%r13, %rdx
-	callq	aes_v1.aes_narrow.blocks.process_in_batches.2
+	callq	aes_v1.aes_narrow.blocks.process_all_batches.2
 	callq	aes_v1.aes_cipher.zeroize.stack.wipe_stack.1024
 	movq	8(%rsp), %rax
 	movq	16(%rsp), %rcx
@@ -10837,7 +10837,7 @@ aes_v1.key_wrap.padded.unwrap_padded: # @aes_v1.key_wrap.padded.unwrap_padded
 	leaq	16(%rsp), %r12
 	movl	$1, %ecx
 	movq	%r12, %rdx
-	callq	aes_v1.aes_narrow.blocks.process_in_batches.2
+	callq	aes_v1.aes_narrow.blocks.process_all_batches.2
 	callq	aes_v1.aes_cipher.zeroize.stack.wipe_stack.1024
 	movq	16(%rsp), %r13
 	movq	24(%rsp), %rax
@@ -13905,7 +13905,7 @@ aes_v1.ccm.message.put_tag: # @aes_v1.ccm.message.put_tag
 	movq	8(%r14), %rsi
 	movl	$1, %ecx
 	movq	%rbx, %rdx
-	callq	aes_v1.aes_narrow.blocks.process_in_batches.1
+	callq	aes_v1.aes_narrow.blocks.process_all_batches.1
 	callq	aes_v1.aes_cipher.zeroize.stack.wipe_stack.1024
 	movq	128(%rsp), %rdx
 	testq	%rbp, %rbp
@@ -13984,7 +13984,7 @@ aes_v1.ccm.message.put_tag: # @aes_v1.ccm.message.put_tag
 	movq	8(%r14), %rsi
 	leaq	16(%rsp), %rdx
 	movl	$1, %ecx
-	callq	aes_v1.aes_narrow.blocks.process_in_batches.1
+	callq	aes_v1.aes_narrow.blocks.process_all_batches.1
 	callq	aes_v1.aes_cipher.zeroize.stack.wipe_stack.1024
 	movups	(%rbx), %xmm0
 	xorps	16(%rsp), %xmm0
@@ -14256,7 +14256,7 @@ aes_v1.fotsgure_aes_cbc_encrypt:               # @aes_v1.fotsgure_aes_cbc_encryp
 	movl	$1, %ecx
 	movq	%r12, %rdi
 	movq	%r13, %rsi
-	callq	aes_v1.aes_narrow.blocks.process_in_batches.1
+	callq	aes_v1.aes_narrow.blocks.process_all_batches.1
 	callq	aes_v1.aes_cipher.zeroize.stack.wipe_stack.1024
 	movaps	(%rsp), %xmm0
 	movups	%xmm0, (%r15)
@@ -14477,7 +14477,7 @@ aes_v1.fotsgure_aes_encrypt_blocks:            # @aes_v1.fotsgure_aes_encrypt_bl
 	addq	%rsi, %rdx
 	addq	$4, %rdi
 	leaq	56(,%r8,2), %rsi
-	callq	aes_v1.aes_narrow.blocks.process_in_batches.1
+	callq	aes_v1.aes_narrow.blocks.process_all_batches.1
 	callq	aes_v1.aes_cipher.zeroize.stack.wipe_stack.1024
 	xorl	%eax, %eax
 	addq	$8, %rsp
@@ -14622,7 +14622,7 @@ aes_v1.fotsgure_aes_encrypt_blocks_to:         # @aes_v1.fotsgure_aes_encrypt_bl
 	leaq	56(,%rax,2), %rsi
 	movq	%rcx, %rdx
 	movq	%rbx, %rcx
-	callq	aes_v1.aes_narrow.blocks.process_in_batches.1
+	callq	aes_v1.aes_narrow.blocks.process_all_batches.1
 	callq	aes_v1.aes_cipher.zeroize.stack.wipe_stack.1024
 	xorl	%eax, %eax
 .Laes_v1_BB44_14:                              # %"aes_c::blocks::fotsgure_aes_encrypt_blocks_to.exit"
@@ -14708,7 +14708,7 @@ aes_v1.fotsgure_aes_encrypt_blocks_with:       # @aes_v1.fotsgure_aes_encrypt_bl
 	movq	%r12, %rdi
 	movq	%r15, %rdx
 	movq	%rbx, %rcx
-	callq	aes_v1.aes_narrow.blocks.process_in_batches.1
+	callq	aes_v1.aes_narrow.blocks.process_all_batches.1
 	callq	aes_v1.aes_cipher.zeroize.stack.wipe_stack.1024
 	movl	$0, 4(%rsp)
 	movq	%r12, %rdi
@@ -15084,7 +15084,7 @@ aes_v1.fotsgure_aes_decrypt_blocks:            # @aes_v1.fotsgure_aes_decrypt_bl
 	addq	%rsi, %rdx
 	addq	$4, %rdi
 	leaq	56(,%r8,2), %rsi
-	callq	aes_v1.aes_narrow.blocks.process_in_batches.2
+	callq	aes_v1.aes_narrow.blocks.process_all_batches.2
 	callq	aes_v1.aes_cipher.zeroize.stack.wipe_stack.1024
 	xorl	%eax, %eax
 	addq	$8, %rsp
@@ -15229,7 +15229,7 @@ aes_v1.fotsgure_aes_decrypt_blocks_to:         # @aes_v1.fotsgure_aes_decrypt_bl
 	leaq	56(,%rax,2), %rsi
 	movq	%rcx, %rdx
 	movq	%rbx, %rcx
-	callq	aes_v1.aes_narrow.blocks.process_in_batches.2
+	callq	aes_v1.aes_narrow.blocks.process_all_batches.2
 	callq	aes_v1.aes_cipher.zeroize.stack.wipe_stack.1024
 	xorl	%eax, %eax
 .Laes_v1_BB53_14:                              # %"aes_c::blocks::fotsgure_aes_decrypt_blocks_to.exit"
@@ -15967,7 +15967,7 @@ aes_v1.fotsgure_aes_decrypt_blocks_with:       # @aes_v1.fotsgure_aes_decrypt_bl
 	movq	%r13, %rdi
 	movq	%r14, %rdx
 	movq	8(%rsp), %rcx                   # 8-byte Reload
-	callq	aes_v1.aes_narrow.blocks.process_in_batches.2
+	callq	aes_v1.aes_narrow.blocks.process_all_batches.2
 	callq	aes_v1.aes_cipher.zeroize.stack.wipe_stack.1024
 	xorl	%ebp, %ebp
 .Laes_v1_BB65_6:                               # %"aes_c::blocks::fotsgure_aes_decrypt_blocks.exit.i"
@@ -16250,5 +16250,5 @@ aes_v1.fotsgure_aes_ccm_seal:                  # @aes_v1.fotsgure_aes_ccm_seal
 	.long	9, 118, 1
 	.asciz	"Fotsgure"
 	.p2align	2, 0x0
-	.asciz	"fotsgure_aes 0.4.0, x86_64/aes_v1.s, sources SHA-256 93c4c1f9a119daf9c53c1b84582bcba4455d731c78c61c0f0737ce65242a1d65"
+	.asciz	"fotsgure_aes 0.4.0, x86_64/aes_v1.s, sources SHA-256 6a1cfde10f68c64d860ebcdaaa811215e142521dd923be252f5cd60ac9711c13"
 	.p2align	2, 0x0

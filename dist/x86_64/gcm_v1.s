@@ -2686,7 +2686,7 @@ gcm_v1.gcm.mode.BorrowedGcm.put_tag_so_far: # @gcm_v1.gcm.mode.BorrowedGcm.put_t
 	movq	(%rdi), %rdi
 	movq	8(%r14), %rsi
 	movl	$1, %ecx
-	callq	gcm_v1.aes_narrow.blocks.process_in_batches
+	callq	gcm_v1.aes_narrow.blocks.process_all_batches
 	callq	gcm_v1.aes_cipher.zeroize.stack.wipe_stack.1024
 	movq	16(%r14), %r14
 	movq	%r14, %rdi
@@ -2776,10 +2776,10 @@ gcm_v1.gcm.mode.BorrowedGcm.put_tag_so_far: # @gcm_v1.gcm.mode.BorrowedGcm.put_t
 .Lgcm_v1_func_end10:
 	.size	gcm_v1.gcm.mode.BorrowedGcm.put_tag_so_far, .Lgcm_v1_func_end10-gcm_v1.gcm.mode.BorrowedGcm.put_tag_so_far
                                         # -- End function
-	.section	.text.gcm_v1.aes_narrow.blocks.process_in_batches,"ax",@progbits
-	.p2align	4                               # -- Begin function aes_narrow::blocks::process_in_batches::<#f6c900d3ac1e47b9>
-	.type	gcm_v1.aes_narrow.blocks.process_in_batches,@function
-gcm_v1.aes_narrow.blocks.process_in_batches: # @gcm_v1.aes_narrow.blocks.process_in_batches
+	.section	.text.gcm_v1.aes_narrow.blocks.process_all_batches,"ax",@progbits
+	.p2align	4                               # -- Begin function aes_narrow::blocks::process_all_batches::<#f6c900d3ac1e47b9>
+	.type	gcm_v1.aes_narrow.blocks.process_all_batches,@function
+gcm_v1.aes_narrow.blocks.process_all_batches: # @gcm_v1.aes_narrow.blocks.process_all_batches
 # %bb.0:                                # %start
 	pushq	%r15
 	pushq	%r14
@@ -2816,7 +2816,7 @@ gcm_v1.aes_narrow.blocks.process_in_batches: # @gcm_v1.aes_narrow.blocks.process
 	popq	%r15
 	retq
 .Lgcm_v1_func_end11:
-	.size	gcm_v1.aes_narrow.blocks.process_in_batches, .Lgcm_v1_func_end11-gcm_v1.aes_narrow.blocks.process_in_batches
+	.size	gcm_v1.aes_narrow.blocks.process_all_batches, .Lgcm_v1_func_end11-gcm_v1.aes_narrow.blocks.process_all_batches
                                         # -- End function
 	.section	.rodata.cst16,"aM",@progbits,16
 	.p2align	4, 0x0                          # -- Begin function aes_narrow::blocks::process_filled_up::<#f6c900d3ac1e47b9>
@@ -5828,7 +5828,7 @@ gcm_v1.gcm.mode.put_subkey: # @gcm_v1.gcm.mode.put_subkey
 	movq	%rsp, %r14
 	movl	$1, %ecx
 	movq	%r14, %rdx
-	callq	gcm_v1.aes_narrow.blocks.process_in_batches
+	callq	gcm_v1.aes_narrow.blocks.process_all_batches
 	callq	gcm_v1.aes_cipher.zeroize.stack.wipe_stack.1024
 	movq	(%rsp), %rax
 	movq	8(%rsp), %rcx
@@ -5945,7 +5945,7 @@ gcm_v1.gcm.mode.BorrowedGcm.put_tag: # @gcm_v1.gcm.mode.BorrowedGcm.put_tag
 	movq	(%rdi), %rdi
 	movq	8(%r14), %rsi
 	movl	$1, %ecx
-	callq	gcm_v1.aes_narrow.blocks.process_in_batches
+	callq	gcm_v1.aes_narrow.blocks.process_all_batches
 	callq	gcm_v1.aes_cipher.zeroize.stack.wipe_stack.1024
 	movq	16(%r14), %rax
 	movq	(%rax), %r15
@@ -6246,7 +6246,7 @@ gcm_v1.gcm.gctr.add_gctr: # @gcm_v1.gcm.gctr.add_gctr
 	movq	%rsp, %rbx
 	movl	$1, %ecx
 	movq	%rbx, %rdx
-	callq	gcm_v1.aes_narrow.blocks.process_in_batches
+	callq	gcm_v1.aes_narrow.blocks.process_all_batches
 	callq	gcm_v1.aes_cipher.zeroize.stack.wipe_stack.1024
 	testq	%r14, %r14
 	je	.Lgcm_v1_BB20_3
@@ -7112,7 +7112,7 @@ gcm_v1.gcm_c.siv.prepare: # @gcm_v1.gcm_c.siv.prepare
 	shrl	$3, %ecx
 	addq	$2, %rcx
 	movq	%rsp, %rdx
-	callq	gcm_v1.aes_narrow.blocks.process_in_batches
+	callq	gcm_v1.aes_narrow.blocks.process_all_batches
 	callq	gcm_v1.aes_cipher.zeroize.stack.wipe_stack.1024
 	movq	(%rsp), %rax
 	movq	16(%rsp), %rcx
@@ -7490,7 +7490,7 @@ gcm_v1.gcm_siv.message.put_tag: # @gcm_v1.gcm_siv.message.put_tag
 	movq	(%rax), %rdi
 	movq	8(%rax), %rsi
 	movl	$1, %ecx
-	callq	gcm_v1.aes_narrow.blocks.process_in_batches
+	callq	gcm_v1.aes_narrow.blocks.process_all_batches
 	addq	$56, %rsp
 	popq	%rbx
 	popq	%r12
@@ -7653,7 +7653,7 @@ gcm_v1.gcm_siv.message.apply: # @gcm_v1.gcm_siv.message.apply
 	movl	$1, %ecx
 	movq	%rax, %rdi
 	movq	%r8, %rsi
-	callq	gcm_v1.aes_narrow.blocks.process_in_batches
+	callq	gcm_v1.aes_narrow.blocks.process_all_batches
 	callq	gcm_v1.aes_cipher.zeroize.stack.wipe_stack.1024
 	testq	%r14, %r14
 	je	.Lgcm_v1_BB33_12
@@ -11451,5 +11451,5 @@ gcm_v1.fotsgure_gcm_accept_short:              # @gcm_v1.fotsgure_gcm_accept_sho
 	.long	9, 118, 1
 	.asciz	"Fotsgure"
 	.p2align	2, 0x0
-	.asciz	"fotsgure_gcm 0.4.0, x86_64/gcm_v1.s, sources SHA-256 208602ae32e5dd5d4aa7a028ebc59ad6269492290ae4be105a6461c3e77eec69"
+	.asciz	"fotsgure_gcm 0.4.0, x86_64/gcm_v1.s, sources SHA-256 2b79346c77bb0404dbcf8d7bfc3c037715623eca5ddd3ec8b81ec3dcd0649018"
 	.p2align	2, 0x0

@@ -4570,11 +4570,11 @@ gcm_v3.gcm.mode.BorrowedGcm.put_tag: # @gcm_v3.gcm.mode.BorrowedGcm.put_tag
 	addq	$48, %r14
 	decq	%rbx
 	jne	.Lgcm_v3_BB18_2
-# %bb.3:                                # %"gcm::hash::hash_string_and::<#4e0b07d5b1f54653>.exit.loopexit.i.i"
+# %bb.3:                                # %"gcm::hash::hash_string_and_end::<#4e0b07d5b1f54653>.exit.loopexit.i.i"
 	vmovdqa	(%rsp), %xmm3
 	movq	160(%rsp), %r14
 	vmovdqa	16(%rsp), %xmm0                 # 16-byte Reload
-.Lgcm_v3_BB18_4:                               # %"gcm::hash::hash_string_and::<#4e0b07d5b1f54653>.exit.i.i"
+.Lgcm_v3_BB18_4:                               # %"gcm::hash::hash_string_and_end::<#4e0b07d5b1f54653>.exit.i.i"
 	vpinsrb	$15, %r13d, %xmm0, %xmm2
 	vpxor	%xmm0, %xmm0, %xmm0
 	vmovdqa	%xmm0, 48(%rsp)
@@ -14238,10 +14238,10 @@ gcm_v3.gcm_siv.message.put_tag.2: # @gcm_v3.gcm_siv.message.put_tag.2
 	addq	$48, %r12
 	decq	%r14
 	jne	.Lgcm_v3_BB51_19
-# %bb.20:                               # %"gcm::hash::hash_string_and::<#1ace2c8123f9d1c9>.exit.loopexit.i"
+# %bb.20:                               # %"gcm::hash::hash_string_and_end::<#1ace2c8123f9d1c9>.exit.loopexit.i"
 	vmovdqa	(%rsp), %xmm2
 	vmovdqa	16(%rsp), %xmm0                 # 16-byte Reload
-.Lgcm_v3_BB51_21:                              # %"gcm::hash::hash_string_and::<#1ace2c8123f9d1c9>.exit.i"
+.Lgcm_v3_BB51_21:                              # %"gcm::hash::hash_string_and_end::<#1ace2c8123f9d1c9>.exit.i"
 	movq	184(%rsp), %r14
 	vpinsrb	$15, %ebx, %xmm0, %xmm3
 	vpxor	%xmm0, %xmm0, %xmm0
@@ -18329,5 +18329,5 @@ gcm_v3.fotsgure_gcm_accept_short:              # @gcm_v3.fotsgure_gcm_accept_sho
 	.long	9, 118, 1
 	.asciz	"Fotsgure"
 	.p2align	2, 0x0
-	.asciz	"fotsgure_gcm 0.4.0, x86_64/gcm_v3.s, sources SHA-256 208602ae32e5dd5d4aa7a028ebc59ad6269492290ae4be105a6461c3e77eec69"
+	.asciz	"fotsgure_gcm 0.4.0, x86_64/gcm_v3.s, sources SHA-256 2b79346c77bb0404dbcf8d7bfc3c037715623eca5ddd3ec8b81ec3dcd0649018"
 	.p2align	2, 0x0
