@@ -95,7 +95,7 @@ quotient_zero x k = (
   λ small. div-eq_of_lt small,
 )
 
--- ---- blocks
+-- ---- numbers that std writes, and blocks that are counted on
 
 -- a number in 8 bytes, as std writes it
 pub of_64 : (x : ℕ) → to_be_bytes w64 x ≡ bytes 8 x

@@ -122,7 +122,7 @@ four_second m =
     ((eqb-true _ _ (all_below_tells 16 (λ k. byte_of (v_at k 4) 1 == looked FALLEN_SECOND k)
     second_test (m % 16) (omega arith)) ∙ ap (looked FALLEN_SECOND) (last_nibble m)) t))
 
--- ---- rows
+-- ---- rows of multiples
 
 -- multiples by nibbles of a number times x^4 are the multiples, times x^4
 nibble_four : (v n : ℕ) → nibble_multiple (v_at v 4) n ≡ v_at (nibble_multiple v n) 4

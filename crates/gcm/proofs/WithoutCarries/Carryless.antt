@@ -20,7 +20,7 @@ use Rattle.gcm.proofs.Products.Linear.{product_terms, v_add, v_below, v_keeps, v
 use Rattle.gcm.proofs.Products.Powers.{product_below}
 use Rattle.gcm.proofs.Products.Reduction.{folded_keeps}
 
--- ---- sums
+-- ---- products of sums
 
 -- a product without carries keeps sums in the first factor
 pub carryless_left_keeps : (n a b y : ℕ) → carryless n (bit_xor a b) y
@@ -61,7 +61,7 @@ carryless_right_zero zero x = refl
 carryless_right_zero (suc n) x =
     (λ t. bit_xor (carryless_right_zero n (x / 2) t * 2) (term_zero (x % 2) t))
 
--- ---- shifts
+-- ---- products of shifted numbers
 
 -- the product without carries with a shifted number is shifted
 pub carryless_right_shifted : (n x y k : ℕ) → carryless n x (y * 2 ^ k) ≡ carryless n x y * 2 ^ k
