@@ -20,7 +20,7 @@ use Rattle.gcm.specs.Gcm.{next_v, v_at}
 use Rattle.gcm.specs.Multiples.{byte_of, nibble_multiple, multiples_row, multiples_rows, row_at}
 use Rattle.gcm.proofs.Products.Linear.{sum-agree, v-sum, v_keeps, v_swap, v_shifted, term}
 use Rattle.gcm.proofs.Products.Linear.{term_through}
-use Rattle.gcm.proofs.Products.Linear.{joined, nibble_below}
+use Rattle.gcm.proofs.Products.Linear.{sum_without_carry, nibble_below}
 use Rattle.gcm.proofs.Tables.Rows.{byte_of_sum, zero_at}
 
 -- ---- a number times x^4
@@ -29,7 +29,7 @@ use Rattle.gcm.proofs.Tables.Rows.{byte_of_sum, zero_at}
 four_shifted : (k : ℕ) → v_at k 4 ≡ bit_xor (k / 16) (v_at (k % 16) 4)
 four_shifted k =
     let parts : k ≡ bit_xor (k / 16 * 2 ^ 4) (k % 16) =
-    sym (joined 4 (k / 16) (k % 16) (omega arith) ∙ omega arith) in
+    sym (sum_without_carry 4 (k / 16) (k % 16) (omega arith) ∙ omega arith) in
     ap (λ y. v_at y 4) parts ∙ v_keeps 4 (k / 16 * 2 ^ 4) (k % 16)
     ∙ ap (λ y. bit_xor y (v_at (k % 16) 4)) (v_shifted 4 (k / 16))
 
@@ -37,7 +37,8 @@ four_shifted k =
 nibbles_sum : (a b : ℕ) → a < 16 → bit_xor a (b * 16 % 256) ≡ b * 16 % 256 + a
 nibbles_sum a b small =
     let shifted : b * 16 % 256 ≡ b % 16 * 2 ^ 4 = omega arith in
-    ap (bit_xor a) shifted ∙ xor_comm a (b % 16 * 2 ^ 4) ∙ joined 4 (b % 16) a small ∙ omega arith
+    ap (bit_xor a) shifted ∙ xor_comm a (b % 16 * 2 ^ 4)
+    ∙ sum_without_carry 4 (b % 16) a small ∙ omega arith
 
 -- a byte of a number that is moved by four bits has bits of that byte and of the one before it
 byte_moved : (m r : ℕ) → r < 15
