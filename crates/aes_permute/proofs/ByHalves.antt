@@ -28,8 +28,9 @@ first_picked x y long =
     ∙ take_at x y 16 long
 
 -- a block picked twice is in both halves
-pub doubled : (x : List ℕ) → IsBlock x → pick_l 0 (x ++ x) (sixteen ++ sixteen) ≡ x ++ x
-doubled x (long, small) = let e = first_picked x x long in λ t. e t ++ e t
+pub block_in_both_halves : (x : List ℕ) → IsBlock x
+    → pick_l 0 (x ++ x) (sixteen ++ sixteen) ≡ x ++ x
+block_in_both_halves x (long, small) = let e = first_picked x x long in λ t. e t ++ e t
 
 -- all lanes of two blocks are one after the other
 pub both_in_order : (x y : List ℕ) → IsBlock x → IsBlock y
