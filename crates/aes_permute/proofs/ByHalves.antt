@@ -56,7 +56,8 @@ upper_half x long =
 pub ruleset picked_halves = (lower_half, upper_half)
 
 -- what holds of the lower half and of the upper one holds of half i
-by_half : (P : (List ℕ → List ℕ) → Type 0) (i : ℕ) → P (take 16) → P (drop 16) → P (λ x. half x i)
+pub by_half : (P : (List ℕ → List ℕ) → Type 0) (i : ℕ) → P (take 16) → P (drop 16)
+    → P (λ x. half x i)
 unfolding half
 by_half P i lower upper = go (i == 0)
   where

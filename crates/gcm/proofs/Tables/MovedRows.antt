@@ -1,6 +1,6 @@
 -- Rows of multiples for four powers of x more.
-use Rattle.std.proofs.Common.{◌≡◌, ℕ, suc, ◌+◌, ◌-◌, ◌*◌, ◌/◌, ◌%◌, ◌^◌, ◌<◌, ◌==◌, cond}
-use Rattle.std.proofs.Common.{Bool, true, false, List, [], ◌++◌, length, take, drop, get_or, map}
+use Rattle.std.proofs.Common.{◌≡◌, ℕ, suc, ◌+◌, ◌-◌, ◌*◌, ◌/◌, ◌%◌, ◌^◌, ◌<◌, ◌==◌}
+use Rattle.std.proofs.Common.{true, List, [], ◌++◌, length, take, drop, get_or, map}
 use Rattle.std.proofs.Common.{replicate, bit_xor, refl, ap, sym, ◌∙◌, arith}
 use Rattle.std.proofs.lemmas.Nat.{xor_comm, shr-shr}
 use Rattle.std.proofs.lemmas.Bool.{eqb-true}
@@ -14,7 +14,7 @@ use Rattle.aes_planes.proofs.Lists.{get_or-build, build_is}
 use Rattle.aes_planes.proofs.Words.ByteLanes.{lane_of_splats, shr8, shl8}
 use Rattle.aes_permute.specs.Lookup.{looked, low_nibble}
 use Rattle.aes_permute.specs.Vectors.{half}
-use Rattle.aes_permute.proofs.ByHalves.{half_of_both, half_of_zip}
+use Rattle.aes_permute.proofs.ByHalves.{by_half, half_of_both, half_of_zip}
 use Rattle.gcm.specs.declared.moved_rows.TheConstants.{FALLEN_FIRST, FALLEN_SECOND}
 use Rattle.gcm.specs.Gcm.{next_v, v_at}
 use Rattle.gcm.specs.Multiples.{byte_of, nibble_multiple, multiples_row, multiples_rows, row_at}
@@ -229,12 +229,9 @@ second_row v rows m t last is long sized lanes t_is last_is =
 
 -- each half of a vector of 32 lanes has sixteen
 half_long : (x : List ℕ) (i : ℕ) → length x ≡ 32 → length (half x i) ≡ 16
-unfolding half
-half_long x i long = go (i == 0)
-  where
-    go : (b : Bool) → length (cond b (take 16 x) (drop 16 x)) ≡ 16
-    go true = omega (arith, length-take 16 x, long)
-    go false = omega (arith, length-drop 16 x, long)
+half_long x i long =
+    by_half (λ h. length (h x) ≡ 16) i (omega (arith, length-take 16 x, long))
+    (omega (arith, length-drop 16 x, long))
 
 -- a lane in a half of two vectors that are shifted and summed, by those lanes of their halves
 pub lane_of_half : (x y : List ℕ) (i n : ℕ) → length x ≡ 32 → length y ≡ 32 → n < 16
