@@ -15,7 +15,7 @@ use Rattle.aes_soft.proofs.WordsInPlace.{held_at, key_kept, HoldsAt}
 use Rattle.aes_permute.specs.Keys.{encrypting, cipher_form, key_of_lanes, IsCipherSchedule}
 use Rattle.aes_permute.specs.Stored.{untower, key_untower}
 use Rattle.aes_permute.proofs.ExpandedLanes.{last_key_is}
-use Rattle.aes_permute.proofs.States.{keys_length, first_key, inner_key, last_key}
+use Rattle.aes_permute.proofs.StoredStates.{keys_length, first_key, inner_key, last_key}
 
 module _ (stored : List (List ℕ)) (two : 2 ≤ length stored) where
   -- how many rounds the stored round keys serve

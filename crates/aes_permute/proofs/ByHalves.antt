@@ -12,6 +12,7 @@ use Rattle.std.proofs.lemmas.Simd.{pick_l-range_with_len, pick_l_whole}
 use lib.Lanes.{zip2, pick_l}
 use mir.Val.{zeroes}
 use Rattle.aes_planes.specs.Fips197.{IsBytes, IsBlock}
+use Rattle.aes_planes.proofs.Lists.{zip2_take, zip2_drop}
 use Rattle.aes_planes.proofs.Standard.States.{take_bytes, drop_bytes}
 use Rattle.aes_planes.proofs.Words.Swizzles.{sixteen}
 use Rattle.aes_planes.proofs.Words.Wide.{upper_16}
@@ -28,8 +29,9 @@ first_picked x y long =
     ∙ take_at x y 16 long
 
 -- a block picked twice is in both halves
-pub doubled : (x : List ℕ) → IsBlock x → pick_l 0 (x ++ x) (sixteen ++ sixteen) ≡ x ++ x
-doubled x (long, small) = let e = first_picked x x long in λ t. e t ++ e t
+pub block_in_both_halves : (x : List ℕ) → IsBlock x
+    → pick_l 0 (x ++ x) (sixteen ++ sixteen) ≡ x ++ x
+block_in_both_halves x (long, small) = let e = first_picked x x long in λ t. e t ++ e t
 
 -- all lanes of two blocks are one after the other
 pub both_in_order : (x y : List ℕ) → IsBlock x → IsBlock y
@@ -53,67 +55,40 @@ upper_half x long =
 -- the rules that pick a half of a vector
 pub ruleset picked_halves = (lower_half, upper_half)
 
+-- what holds of the lower half and of the upper one holds of half i
+pub by_half : (P : (List ℕ → List ℕ) → Type 0) (i : ℕ) → P (take 16) → P (drop 16)
+    → P (λ x. half x i)
+unfolding half
+by_half P i lower upper = go (i == 0)
+  where
+    go : (b : Bool) → P (λ x. cond b (take 16 x) (drop 16 x))
+    go true = lower
+    go false = upper
+
 -- a block in both halves is each of the two
 pub half_of_both : (x : List ℕ) (i : ℕ) → length x ≡ 16 → half (x ++ x) i ≡ x
-unfolding half
-half_of_both x i long = go (i == 0)
-  where
-    go : (b : Bool) → cond b (take 16 (x ++ x)) (drop 16 (x ++ x)) ≡ x
-    go true = take_at x x 16 long
-    go false = drop_at x x 16 long
+half_of_both x i long =
+    by_half (λ h. h (x ++ x) ≡ x) i (take_at x x 16 long) (drop_at x x 16 long)
 
 -- each half is a block
 pub half_is_block : (x : List ℕ) (i : ℕ) → length x ≡ 32 → IsBytes x → IsBlock (half x i)
-unfolding half
-half_is_block x i long small = go (i == 0)
-  where
-    go : (b : Bool) → IsBlock (cond b (take 16 x) (drop 16 x))
-    go true = (omega (arith, length-take 16 x, long), take_bytes 16 x small)
-    go false = (omega (arith, length-drop 16 x, long), drop_bytes 16 x small)
+half_is_block x i long small =
+    by_half (λ h. IsBlock (h x)) i
+    (omega (arith, length-take 16 x, long), take_bytes 16 x small)
+    (omega (arith, length-drop 16 x, long), drop_bytes 16 x small)
 
 -- ---- lane by lane
 
 -- a map of all lanes is one of each half
 half_of_map : (f : ℕ → ℕ) (x : List ℕ) (i : ℕ) → half (map f x) i ≡ map f (half x i)
-unfolding half
-half_of_map f x i = go (i == 0)
-  where
-    go : (b : Bool) → cond b (take 16 (map f x)) (drop 16 (map f x))
-        ≡ map f (cond b (take 16 x) (drop 16 x))
-    go true = take-map f 16 x
-    go false = drop-map f 16 x
-
--- nothing is zipped of a vector and an empty list
-zip2_nil : (f : ℕ → ℕ → ℕ) (xs : List ℕ) → zip2 f xs [] ≡ []
-zip2_nil f [] = refl
-zip2_nil f (x ∷ xs) = refl
-
--- the first lanes of what is made of two vectors are made of the first lanes of both
-pub zip2_take : (f : ℕ → ℕ → ℕ) (n : ℕ) (xs ys : List ℕ)
-    → take n (zip2 f xs ys) ≡ zip2 f (take n xs) (take n ys)
-zip2_take f zero xs ys = refl
-zip2_take f (suc n) [] ys = refl
-zip2_take f (suc n) (x ∷ xs) [] = refl
-zip2_take f (suc n) (x ∷ xs) (y ∷ ys) = ap (λ l. f x y ∷ l) (zip2_take f n xs ys)
-
--- the lanes of what is made of two vectors, but for the first, are made of those of both
-pub zip2_drop : (f : ℕ → ℕ → ℕ) (n : ℕ) (xs ys : List ℕ)
-    → drop n (zip2 f xs ys) ≡ zip2 f (drop n xs) (drop n ys)
-zip2_drop f zero xs ys = refl
-zip2_drop f (suc n) [] ys = refl
-zip2_drop f (suc n) (x ∷ xs) [] = sym (zip2_nil f (drop n xs))
-zip2_drop f (suc n) (x ∷ xs) (y ∷ ys) = zip2_drop f n xs ys
+half_of_map f x i =
+    by_half (λ h. h (map f x) ≡ map f (h x)) i (take-map f 16 x) (drop-map f 16 x)
 
 -- each half of what two vectors make lane by lane is made of that half of both
 pub half_of_zip : (f : ℕ → ℕ → ℕ) (x y : List ℕ) (i : ℕ)
     → half (zip2 f x y) i ≡ zip2 f (half x i) (half y i)
-unfolding half
-half_of_zip f x y i = go (i == 0)
-  where
-    go : (b : Bool) → cond b (take 16 (zip2 f x y)) (drop 16 (zip2 f x y))
-        ≡ zip2 f (cond b (take 16 x) (drop 16 x)) (cond b (take 16 y) (drop 16 y))
-    go true = zip2_take f 16 x y
-    go false = zip2_drop f 16 x y
+half_of_zip f x y i =
+    by_half (λ h. h (zip2 f x y) ≡ zip2 f (h x) (h y)) i (zip2_take f 16 x y) (zip2_drop f 16 x y)
 
 -- the low nibbles of a vector are those of each half
 pub low_of_half : (x : List ℕ) (i : ℕ) → length x ≡ 32 → IsBytes x
@@ -169,56 +144,42 @@ looked_in_halves t u p q t_long p_long q_long p_are q_are =
     (omega arith)
     (omega (arith, q_long)) q_are k)
 
--- each half of what two tables give at the places of two blocks is a look-up
-looked_by_halves : (t u p q : List ℕ) (b : Bool) → length t ≡ 16 → length p ≡ 16 → length q ≡ 16
-    → AreIndices p → AreIndices q
-    → cond b (take 16 (swz_l w8 16 (t ++ u) 0 (p ++ q))) (drop 16 (swz_l w8 16 (t ++ u) 0 (p ++ q)))
-    ≡ map (looked (cond b t u)) (cond b p q)
-looked_by_halves t u p q b t_long p_long q_long p_are q_are =
-    ap (λ l. cond b (take 16 l) (drop 16 l))
-    (looked_in_halves t u p q t_long p_long q_long p_are q_are) ∙ go b
-  where
-    first : length (map (looked t) p) ≡ 16
-    first = length-map p (looked t) ∙ p_long
-
-    go : (b : Bool) → cond b (take 16 (map (looked t) p ++ map (looked u) q))
-        (drop 16 (map (looked t) p ++ map (looked u) q))
-        ≡ map (looked (cond b t u)) (cond b p q)
-    go true = take_at (map (looked t) p) (map (looked u) q) 16 first
-    go false = drop_at (map (looked t) p) (map (looked u) q) 16 first
-
--- a choice between the same two is either of them
-same_both : (b : Bool) (t : List ℕ) → cond b t t ≡ t
-same_both true t = refl
-same_both false t = refl
+-- each half of a shuffle is a look-up in that half, at the places of that half
+looked_by_halves : (x places : List ℕ) (i : ℕ) → length x ≡ 32 → length places ≡ 32
+    → ((i : ℕ) → AreIndices (half places i))
+    → half (swz_l w8 16 x 0 places) i ≡ map (looked (half x i)) (half places i)
+unfolding half
+looked_by_halves x places i long placed are =
+    let low : List ℕ = map (looked (take 16 x)) (take 16 places) in
+    let high : List ℕ = map (looked (drop 16 x)) (drop 16 places) in
+    let sized : length (take 16 places) ≡ 16 = omega (arith, length-take 16 places, placed) in
+    let first : length low ≡ 16 = length-map (take 16 places) (looked (take 16 x)) ∙ sized in
+    let both : swz_l w8 16 x 0 places ≡ low ++ high =
+    (λ t. swz_l w8 16 (sym (take-append-drop 16 x) t) 0 (sym (take-append-drop 16 places) t))
+    ∙ looked_in_halves (take 16 x) (drop 16 x) (take 16 places) (drop 16 places)
+    (omega (arith, length-take 16 x, long)) sized (omega (arith, length-drop 16 places, placed))
+    (are 0) (are 1) in
+    by_half (λ h. h (swz_l w8 16 x 0 places) ≡ map (looked (h x)) (h places)) i
+    (ap (take 16) both ∙ take_at low high 16 first)
+    (ap (drop 16) both ∙ drop_at low high 16 first)
 
 -- a table in both halves, read at the places of each half
 pub looked_of_half : (t x : List ℕ) (i : ℕ) → length t ≡ 16 → length x ≡ 32
     → ((i : ℕ) → AreIndices (half x i))
     → half (swz_l w8 16 (t ++ t) 0 x) i ≡ map (looked t) (half x i)
-unfolding half
 looked_of_half t x i t_long long are =
-    let b = i == 0 in
-    ap (λ l. cond b (take 16 (swz_l w8 16 (t ++ t) 0 l)) (drop 16 (swz_l w8 16 (t ++ t) 0 l)))
-    (sym (take-append-drop 16 x))
-    ∙ looked_by_halves t t (take 16 x) (drop 16 x) b t_long (omega (arith, length-take 16 x, long))
-    (omega (arith, length-drop 16 x, long)) (are 0) (are 1)
-    ∙ ap (λ l. map (looked l) (cond b (take 16 x) (drop 16 x))) (same_both b t)
+    looked_by_halves (t ++ t) x i (omega (arith, length-append t t, t_long)) long are
+    ∙ ap (λ l. map (looked l) (half x i)) (half_of_both t i t_long)
 
--- each half, read at the same places
+-- a vector shuffled by the same places in both halves: each half, read at them
 pub permuted_of_half : (x places : List ℕ) (i : ℕ) → length x ≡ 32 → length places ≡ 16
     → AreIndices places
     → half (swz_l w8 16 x 0 (places ++ places)) i ≡ map (looked (half x i)) places
-unfolding half
 permuted_of_half x places i long placed are =
-    let b = i == 0 in
-    ap (λ l. cond b (take 16 (swz_l w8 16 l 0 (places ++ places)))
-    (drop 16 (swz_l w8 16 l 0 (places ++ places))))
-    (sym (take-append-drop 16 x))
-    ∙ looked_by_halves (take 16 x) (drop 16 x) places places b
-    (omega (arith, length-take 16 x, long)) placed placed
-    are are
-    ∙ ap (map (looked (cond b (take 16 x) (drop 16 x)))) (same_both b places)
+    looked_by_halves x (places ++ places) i long
+    (omega (arith, length-append places places, placed))
+    (λ i. subst AreIndices (sym (half_of_both places i placed)) are)
+    ∙ ap (map (looked (half x i))) (half_of_both places i placed)
 
 -- 32 indices are places that a byte shuffle by halves can read
 pub indices_in_halves : (js : List ℕ) → length js ≡ 32 → AreIndices js → SwzOk w8 16 32 0 js

@@ -6,7 +6,7 @@ use Rattle.aes_planes.specs.Planes.{plus63}
 use Rattle.aes_planes.proofs.Standard.InvertedKeys.{inverted_length, inverted_end, inverted_middle}
 use Rattle.aes_permute.specs.Keys.{cipher_form, inverse_form}
 use Rattle.aes_permute.specs.Stored.{inv_untower, key_untower, round_keys_of}
-use Rattle.aes_permute.proofs.States.{keys_length, first_key, inner_key, last_key, stored_are}
+use Rattle.aes_permute.proofs.StoredStates.{keys_length, first_key, inner_key, last_key, stored_are}
 
 -- place k of the new keys is place last - k of the old, its columns mixed back
 abbrev pub Unmixed : List (List ℕ) → List (List ℕ) → ℕ → Type 0

@@ -5,7 +5,7 @@ use Rattle.aes_planes.proofs.KeySchedule.ExpansionLength.{expansion_length}
 use Rattle.aes_planes.proofs.Standard.CipherLaws.{two_keys}
 use Rattle.aes_permute.specs.Keys.{cipher_form}
 use Rattle.aes_permute.specs.Stored.{round_keys_of, IsWritten}
-use Rattle.aes_permute.proofs.States.{stored_are}
+use Rattle.aes_permute.proofs.StoredStates.{stored_are}
 
 -- stored round keys stand for those of a key, if each is written
 pub written_are_used : (key : List ℕ) (stored : List (List ℕ)) (last : ℕ)

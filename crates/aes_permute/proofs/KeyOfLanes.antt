@@ -9,7 +9,7 @@ use Rattle.aes_cipher.specs.KeySizes.{IsKeySize}
 use Rattle.aes_permute.specs.Keys.{encrypting, cipher_form, key_of_lanes, leading_key}
 use Rattle.aes_permute.specs.Keys.{lane_key_size, IsCipherSchedule}
 use Rattle.aes_permute.specs.Stored.{round_keys_of, LaneForm}
-use Rattle.aes_permute.proofs.States.{keys_length}
+use Rattle.aes_permute.proofs.StoredStates.{keys_length}
 
 -- the key that begins its own schedule
 begins_with_key : (size : ℕ) (key : List ℕ) → IsKeySize size → length key ≡ size

@@ -12,5 +12,5 @@ pub mod Linear
 pub mod Lookups
 pub mod OnLiterals
 pub mod RoundLanes
-pub mod States
+pub mod StoredStates
 pub mod WrittenBlocks

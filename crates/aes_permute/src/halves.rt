@@ -7,7 +7,7 @@ ghost use Rattle.aes_planes.specs.Fips197 as fips;
 use std::simd::prelude::*;
 
 /// Returns a block in both halves.
-#[tactic(auto, using(crate::proofs::ByHalves::doubled))]
+#[tactic(auto, using(crate::proofs::ByHalves::block_in_both_halves))]
 #[inline(always)]
 pub fn twice(x: u8x16) -> u8x32
     requires { fips.IsBlock x }

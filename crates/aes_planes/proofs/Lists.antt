@@ -1,6 +1,7 @@
 -- Lists that are built of a function, and lists with the same elements.
-use Rattle.std.proofs.Common.{◌≡◌, ℕ, zero, suc, ◌+◌, ◌<◌, List, [], ◌∷◌, length, get_or, map, refl}
-use Rattle.std.proofs.Common.{ap, subst, ◌∙◌, arith}
+use Rattle.std.proofs.Common.{◌≡◌, ℕ, zero, suc, ◌+◌, ◌<◌, List, [], ◌∷◌, length, get_or, map, take}
+use Rattle.std.proofs.Common.{drop, refl, ap, sym, subst, ◌∙◌, arith}
+use lib.Lanes.{zip2}
 use Rattle.aes_planes.specs.Fips197.{build, build_from}
 pub use Rattle.aes_planes.specs.Private.BuiltLength.{length-build}
 
@@ -84,3 +85,26 @@ pub map-same : {A B : Type 0} (f g : A → B) (xs : List A) → ((x : A) → f x
     → map f xs ≡ map g xs
 map-same f g [] e = refl
 map-same f g (x ∷ xs) e = (λ t. e x t ∷ map-same f g xs e t)
+
+-- ---- what a function makes of two lists, place by place
+
+-- nothing is made of a list and an empty one
+zip2_nil : (f : ℕ → ℕ → ℕ) (xs : List ℕ) → zip2 f xs [] ≡ []
+zip2_nil f [] = refl
+zip2_nil f (x ∷ xs) = refl
+
+-- the first elements of what is made of two lists are made of the first of both
+pub zip2_take : (f : ℕ → ℕ → ℕ) (n : ℕ) (xs ys : List ℕ)
+    → take n (zip2 f xs ys) ≡ zip2 f (take n xs) (take n ys)
+zip2_take f zero xs ys = refl
+zip2_take f (suc n) [] ys = refl
+zip2_take f (suc n) (x ∷ xs) [] = refl
+zip2_take f (suc n) (x ∷ xs) (y ∷ ys) = ap (λ l. f x y ∷ l) (zip2_take f n xs ys)
+
+-- what is made of two lists, but for the first elements, is made of both without their first
+pub zip2_drop : (f : ℕ → ℕ → ℕ) (n : ℕ) (xs ys : List ℕ)
+    → drop n (zip2 f xs ys) ≡ zip2 f (drop n xs) (drop n ys)
+zip2_drop f zero xs ys = refl
+zip2_drop f (suc n) [] ys = refl
+zip2_drop f (suc n) (x ∷ xs) [] = sym (zip2_nil f (drop n xs))
+zip2_drop f (suc n) (x ∷ xs) (y ∷ ys) = zip2_drop f n xs ys

@@ -2,7 +2,7 @@
 use Rattle.std.proofs.Common.{◌≡◌, ℕ, ◌<◌, ◌≤◌, List, [], length, get_or, map, sym, ap, ◌∙◌, arith}
 use Rattle.std.proofs.lemmas.List.{ext_get_or}
 use Rattle.aes_planes.specs.Fips197 as fips
-use Rattle.aes_planes.proofs.Planes.Held.{map-same}
+use Rattle.aes_planes.proofs.Lists.{map-same}
 use Rattle.aes_planes.proofs.Standard.EquivalentInverse.{eq_inv_is_inv}
 use Rattle.aes_planes.proofs.Standard.InvertedKeys.{inverted_end, inverted_length, inverted_middle}
 

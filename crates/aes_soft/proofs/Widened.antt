@@ -12,7 +12,8 @@ use Rattle.aes_planes.specs.Words.{word_bits}
 use Rattle.aes_planes.specs.Fips197 as fips
 use Rattle.aes_planes.specs.Planes.{held, held_byte, place, plus63, words_at}
 use Rattle.aes_planes.proofs.Lists.{build_is, get_or-build}
-use Rattle.aes_planes.proofs.Planes.Held.{column_of, place_lt, map-map}
+use Rattle.aes_planes.proofs.Planes.Held.{column_of, place_lt}
+use Rattle.std.proofs.lemmas.Simd.{map-map}
 use Rattle.aes_planes.proofs.Planes.EightWords.{words_at-map}
 use Rattle.aes_planes.proofs.Standard.States.{state_same}
 use Rattle.aes_soft.specs.Stored.{HoldsBlocks, first_slot, key_of, IsKeyed}

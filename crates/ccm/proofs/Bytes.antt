@@ -30,12 +30,12 @@ length-bytes zero x = refl
 length-bytes (suc q) x = ap suc (length-bytes q x)
 
 -- 0 in q bytes is q zeros
-pub zeros : (q : ℕ) → bytes q 0 ≡ replicate q 0
+pub bytes_zero : (q : ℕ) → bytes q 0 ≡ replicate q 0
 unfolding bytes
-zeros zero = refl
-zeros (suc q) = (λ t. ap (λ n. n % 256) (zero-div (256 ^ q)) t ∷ zeros q t)
+bytes_zero zero = refl
+bytes_zero (suc q) = (λ t. ap (λ n. n % 256) (zero-div (256 ^ q)) t ∷ bytes_zero q t)
 
--- the last q bytes of a number
+-- of a number in k + q bytes, the last q are the number in q bytes
 pub last_bytes : (k q x : ℕ) → drop k (bytes (k + q) x) ≡ bytes q x
 unfolding bytes
 last_bytes zero q x = let none : 0 + q ≡ q = omega arith in ap (λ n. bytes n x) none
@@ -95,7 +95,7 @@ quotient_zero x k = (
   λ small. div-eq_of_lt small,
 )
 
--- ---- blocks
+-- ---- numbers that std writes, and blocks that are counted on
 
 -- a number in 8 bytes, as std writes it
 pub of_64 : (x : ℕ) → to_be_bytes w64 x ≡ bytes 8 x

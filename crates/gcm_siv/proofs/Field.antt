@@ -107,7 +107,7 @@ back_one : (b : ℕ) → b < 2 ^ 128 → v_at (times_power b 127) 128 ≡ next_v
 back_one b small =
     one_more (times_power b 127) 127 ∙ ap next_v (back_by b 127 0 small ∙ power_start b)
 
--- ---- products
+-- ---- products of elements
 
 -- a sum is the same from its last term on
 sum_from_last : (n : ℕ) (f : ℕ → ℕ) → sum_of n f ≡ sum_of n (λ i. f (n - 1 - i))

@@ -36,14 +36,14 @@ concat_more [] y = append-nil y
 concat_more (x ∷ xs) y = ap (λ l. x ++ l) (concat_more xs y) ∙ sym (append_assoc x (concat xs) y)
 
 -- the semiblocks of a string, joined, are the string
-joined : (s : List ℕ) (n : ℕ) → concat (semiblocks s n) ≡ take (8 * n) s
+semiblocks_joined : (s : List ℕ) (n : ℕ) → concat (semiblocks s n) ≡ take (8 * n) s
 unfolding semiblocks
-joined s zero = refl
-joined s (suc n) =
+semiblocks_joined s zero = refl
+semiblocks_joined s (suc n) =
     let size : 8 * n + 8 - 8 * n ≡ 8 = omega arith in
     let more : 8 * n + 8 ≡ 8 * suc n = omega arith in
     concat_more (semiblocks s n) (slice_range s (8 * n) (8 * n + 8))
-    ∙ (λ j. joined s n j ++ take (size j) (drop (8 * n) s)) ∙ sym (take-add (8 * n) 8 s)
+    ∙ (λ j. semiblocks_joined s n j ++ take (size j) (drop (8 * n) s)) ∙ sym (take-add (8 * n) 8 s)
     ∙ ap (λ m. take m s) more
 
 -- each semiblock of a string is eight bytes
@@ -141,7 +141,7 @@ headed_found key some few =
             ∙ ap (λ m. replicate m 0) (sym padding);
       },
       (λ j. take (plen j)
-          ((joined (padded key) n
+          ((semiblocks_joined (padded key) n
           ∙ take_all (8 * n) (padded key) (omega (arith, length-padded key))) j))
           ∙ take_at key zeros (length key) refl,
     )

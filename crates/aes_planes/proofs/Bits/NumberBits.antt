@@ -66,7 +66,7 @@ bit_ones k i h = ap (λ v. v == 1) (bit_at_ones k i h)
 pub reads : (n a i : ℕ) → i < n → bit a i ≡ at (build n (bit a)) i
 reads n a i h = sym (get_or-build n i (bit a) false h)
 
--- ---- shifts
+-- ---- shifts of numbers
 
 -- the remainder modulo 2 ^ w has the number's own bits below w
 pub bit_low : (x w i : ℕ) → i < w → bit (x % 2 ^ w) i ≡ bit x i

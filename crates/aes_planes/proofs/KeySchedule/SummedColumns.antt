@@ -119,7 +119,7 @@ summed-ext op f g y z zero h e = (λ t. op (h 0 (omega arith) t) (e t))
 summed-ext op f g y z (suc c) h e =
     (λ t. op (h (suc c) (omega arith) t) (summed-ext op f g y z c (λ d l. h d (omega arith)) e t))
 
--- ---- blocks
+-- ---- the columns of blocks
 
 -- columns that are summed at every place of the planes are summed in every block
 columns_held : (n rows cols : ℕ) (new x y : List (List Bool)) → cols < 4

@@ -1,17 +1,18 @@
 -- The blocks that planes hold: from facts on the bytes at places to equations on blocks.
-use Rattle.std.proofs.Common.{◌≡◌, ℕ, zero, suc, ◌+◌, ◌*◌, ◌/◌, ◌%◌, ◌<◌, Bool, List, [], ◌∷◌}
-use Rattle.std.proofs.Common.{length, get_or, map, replicate, refl, ap, sym, ◌∙◌, arith}
+use Rattle.std.proofs.Common.{◌≡◌, ℕ, zero, suc, ◌+◌, ◌*◌, ◌/◌, ◌%◌, ◌^◌, ◌<◌, ◌≤◌, Bool, List, []}
+use Rattle.std.proofs.Common.{◌∷◌, length, get_or, map, replicate, refl, ap, sym, ◌∙◌, arith}
 use Rattle.std.proofs.lemmas.List.{same_lists, length-map}
 use Rattle.std.proofs.lemmas.Nat.{mul-add-lt}
 use Rattle.std.proofs.Math.Arith.{digits_div, digits_mod, mod-mul}
 use Rattle.aes_planes.specs.Bits.{at, bit, number}
 use Rattle.aes_planes.specs.Fips197.{byte_at, build, build_from, state, field_add, add_round_key}
 use Rattle.aes_planes.specs.Planes.{held, held_byte, place, zip_with}
+use Rattle.std.proofs.Math.Pow.{pow_mono}
+use Rattle.aes_planes.proofs.Bits.NumberBits.{number_below}
 use Rattle.aes_planes.proofs.Bits.BytesByBits.{same_byte, mapped_lt, mapped_bit}
 use Rattle.aes_planes.proofs.Standard.States.{byte_at-state, state_is, state_same}
 use Rattle.aes_planes.proofs.Lists.{build_is, get_or-build, length-build}
-pub use Rattle.aes_planes.proofs.Lists.{map-same}
-pub use Rattle.std.proofs.lemmas.Simd.{map-map}
+use Rattle.std.proofs.lemmas.Simd.{map-map}
 
 -- ---- lists that are built of a function
 
@@ -100,6 +101,15 @@ column_of n R Q r c k eR eQ h l kn =
     (λ t. rest t / eQ t) ∙ digits_div c kn
 
 -- ---- from bytes at places to blocks
+
+-- what at most eight planes hold at a place is a byte
+pub byte_of_few : (planes : List (List Bool)) (i : ℕ) → length planes ≤ 8 → held_byte planes i < 256
+byte_of_few planes i le =
+    let bits : List Bool = map (λ w. at w i) planes in
+    let p : 2 ^ length bits ≤ 2 ^ 8 =
+    pow_mono {j = 8} (omega (arith, length-map planes (λ w. at w i))) in
+    let n = number_below bits in
+    omega arith
 
 -- what eight words hold at a place is a byte
 pub held_byte_lt : {A : Type 0} (bits : A → List Bool) (xs : List A) → length xs ≡ 8 → (i : ℕ)

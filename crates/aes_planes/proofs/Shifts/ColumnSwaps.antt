@@ -17,7 +17,9 @@ use Rattle.aes_planes.proofs.Standard.States.{byte_at-state, state_same}
 use Rattle.aes_planes.proofs.Bits.BitCases.{swapped}
 use Rattle.aes_planes.proofs.Bits.ByteCases.{all_below, all_pairs_tell}
 use Rattle.aes_planes.proofs.Planes.Held.{place_lt, column_of, stepped_held, held_byte_lt, held_bit}
-use Rattle.aes_planes.proofs.Planes.Held.{held_is, map-map, map-same}
+use Rattle.aes_planes.proofs.Planes.Held.{held_is}
+use Rattle.std.proofs.lemmas.Simd.{map-map}
+use Rattle.aes_planes.proofs.Lists.{map-same}
 use lib.Arith.{digits_div}
 
 -- ---- by rows and columns, where the mask has a nibble for each row

@@ -12,7 +12,7 @@ use Rattle.aes_planes.proofs.Bits.ByteCases.{by_four}
 use Rattle.aes_planes.proofs.Lists.{built}
 use Rattle.aes_planes.proofs.Mixing.MixColumns.{mix_block, inv_mix_block, mix_columns_add}
 use Rattle.aes_planes.proofs.Mixing.MixColumns.{inv_mix_columns_add}
-use Rattle.aes_planes.proofs.Planes.Held.{map-map}
+use Rattle.std.proofs.lemmas.Simd.{map-map}
 use Rattle.aes_planes.proofs.Shifts.ColumnSwaps.{shifted_back_3}
 use Rattle.aes_planes.proofs.Standard.FieldLaws.{add_swap, add_twice}
 use Rattle.aes_planes.proofs.Standard.LinearSteps.{shift_map, inv_sub_shift}

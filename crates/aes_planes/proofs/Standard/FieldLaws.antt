@@ -9,7 +9,7 @@ use Rattle.std.proofs.Math.Nat.{mod-lt, pow-suc}
 use Rattle.aes_planes.proofs.Bits.ByteCases.{all_below, all_below_tells, by_pairs}
 use Rattle.aes_planes.specs.Fips197.{field_add, field_mul, low_product, xtime}
 
--- ---- sums
+-- ---- sums of bytes
 
 -- the sum of a byte and 0 is the byte
 pub add_zero : (a : ℕ) → field_add a 0 ≡ a
@@ -28,7 +28,7 @@ add_swap a b c d =
 pub add_twice : (a b : ℕ) → field_add (field_add a b) b ≡ a
 add_twice a b = xor_assoc a b b ∙ ap (field_add a) (xor_self b) ∙ xor_zero_r a
 
--- ---- products
+-- ---- products of bytes
 
 -- the term of a bit: that of a sum of two bits is the sum of theirs
 chosen : (a p q : ℕ) → p < 2 → q < 2 → (if bit_xor p q == 1 then a else 0)

@@ -11,7 +11,7 @@ use Rattle.aes_planes.proofs.Lists.{built}
 use Rattle.aes_planes.proofs.Standard.FieldLaws.{add_swap, field_mul_add, agree_by_powers}
 use Rattle.aes_planes.proofs.Standard.States.{state_same}
 
--- ---- shifts
+-- ---- shifts of rows
 
 -- a function of each byte commutes with the shifts
 pub shift_map : (f : ℕ → ℕ) (s : List ℕ) → length s ≡ 16

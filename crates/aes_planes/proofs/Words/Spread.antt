@@ -42,46 +42,47 @@ joined_right true q true true e f = e && (not q || f)
 joined_right false q true true e f = q && f
 
 -- the second of two bits stands alone, or is the same as the first
-second : (q : Bool) (x : ℕ → Bool) (v w : ℕ) → (not q || (v == w)) ≡ true
+second_alone : (q : Bool) (x : ℕ → Bool) (v w : ℕ) → (not q || (v == w)) ≡ true
     → (x w || (q && x v)) ≡ x w
-second true x v w h = ap (λ k. x w || x k) (eqb-true v w h) ∙ or_self (x w)
-second false x v w h = or-false (x w)
+second_alone true x v w h = ap (λ k. x w || x k) (eqb-true v w h) ∙ or_self (x w)
+second_alone false x v w h = or-false (x w)
 
 -- what the mask lets through of two bits that pass the test is the right bit
-joined : (p q b o : Bool) (x : ℕ → Bool) (u v w : ℕ) → joined_right p q b o (u == w) (v == w) ≡ true
+let_through : (p q b o : Bool) (x : ℕ → Bool) (u v w : ℕ)
+    → joined_right p q b o (u == w) (v == w) ≡ true
     → (((p && x u) || (q && x v)) && b) ≡ (o && x w)
 unfolding joined_right
-joined p q false o x u v w h = and-false _ ∙ ap (λ c. c && x w) (sym (not-true o h))
-joined p q true false x u v w h =
+let_through p q false o x u v w h = and-false _ ∙ ap (λ c. c && x w) (sym (not-true o h))
+let_through p q true false x u v w h =
     let t = and_parts (not p) (not q) h in
     (λ i. ((not-true p t.0 i && x u) || (not-true q t.1 i && x v)) && true)
-joined true q true true x u v w h =
+let_through true q true true x u v w h =
     let t = and_parts (u == w) _ h in
-    and-true _ ∙ ap (λ k. x k || (q && x v)) (eqb-true u w t.0) ∙ second q x v w t.1
-joined false q true true x u v w h =
+    and-true _ ∙ ap (λ k. x k || (q && x v)) (eqb-true u w t.0) ∙ second_alone q x v w t.1
+let_through false q true true x u v w h =
     let t = and_parts q (v == w) h in
     and-true _ ∙ (λ i. t.0 i && x (eqb-true v w t.1 i))
 
 -- the test of one step of spreading at place i
-step : ℕ → ℕ → (ℕ → Bool) → (ℕ → Bool) → (ℕ → ℕ) → (ℕ → ℕ) → ℕ → Bool
-step s m on on-next from from-next i =
+step_test : ℕ → ℕ → (ℕ → Bool) → (ℕ → Bool) → (ℕ → ℕ) → (ℕ → ℕ) → ℕ → Bool
+step_test s m on on-next from from-next i =
     joined_right (on i) (nat_le s i && on (i - s)) (bit m i) (on-next i) (from i == from-next i)
     (from (i - s) == from-next i)
 
 module _ (s m : ℕ) (on on-next : ℕ → Bool) (from from-next : ℕ
-    → ℕ) (right : all_below 64 (step s m on on-next from from-next) ≡ true) where
+    → ℕ) (right : all_below 64 (step_test s m on on-next from from-next) ≡ true) where
   -- a step that passes the test at every place draws the bits apart as it should
   bits_drawn : (x a b : ℕ) → ((i : ℕ) → i < 64 → bit a i ≡ (on i && bit x (from i)))
       → ((i : ℕ) → i < 64 → bit b i ≡ ((bit a i || (nat_le s i && bit a (i - s))) && bit m i))
       → (i : ℕ) → i < 64 → bit b i ≡ (on-next i && bit x (from-next i))
-  unfolding step
+  unfolding step_test
   bits_drawn x a b f g i h =
       g i h ∙ (λ t. (f i h t || (nat_le s i && f (i - s) (omega arith) t)) && bit m i)
       ∙ ap (λ v. ((on i && bit x (from i)) || v) && bit m i)
       (sym (and_assoc (nat_le s i) (on (i - s)) (bit x (from (i - s)))))
-      ∙ joined (on i) (nat_le s i && on (i - s)) (bit m i) (on-next i) (bit x) (from i)
+      ∙ let_through (on i) (nat_le s i && on (i - s)) (bit m i) (on-next i) (bit x) (from i)
       (from (i - s)) (from-next i)
-      (all_below_tells 64 (step s m on on-next from from-next) right i h)
+      (all_below_tells 64 (step_test s m on on-next from from-next) right i h)
 
 -- the first q places of each l, which hold the bits in their order
 abbrev first_places : ℕ → ℕ → ℕ → Bool
@@ -115,7 +116,7 @@ pub each_four_times : (x eights fours twos ones twice last : ℕ) → x < 2 ^ 16
     → Drawn 3 0x1111111111111111 twos ones → Drawn 1 0x3333333333333333 ones twice
     → Drawn 2 0xffffffffffffffff twice last
     → (i : ℕ) → i < 64 → bit last i ≡ bit x (i / 4)
-unfolding all_below step joined_right bit
+unfolding all_below step_test joined_right bit
 each_four_times x eights fours twos ones twice last f d24 d12 d6 d3 d1 d2 =
     let at = first_places in
     let to = from_place in

@@ -245,7 +245,7 @@ shift_left_part x a b n d e f t u = shifted_left wide (wide_bits x) b a n e d f
 
 pub ruleset shift_left_calls = (shift_left_whole, shift_left_part)
 
--- ---- rows
+-- ---- rows on 128 and on 256 bits
 
 -- which lanes a shuffle takes: each of sixteen twice
 abbrev pub twice : List ℕ

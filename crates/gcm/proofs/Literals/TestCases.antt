@@ -1,5 +1,5 @@
--- Test cases 4 to 6 of GCM's submission to NIST, which have one key, text and additional data: the
--- nonces differ.
+-- The texts of test cases 4 to 6 of GCM's submission to NIST, which have one key and one plain text:
+-- the nonces differ.
 use Rattle.std.proofs.Common.{◌≡◌, ℕ, List, [], ◌∷◌, ◌++◌, replicate, slice_index_or, sym, arith}
 use Rattle.std.specs.Int.{w128, to_be_bytes, from_be_bytes}
 use Rattle.aes_planes.specs.BigEndian.{bytes}
@@ -11,19 +11,15 @@ use Rattle.gcm.specs.Gcm.{inc32, counter_at, pre_counter, text}
 use Rattle.gcm.proofs.Literals.OnLiterals.{gcm_on_literals, text_by}
 
 -- the round keys of the cases' key
-abbrev pub w : List (List ℕ)
+abbrev w : List (List ℕ)
 w = key_expansion (bytes 16 0xfeffe9928665731c6d6a8f9467308308)
 
 -- the cipher of the block of zeros
-abbrev pub zeros : List ℕ
+abbrev zeros : List ℕ
 zeros = bytes 16 0xb83b533708bf535d0aa6e52980d53b78
 
--- A of the three cases
-abbrev pub additional : List ℕ
-additional = bytes 20 0xfeedfacedeadbeeffeedfacedeadbeefabaddad2
-
 -- P of the three cases
-abbrev pub plain : List ℕ
+abbrev plain : List ℕ
 plain =
     bytes 16 0xd9313225f88406e5a55909c5aff5269a ++ bytes 16 0x86a7a9531534f7da2e4c303d8a318a72
     ++ bytes 16 0x1c3c0c95956809532fcf0e2449a6b525 ++ bytes 12 0xb16aedf5aa0de657ba637b39

@@ -82,6 +82,15 @@ whole_blocks h y v s rest b after is before whole =
           (omega (arith, places)));
     }
 
+-- a piece that is cut twice: its parts, joined, are the piece
+pub parts_joined : (n m : ℕ) (b first others whole last : List ℕ) → first ≡ take n b
+    → others ≡ drop n b → whole ≡ take m others → last ≡ drop m others
+    → b ≡ first ++ (whole ++ last)
+parts_joined n m b first others whole last first_is others_is whole_is last_is =
+    sym ((λ t. first_is t ++ ((λ u. whole_is u ++ last_is u)
+    ∙ take-append-drop m others ∙ others_is) t)
+    ∙ take-append-drop n b)
+
 -- GHASH after a piece that fills the block, then has whole blocks, and then some bytes of a block
 pub three_parts : (h y v : ℕ) (s rest b first whole last block after : List ℕ)
     → IsHashing h y s v rest

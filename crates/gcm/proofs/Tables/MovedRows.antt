@@ -1,6 +1,6 @@
 -- Rows of multiples for four powers of x more.
-use Rattle.std.proofs.Common.{◌≡◌, ℕ, suc, ◌+◌, ◌-◌, ◌*◌, ◌/◌, ◌%◌, ◌^◌, ◌<◌, ◌==◌, cond}
-use Rattle.std.proofs.Common.{Bool, true, false, List, [], ◌++◌, length, take, drop, get_or, map}
+use Rattle.std.proofs.Common.{◌≡◌, ℕ, suc, ◌+◌, ◌-◌, ◌*◌, ◌/◌, ◌%◌, ◌^◌, ◌<◌, ◌==◌}
+use Rattle.std.proofs.Common.{true, List, [], ◌++◌, length, take, drop, get_or, map}
 use Rattle.std.proofs.Common.{replicate, bit_xor, refl, ap, sym, ◌∙◌, arith}
 use Rattle.std.proofs.lemmas.Nat.{xor_comm, shr-shr}
 use Rattle.std.proofs.lemmas.Bool.{eqb-true}
@@ -14,13 +14,13 @@ use Rattle.aes_planes.proofs.Lists.{get_or-build, build_is}
 use Rattle.aes_planes.proofs.Words.ByteLanes.{lane_of_splats, shr8, shl8}
 use Rattle.aes_permute.specs.Lookup.{looked, low_nibble}
 use Rattle.aes_permute.specs.Vectors.{half}
-use Rattle.aes_permute.proofs.ByHalves.{half_of_both, half_of_zip}
+use Rattle.aes_permute.proofs.ByHalves.{by_half, half_of_both, half_of_zip}
 use Rattle.gcm.specs.declared.moved_rows.TheConstants.{FALLEN_FIRST, FALLEN_SECOND}
 use Rattle.gcm.specs.Gcm.{next_v, v_at}
 use Rattle.gcm.specs.Multiples.{byte_of, nibble_multiple, multiples_row, multiples_rows, row_at}
 use Rattle.gcm.proofs.Products.Linear.{sum-agree, v-sum, v_keeps, v_swap, v_shifted, term}
 use Rattle.gcm.proofs.Products.Linear.{term_through}
-use Rattle.gcm.proofs.Products.Linear.{joined, nibble_below}
+use Rattle.gcm.proofs.Products.Linear.{sum_without_carry, nibble_below}
 use Rattle.gcm.proofs.Tables.Rows.{byte_of_sum, zero_at}
 
 -- ---- a number times x^4
@@ -29,7 +29,7 @@ use Rattle.gcm.proofs.Tables.Rows.{byte_of_sum, zero_at}
 four_shifted : (k : ℕ) → v_at k 4 ≡ bit_xor (k / 16) (v_at (k % 16) 4)
 four_shifted k =
     let parts : k ≡ bit_xor (k / 16 * 2 ^ 4) (k % 16) =
-    sym (joined 4 (k / 16) (k % 16) (omega arith) ∙ omega arith) in
+    sym (sum_without_carry 4 (k / 16) (k % 16) (omega arith) ∙ omega arith) in
     ap (λ y. v_at y 4) parts ∙ v_keeps 4 (k / 16 * 2 ^ 4) (k % 16)
     ∙ ap (λ y. bit_xor y (v_at (k % 16) 4)) (v_shifted 4 (k / 16))
 
@@ -37,7 +37,8 @@ four_shifted k =
 nibbles_sum : (a b : ℕ) → a < 16 → bit_xor a (b * 16 % 256) ≡ b * 16 % 256 + a
 nibbles_sum a b small =
     let shifted : b * 16 % 256 ≡ b % 16 * 2 ^ 4 = omega arith in
-    ap (bit_xor a) shifted ∙ xor_comm a (b % 16 * 2 ^ 4) ∙ joined 4 (b % 16) a small ∙ omega arith
+    ap (bit_xor a) shifted ∙ xor_comm a (b % 16 * 2 ^ 4)
+    ∙ sum_without_carry 4 (b % 16) a small ∙ omega arith
 
 -- a byte of a number that is moved by four bits has bits of that byte and of the one before it
 byte_moved : (m r : ℕ) → r < 15
@@ -122,7 +123,7 @@ four_second m =
     ((eqb-true _ _ (all_below_tells 16 (λ k. byte_of (v_at k 4) 1 == looked FALLEN_SECOND k)
     second_test (m % 16) (omega arith)) ∙ ap (looked FALLEN_SECOND) (last_nibble m)) t))
 
--- ---- rows
+-- ---- rows of multiples
 
 -- multiples by nibbles of a number times x^4 are the multiples, times x^4
 nibble_four : (v n : ℕ) → nibble_multiple (v_at v 4) n ≡ v_at (nibble_multiple v n) 4
@@ -228,12 +229,9 @@ second_row v rows m t last is long sized lanes t_is last_is =
 
 -- each half of a vector of 32 lanes has sixteen
 half_long : (x : List ℕ) (i : ℕ) → length x ≡ 32 → length (half x i) ≡ 16
-unfolding half
-half_long x i long = go (i == 0)
-  where
-    go : (b : Bool) → length (cond b (take 16 x) (drop 16 x)) ≡ 16
-    go true = omega (arith, length-take 16 x, long)
-    go false = omega (arith, length-drop 16 x, long)
+half_long x i long =
+    by_half (λ h. length (h x) ≡ 16) i (omega (arith, length-take 16 x, long))
+    (omega (arith, length-drop 16 x, long))
 
 -- a lane in a half of two vectors that are shifted and summed, by those lanes of their halves
 pub lane_of_half : (x y : List ℕ) (i n : ℕ) → length x ≡ 32 → length y ≡ 32 → n < 16

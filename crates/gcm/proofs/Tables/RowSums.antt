@@ -8,10 +8,10 @@ use Rattle.std.specs.Int.{w128, to_be_bytes, from_be_bytes}
 use Rattle.std.specs.Int.Bits.{xor_assoc, xor_zero_r}
 use lib.Lanes.{zip2}
 use Rattle.aes_planes.specs.Fips197.{IsBlock}
+use Rattle.aes_planes.proofs.Lists.{zip2_take, zip2_drop}
 use Rattle.aes_planes.proofs.Standard.FieldLaws.{add_swap}
 use Rattle.aes_cipher.proofs.BlockNumbers.{block_back}
 use Rattle.aes_permute.specs.Lookup.{by_nibbles}
-use Rattle.aes_permute.proofs.ByHalves.{zip2_take, zip2_drop}
 use Rattle.gcm.specs.Gcm.{v_at}
 use Rattle.gcm.specs.Multiples.{folded, reduced, IsTable, HasRows, subkey_in, row_number}
 use Rattle.gcm.specs.Multiples.{rows_after, place_of, multiples_row}

@@ -14,13 +14,13 @@ use Rattle.aes_planes.proofs.Standard.FieldLaws.{add_swap, add_twice}
 use Rattle.gcm.specs.Gcm.{bit_of, next_v, v_at, product}
 use Rattle.gcm.specs.Carryless.{carryless}
 use Rattle.gcm.specs.Multiples.{sum_of, folded}
-use Rattle.gcm.proofs.Products.Linear.{shift_keeps, joined, sum-agree, term, term_adds}
+use Rattle.gcm.proofs.Products.Linear.{shift_keeps, sum_without_carry, sum-agree, term, term_adds}
 use Rattle.gcm.proofs.Products.Linear.{term_keeps, term_mapped, term_through, term_zero}
 use Rattle.gcm.proofs.Products.Linear.{product_terms, v_add, v_below, v_keeps, v_shifted, v_zero}
 use Rattle.gcm.proofs.Products.Powers.{product_below}
 use Rattle.gcm.proofs.Products.Reduction.{folded_keeps}
 
--- ---- sums
+-- ---- products of sums
 
 -- a product without carries keeps sums in the first factor
 pub carryless_left_keeps : (n a b y : ℕ) → carryless n (bit_xor a b) y
@@ -61,7 +61,7 @@ carryless_right_zero zero x = refl
 carryless_right_zero (suc n) x =
     (λ t. bit_xor (carryless_right_zero n (x / 2) t * 2) (term_zero (x % 2) t))
 
--- ---- shifts
+-- ---- products of shifted numbers
 
 -- the product without carries with a shifted number is shifted
 pub carryless_right_shifted : (n x y k : ℕ) → carryless n x (y * 2 ^ k) ≡ carryless n x y * 2 ^ k
@@ -121,7 +121,8 @@ carryless_no_bits (suc n) a y =
 pub carryless_cut : (n x y : ℕ) → carryless n x y ≡ carryless n (x % 2 ^ n) y
 carryless_cut n x y =
     let parts : x ≡ bit_xor (x / 2 ^ n * 2 ^ n) (x % 2 ^ n) =
-    sym (joined n (x / 2 ^ n) (x % 2 ^ n) (omega (arith, pow_pos n)) ∙ omega (arith, pow_pos n)) in
+    sym (sum_without_carry n (x / 2 ^ n) (x % 2 ^ n) (omega (arith, pow_pos n))
+    ∙ omega (arith, pow_pos n)) in
     ap (λ z. carryless n z y) parts
     ∙ carryless_left_keeps n (x / 2 ^ n * 2 ^ n) (x % 2 ^ n) y
     ∙ ap (λ c. bit_xor c (carryless n (x % 2 ^ n) y)) (carryless_no_bits n (x / 2 ^ n) y)
@@ -146,7 +147,8 @@ karatsuba n x y x0 x1 y0 y1 x1_is x0_is y1_is y0_is l h m l_is h_is m_is =
     let d : ℕ = carryless n x1 y1 in
     let parts : y ≡ bit_xor (y1 * 2 ^ n) y0 =
     sym ((λ t. bit_xor (y1_is t * 2 ^ n) (y0_is t))
-    ∙ joined n (y / 2 ^ n) (y % 2 ^ n) (omega (arith, pow_pos n)) ∙ omega (arith, pow_pos n)) in
+    ∙ sum_without_carry n (y / 2 ^ n) (y % 2 ^ n) (omega (arith, pow_pos n))
+    ∙ omega (arith, pow_pos n)) in
     let by = λ (z : ℕ). ap (carryless n z) parts ∙ carryless_right_keeps n z (y1 * 2 ^ n) y0
     ∙ ap (λ p. bit_xor p (carryless n z y0)) (carryless_right_shifted n z y1 n) in
     let m_by : m ≡ bit_xor b c =
@@ -237,7 +239,8 @@ same_linear f g none f_keeps g_keeps (suc n) agree x small =
     let r_small : r < 2 ^ n = omega (arith, pow_pos n) in
     let one_more : suc n ≡ 1 + n = omega arith in
     let b_small : b < 2 = shr_below x 1 n (subst (λ k. x < 2 ^ k) one_more small) in
-    let parts : x ≡ bit_xor (b * 2 ^ n) r = sym (joined n b r r_small ∙ omega (arith, pow_pos n)) in
+    let parts : x ≡ bit_xor (b * 2 ^ n) r =
+    sym (sum_without_carry n b r r_small ∙ omega (arith, pow_pos n)) in
     let no_bit : 0 * 2 ^ n ≡ 0 = omega arith in
     let one_bit : 1 * 2 ^ n ≡ 2 ^ n = omega arith in
     let upper : f (b * 2 ^ n) ≡ g (b * 2 ^ n) =
@@ -273,7 +276,7 @@ reduced_product x h high low is small fits =
     let w : ℕ = folded (spread f) in
     let fallen : f < 2 ^ 128 = omega arith in
     let twice : bit_xor (k * 2 ^ 128) f ≡ (high * 2 ^ 128 + low) * 2 ^ 1 =
-    joined 128 k f fallen ∙ omega (arith, fits) in
+    sum_without_carry 128 k f fallen ∙ omega (arith, fits) in
     let whole : bit_xor k w ≡ product x h =
     sym (product_shifted x h ∙ ap (λ c. v_at c 127) (sym is)
     ∙ ap (λ c. v_at c 127) (sym (v_shifted 1 (high * 2 ^ 128 + low)))
@@ -288,7 +291,7 @@ reduced_product x h high low is small fits =
     rw k_is (xor_lt 128 (product x h) w (product_below x h small) w_small) in
     let kept : high * 2 % 2 ^ 128 ≡ high * 2 ^ 1 = omega (arith, k_small) in
     let joint : bit_xor (high * 2 ^ 1) (low / 2 ^ 127) ≡ k =
-    joined 1 high (low / 2 ^ 127) (omega (arith, fits)) in
+    sum_without_carry 1 high (low / 2 ^ 127) (omega (arith, fits)) in
     ap (λ z. bit_xor (bit_xor z (low / 2 ^ 127)) w) kept ∙ ap (λ z. bit_xor z w) joint ∙ whole
 
 -- the upper and the lower half of a product of 256 bits, by the products of its parts

@@ -9,7 +9,7 @@ use Rattle.aes_planes.proofs.Bits.ByteCases.{by_two, by_pairs}
 use Rattle.aes_planes.proofs.Standard.FieldLaws.{add_swap}
 use Rattle.gcm.specs.Carryless.{carryless, holes}
 use Rattle.gcm.proofs.WithoutCarries.Carryless.{carryless_left_zero, carryless_split, carryless_cut}
-use Rattle.gcm.proofs.Products.Linear.{shift_keeps, joined}
+use Rattle.gcm.proofs.Products.Linear.{shift_keeps, sum_without_carry}
 
 -- ---- masks
 
@@ -54,10 +54,10 @@ AreDigits m zero x = x ≡ 0
 AreDigits m (suc n) x = (x % 16 ≤ m) × AreDigits m n (x / 16)
 
 -- 0 has n digits of 16, for every n
-zeros : (m n : ℕ) → AreDigits m n 0
+no_digits : (m n : ℕ) → AreDigits m n 0
 unfolding AreDigits
-zeros m zero = refl
-zeros m (suc n) = (omega arith, zeros m n)
+no_digits m zero = refl
+no_digits m (suc n) = (omega arith, no_digits m n)
 
 -- a number of n digits has n + 1: a zero stands before them
 one_before : (m n x : ℕ) → AreDigits m n x → AreDigits m (suc n) x
@@ -92,7 +92,7 @@ summed m k (suc n) x y small is also =
 bits_apart : (x n : ℕ) → bit_and x (holes (suc n))
     ≡ bit_xor (bit_and (x / 16) (holes n) * 2 ^ 4) (x % 2)
 bits_apart x n = holes_next x n
-    ∙ sym (joined 4 (bit_and (x / 16) (holes n)) (x % 2) (omega arith))
+    ∙ sym (sum_without_carry 4 (bit_and (x / 16) (holes n)) (x % 2) (omega arith))
 
 -- nothing is left of a number under the mask of no digit
 none_masked : (x : ℕ) → bit_and x (holes 0) ≡ 0
@@ -160,7 +160,7 @@ digit_times : (d n y : ℕ) → d < 2 → AreDigits 1 n y → AreDigits 1 n (d *
 digit_times d n y small is = by_two (λ d. AreDigits 1 n (d * y)) none one d small
   where
     none : AreDigits 1 n (0 * y)
-    none = let e : 0 ≡ 0 * y = omega arith in subst (AreDigits 1 n) e (zeros 1 n)
+    none = let e : 0 ≡ 0 * y = omega arith in subst (AreDigits 1 n) e (no_digits 1 n)
 
     one : AreDigits 1 n (1 * y)
     one = let e : y ≡ 1 * y = omega arith in subst (AreDigits 1 n) e is
@@ -191,7 +191,7 @@ digits_times zero n x y small is also =
     let start : 0 ≡ 0 * y = omega arith in
     let none : 0 ≡ x * y = start ∙ ap (λ z. z * y) (sym is) in
     record {
-      digits = subst (AreDigits 0 (0 + n)) none (zeros 0 (0 + n));
+      digits = subst (AreDigits 0 (0 + n)) none (no_digits 0 (0 + n));
       bits = ap (λ z. bit_and z (holes (0 + n))) (sym none) ∙ and_comm 0 (holes (0 + n))
           ∙ and_zero_r (holes (0 + n)) ∙ sym (none_by x y);
     }

@@ -9,7 +9,7 @@ use Rattle.gcm.specs.Carryless.{carryless}
 use Rattle.gcm.proofs.WithoutCarries.Carryless.{carryless_left_keeps, carryless_left_zero}
 use Rattle.gcm.proofs.WithoutCarries.Carryless.{carryless_right_keeps, carryless_right_zero}
 use Rattle.gcm.proofs.WithoutCarries.Carryless.{same_linear}
-use Rattle.gcm.proofs.Products.Linear.{joined}
+use Rattle.gcm.proofs.Products.Linear.{sum_without_carry}
 
 -- reversed bits behind others keep sums
 onto_keeps : (k a b c d : ℕ) → reverse_bits_onto k (bit_xor a b) (bit_xor c d)
@@ -115,4 +115,4 @@ both_halves x y l m hx hy l_is m_is =
     let low : whole % 2 ^ 32 < 2 ^ 32 = omega arith in
     (λ t. bit_xor ((ap (λ z. reverse_bits w32 z / 2) m_is ∙ sym (halves_are x y hx hy)) t * 2 ^ 32)
     (l_is t))
-    ∙ joined 32 (whole / 2 ^ 32) (whole % 2 ^ 32) low ∙ omega arith
+    ∙ sum_without_carry 32 (whole / 2 ^ 32) (whole % 2 ^ 32) low ∙ omega arith

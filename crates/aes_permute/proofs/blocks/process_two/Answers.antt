@@ -1,6 +1,6 @@
 -- All rounds on two vectors: what `process_vector` has, for each of the two.
 use Rattle.std.proofs.Common.{arith}
-use Rattle.aes_permute.proofs.States.{first_state, next_state, last_state}
+use Rattle.aes_permute.proofs.StoredStates.{first_state, next_state, last_state}
 use Rattle.aes_permute.proofs.blocks.process_two.Goals as goal
 
 pub loop-i-init : goal.loop-i-init

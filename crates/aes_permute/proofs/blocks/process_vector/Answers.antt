@@ -1,6 +1,6 @@
 -- All rounds on one vector: the first state, a round more, the last round, for each block.
 use Rattle.std.proofs.Common.{arith}
-use Rattle.aes_permute.proofs.States.{first_state, next_state, last_state}
+use Rattle.aes_permute.proofs.StoredStates.{first_state, next_state, last_state}
 use Rattle.aes_permute.proofs.blocks.process_vector.Goals as goal
 
 pub loop-i-init : goal.loop-i-init

@@ -1,14 +1,14 @@
 -- A piece that doesn't fill the block that has begun, and one that fills it and goes on behind it.
-use Rattle.std.proofs.Common.{◌≡◌, ℕ, ◌+◌, ◌-◌, ◌*◌, ◌/◌, ◌≤◌, ◌∙◌, List, ◌++◌, ap, arith, bit_xor}
+use Rattle.std.proofs.Common.{◌≡◌, ℕ, ◌+◌, ◌-◌, ◌/◌, ◌≤◌, ◌∙◌, List, ◌++◌, ap, arith, bit_xor}
 use Rattle.std.proofs.Common.{length, length-take, length-drop, subst, sym, take, drop}
-use Rattle.std.proofs.lemmas.List.{take-append-drop, take_all}
+use Rattle.std.proofs.lemmas.List.{take_all}
 use Rattle.std.proofs.lemmas.Slice.{take-put_mid}
 use Rattle.std.proofs.Math.Seq.{take-append_seam}
 use Rattle.std.specs.Int.{w128, from_be_bytes}
 use Rattle.aes_cipher.specs.Blocks.{padded}
 use Rattle.gcm.specs.Gcm.{product, hashed}
 use Rattle.gcm.specs.Pieces.{IsHashing}
-use Rattle.gcm.proofs.Messages.InPieces.{unfilled, three_parts}
+use Rattle.gcm.proofs.Messages.InPieces.{unfilled, parts_joined, three_parts}
 use Rattle.gcm.proofs.hash_room.hash_piece.Goals as goal
 use borrow.Rule.Slice.PartMut.{post_of, put_mid, same_len_mid}
 
@@ -33,7 +33,6 @@ returns g c y s places is =
     let rest : List ℕ = c.args.rest.now in
     let f : ℕ = c.args.filled in
     let first : List ℕ = c.split_at.result.0.now in
-    let others : List ℕ = c.split_at.result.1.now in
     let whole : List ℕ = c.split_at-2.result.0.now in
     let last : List ℕ = c.split_at-2.result.1.now in
     let copied : List ℕ = c.copy_from_slice-2.new.self in
@@ -52,10 +51,6 @@ returns g c y s places is =
     let long : length block ≤ 16 = omega (arith, sized) in
     let copied_last : List ℕ = c.copy_from_slice-3.new.self in
     let same_last : copied_last ≡ last = c.copy_from_slice-3.ensures.after in
-    let first_is : first ≡ take (16 - f) b = c.split_at.ensures.front in
-    let others_is : others ≡ drop (16 - f) b = c.split_at.ensures.back in
-    let whole_is : whole ≡ take (length others / 16 * 16) others = c.split_at-2.ensures.front in
-    let last_is : last ≡ drop (length others / 16 * 16) others = c.split_at-2.ensures.back in
     let v : ℕ = from_be_bytes w128 c.args.value.now in
     let value : from_be_bytes w128 c.block_of_number.result
     ≡ hashed h (product (bit_xor v (from_be_bytes w128 block)) h) (padded whole)
@@ -68,9 +63,8 @@ returns g c y s places is =
     let P : ℕ → Type 0 = λ v. IsHashing h y (s ++ b) v (copied_last ++ tail) in
     subst P (sym value)
     (three_parts h y v s rest b first whole last block (copied_last ++ tail) is
-    (sym ((λ t. first_is t ++ ((λ u. whole_is u ++ last_is u)
-    ∙ take-append-drop (length others / 16 * 16) others ∙ others_is) t)
-    ∙ take-append-drop (16 - f) b))
+    (parts_joined (16 - f) _ b first _ whole last c.split_at.ensures.front c.split_at.ensures.back
+    c.split_at-2.ensures.front c.split_at-2.ensures.back)
     (omega (arith, places, c.split_at.ensures.front_len))
     (sym (take_all 16 block long)
     ∙ take-put_mid f (16 - f) rest copied 16

@@ -3,7 +3,7 @@ use Rattle.std.proofs.Common.{map, ap, ◌∙◌, arith}
 use Rattle.std.proofs.lemmas.Grind.{common_steps}
 use Rattle.aes_planes.specs.Fips197.{key_expansion}
 use Rattle.aes_planes.specs.Rounds.{all_rounds}
-use Rattle.aes_planes.proofs.Planes.Held.{map-same}
+use Rattle.aes_planes.proofs.Lists.{map-same}
 use Rattle.aes_planes.proofs.Standard.CipherLaws.{two_keys}
 use Rattle.aes_permute.proofs.KeyOfLanes.{two_stored}
 use Rattle.aes_permute.specs.Keys.{key_of_lanes}

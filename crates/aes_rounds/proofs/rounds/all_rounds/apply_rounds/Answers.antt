@@ -1,7 +1,8 @@
 -- The loop begins with the first round key added, and each turn is one round more.
 use Rattle.std.proofs.Common.{◌≡◌, ℕ, ◌+◌, ◌-◌, List, map, ap, ◌∙◌, arith}
 use Rattle.aes_planes.specs.Fips197 as fips
-use Rattle.aes_planes.proofs.Planes.Held.{map-map, map-same}
+use Rattle.std.proofs.lemmas.Simd.{map-map}
+use Rattle.aes_planes.proofs.Lists.{map-same}
 use Rattle.aes_planes.specs.Rounds.{rounds_after, all_rounds}
 use Rattle.aes_planes.proofs.Standard.AllRounds.{rounds_more}
 use Rattle.aes_rounds.proofs.rounds.all_rounds.apply_rounds.Goals as goal

@@ -1,7 +1,8 @@
 -- A round under the zero key, with its mixing undone, is the last step.
 use Rattle.std.proofs.Common.{List, ℕ, map, replicate, ap, ◌∙◌}
 use Rattle.aes_planes.specs.Fips197 as fips
-use Rattle.aes_planes.proofs.Planes.Held.{map-map, map-same}
+use Rattle.std.proofs.lemmas.Simd.{map-map}
+use Rattle.aes_planes.proofs.Lists.{map-same}
 use Rattle.aes_rounds.proofs.rounds.all_rounds.last_step.Goals as goal
 
 pub returns : goal.returns

@@ -4,7 +4,7 @@ use Rattle.std.proofs.Common.{◌≡◌, ℕ, ◌+◌, ◌-◌, ◌*◌, ◌/◌
 use Rattle.aes_planes.specs.Fips197.{inv_shift_times}
 use Rattle.aes_planes.specs.Planes.{held}
 use Rattle.aes_soft.proofs.Rounds.{Run, turn_of, turns_of, ReachedBack, inv_started, inv_shifted}
-use Rattle.aes_soft.proofs.Rounds.{inv_round, inv_ended}
+use Rattle.aes_soft.proofs.Rounds.{inv_round, two_rounds_back, inv_ended}
 use Rattle.aes_soft.proofs.soft.ciphers.planes.DecryptPlaneCipher.process_planes.Given.{Over}
 use Rattle.aes_soft.proofs.soft.ciphers.planes.DecryptPlaneCipher.process_planes.Goals.{After-add_key}
 use Rattle.aes_soft.proofs.soft.ciphers.planes.DecryptPlaneCipher.process_planes.Goals.{then-period-eq4}
@@ -48,11 +48,10 @@ turns-init g c =
           let more = t.if-odd-rounds.true in
           let ends = turns.all (omega (arith, more)) in
           ap (λ v. held g.W.Word.BLOCKS (map g.W.Word.bits v)) t.planes-is
-          ∙ inv_round run 3 _ _ 1 m (rounds - 2)
+          ∙ two_rounds_back run _ _ _ 0 m (rounds - 1) (rounds - 2) (omega (arith, ends))
+          (turns.three (omega (arith, more)))
           (omega (arith, ends, turns.two (omega (arith, more))))
-          (inv_round run 0 _ _ 0 1 (rounds - 1)
-          (omega (arith, ends, turns.three (omega (arith, more))))
-          start t.inv_round.ensures.blocks) t.inv_round-then-odd-rounds.ensures.blocks
+          start t.inv_round.ensures.blocks t.inv_round-then-odd-rounds.ensures.blocks
       | else-odd-rounds t ↦
           let none : 0 ≡ m = omega (arith, t.if-odd-rounds.false) in
           ap (λ v. held g.W.Word.BLOCKS (map g.W.Word.bits v)) t.planes-is
@@ -93,25 +92,16 @@ turns-preserved g c =
       | then-period-eq4 t ↦
           let four = t.if-period-eq4.true in
           ap (λ v. held g.W.Word.BLOCKS (map g.W.Word.bits v)) t.planes-is
-          ∙ inv_round run 3 _ _ (m + 2) end (i - 2)
+          ∙ two_rounds_back run _ _ _ (m + 1) end (i - 1) (i - 2) (omega (arith, four, at))
+          (turn.own 3 (i - 1) (omega (arith, four)) (omega (arith, at, four)))
           (omega (
             arith,
             four,
             at,
             turn.room,
-            turn.own 2 (i - 2) (omega (arith, four))
-                (omega (arith, at, four)),
+            turn.own 2 (i - 2) (omega (arith, four)) (omega (arith, at, four)),
           ))
-          (inv_round run 0 _ _ (m + 1) (m + 2) (i - 1)
-          (omega (
-            arith,
-            four,
-            at,
-            turn.room,
-            turn.own 3 (i - 1) (omega (arith, four))
-                (omega (arith, at, four)),
-          ))
-          one t.inv_round-then-period-eq4.ensures.blocks)
+          one t.inv_round-then-period-eq4.ensures.blocks
           t.inv_round-then-period-eq4-2.ensures.blocks
       | else-period-eq4 t ↦
           let next : m + 1 ≡ end =
