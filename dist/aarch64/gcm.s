@@ -16350,5 +16350,5 @@ gcm.fotsgure_gcm_accept_short:              // @gcm.fotsgure_gcm_accept_short
 	.long	9, 116, 1
 	.asciz	"Fotsgure"
 	.p2align	2, 0x0
-	.asciz	"fotsgure_gcm 0.4.0, aarch64/gcm.s, sources SHA-256 2b79346c77bb0404dbcf8d7bfc3c037715623eca5ddd3ec8b81ec3dcd0649018"
+	.asciz	"fotsgure_gcm 0.4.0, aarch64/gcm.s, sources SHA-256 9f2455a0426b9364975c4bce7d673015d386171d5c78b39ee8792a8fe63c219c"
 	.p2align	2, 0x0

@@ -22558,5 +22558,5 @@ aes_narrow.fotsgure_aes_ccm_seal:                  # @aes_narrow.fotsgure_aes_cc
 	.long	9, 123, 1
 	.asciz	"Fotsgure"
 	.p2align	2, 0x0
-	.asciz	"fotsgure_aes 0.4.0, riscv64/aes_narrow.s, sources SHA-256 6a1cfde10f68c64d860ebcdaaa811215e142521dd923be252f5cd60ac9711c13"
+	.asciz	"fotsgure_aes 0.4.0, riscv64/aes_narrow.s, sources SHA-256 079d586913b3ffd211800c8c41dfbee77da8353341dd5db8bbe8f724d8b4e594"
 	.p2align	2, 0x0

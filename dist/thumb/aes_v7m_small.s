@@ -10546,5 +10546,5 @@ aes_v7m_small.fotsgure_aes_add_keystream_with:        @ @aes_v7m_small.fotsgure_
 	.long	9, 124, 1
 	.asciz	"Fotsgure"
 	.p2align	2, 0x0
-	.asciz	"fotsgure_aes 0.4.0, thumb/aes_v7m_small.s, sources SHA-256 6a1cfde10f68c64d860ebcdaaa811215e142521dd923be252f5cd60ac9711c13"
+	.asciz	"fotsgure_aes 0.4.0, thumb/aes_v7m_small.s, sources SHA-256 079d586913b3ffd211800c8c41dfbee77da8353341dd5db8bbe8f724d8b4e594"
 	.p2align	2, 0x0

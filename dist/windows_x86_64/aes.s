@@ -21144,4 +21144,4 @@ aes_v2.fotsgure_aes_ccm_seal:                  # @aes_v2.fotsgure_aes_ccm_seal
 
 
 	.section	.rdata,"dr"
-	.asciz	"fotsgure_aes 0.4.0, windows_x86_64/aes.s, sources SHA-256 6a1cfde10f68c64d860ebcdaaa811215e142521dd923be252f5cd60ac9711c13"
+	.asciz	"fotsgure_aes 0.4.0, windows_x86_64/aes.s, sources SHA-256 079d586913b3ffd211800c8c41dfbee77da8353341dd5db8bbe8f724d8b4e594"
