@@ -6,8 +6,7 @@ from bits import DATA, LOST, PUBLIC, Unproved
 from calls import Buffer, Call
 from cmac_ccm import CmacCcm
 from key_wrap import KeyWrap
-from keyed import (BATCH, DONE, KEY_LENGTH, KEYSTREAM_END, LEFT_BY_A_COPY, NEVER, NO_KEY, UNEQUAL_COUNTS, CounterWord, Keyed, between, nothing,
-                   unequal)
+from keyed import BATCH, DONE, KEY_LENGTH, KEYSTREAM_END, NEVER, NO_KEY, UNEQUAL_COUNTS, CounterWord, Keyed, between, nothing, unequal
 from linear import WORD, Linear, unknown
 from operands import Pointer, Verdict
 from regions import Window
@@ -75,8 +74,7 @@ class KeyedAes(SingleRounds, CmacCcm, KeyWrap, Keyed):
         return self.call_of_any_count("aes_add_keystream", [ctr], content, wants, count, count, content + sum(wants, []), way, choose,
                                       {before, WORD - end, wrap - 1, WORD + 1 - wrap},
                                       counter=CounterWord(name, before, wrap, end.divided(16)[0] + BATCH),
-                                      keystream=self.in_all_blocks(self.pattern(sum(streams, []))),
-                                      may_stay=LEFT_BY_A_COPY if way == "_to" else None)
+                                      keystream=self.in_all_blocks(self.pattern(sum(streams, []))))
 
     def any_cbc_decrypt(self, rest, step=64):
         content, previous, count = self.pattern(self.block_bytes), self.pattern(self.block_bytes, -1), unknown("n") * step + rest
@@ -191,7 +189,7 @@ class KeyedAes(SingleRounds, CmacCcm, KeyWrap, Keyed):
         ctr = Buffer("ctr", before + number(position, 8)[::-1], after + number(position + count, 8)[::-1], align=8)
         counter = CounterWord(name, position // 16, wrap, (position + count) // 16 + BATCH)
         return self.call_in_each_way("aes_add_keystream", way, [ctr], "bytes", data, want, count, counter=counter,
-                                     keystream=stream, plain=data + want, may_stay=LEFT_BY_A_COPY if way == "_to" else None)
+                                     keystream=stream, plain=data + want)
 
     # CBC (SP 800-38A, 6.2).
     def cbc_decrypt(self, count):

@@ -28,8 +28,6 @@ SCHEDULE = 240, 4
 CounterWord = namedtuple("CounterWord", "word first wrap last words", defaults=[None])
 NEVER, BATCH = 1 << 64, 16  # a batch may have more blocks than the text
 PTRDIFF_MAX = (1 << 63) - 1
-# What a copy between buffers may leave on the stack, of the text: a register, which it uses mostly if they overlap.
-LEFT_BY_A_COPY = {"plain": 8}
 
 
 class Keyed:

@@ -4,6 +4,7 @@ from operands import LAST, LEAD, Content, Verdict
 
 KINDS = "key", "inner", "difference", "plain", "step", "keystream", "result", "data"  # of what is left; see `tells`
 MAY_STAY = "step", "keystream", "result", "data"  # on the stack
+REGISTER_OF_A_COPY = 8  # bytes of the text that a copy for buffers that overlap leaves there
 IN_BUFFERS, MAY_NOT_COME = "the caller's buffers, perhaps for a while", ("key", "inner")
 
 
@@ -16,8 +17,13 @@ def nothing_secret(m, call):
     for (place, k), where in m.left.items():
         if place == "registers":
             raise Unproved("leaves %d bytes in registers (%s), in %s" % (len(where), k, ", ".join(sorted(set(where)))))
-        if place != IN_BUFFERS and k not in MAY_STAY and len(where) > call.may_stay.get(k, 0) or place == IN_BUFFERS and k in MAY_NOT_COME:
+        if place != IN_BUFFERS and k not in MAY_STAY and len(where) > may_stay(m, call, k) or place == IN_BUFFERS and k in MAY_NOT_COME:
             raise Unproved("leaves %d bytes in %s (%s), from %s to %s" % (len(where), place, k, where[0], where[-1]))
+
+
+def may_stay(m, call, kind):
+    """How many bytes of a kind that may not be left a call may leave on the stack."""
+    return max(call.may_stay.get(kind, 0), REGISTER_OF_A_COPY if kind == "plain" and m.says_buffers_overlap() else 0)
 
 
 def no_secret_in_buffers(m, call):

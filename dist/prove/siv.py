@@ -8,7 +8,7 @@ from bits import DATA, KEY
 from calls import Buffer, Call, Stream, compare
 from gcm import DONE, NO_KEY, REFUSED, TOO_LONG, UNEQUAL_LENGTHS
 from hashing import Hashing, KeyedHash, threes
-from keyed import LEFT_BY_A_COPY, NEVER, CounterWord, between, nothing, unequal, unread
+from keyed import NEVER, CounterWord, between, nothing, unequal, unread
 from linear import unknown
 from operands import Number
 from standards import ZEROS, dot, mulx_ghash, padded, product
@@ -122,7 +122,7 @@ class KeyedSiv(KeyedHash):
         arguments = [self.schedule(), Buffer("nonce", self.nonce), Buffer("additional", additional), additional_length,
                      *self.changed(way, "text", text, self.crypted_by_tag(text), text_length)]
         arguments.append(Buffer("tag", self.undefined(16), self.own_tag))
-        return Call("gcm_siv_seal" + way, arguments, DONE, steps=steps, plain=text, may_stay=LEFT_BY_A_COPY if way else None)
+        return Call("gcm_siv_seal" + way, arguments, DONE, steps=steps, plain=text)
 
     def open(self, additional_length, text_length, way=""):
         """Decrypts `text_length` bytes in place if the tag is right (RFC 8452, 5). The tag can be compared only once the text is decrypted,

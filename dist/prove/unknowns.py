@@ -236,6 +236,12 @@ class Unknowns:
         ends = max(x.offset, 0) - a.whole, max(-x.offset, 0) + y - b.whole - 1
         return all(refuted(self.facts | {y - 1, end}) for end in ends)
 
+    def says_buffers_overlap(self):
+        """Whether an answer of this run is that one buffer begins within another, of a size that is known. Such runs are proved, although
+        the header excludes them where one of the two is written to."""
+        below = [flag[:2] for flag, answer in self.answers.items() if answer and isinstance(flag[0], Distance) and flag[2] == "below"]
+        return any(x.offset == 0 and is_int(y) and y <= len(self.regions[x.other].content) for x, y in below)
+
     def any_byte(self):
         """A byte of which nothing is known; it may depend on the key."""
         self.lost.add(self.domain.opaque(LOST))
