@@ -1,5 +1,5 @@
-/* Which assembly is for the machine that a compiler compiles for: the folder, and what stands behind a library's name there. The makefile
- * and CMake let the compiler read this file, and take what is left of it. Nothing is left for another machine. */
+/* Which assembly is for the machine that a compiler compiles for: the folder, and the suffix of the library's file name there. The
+ * makefile and CMake let the compiler read this file, and use what is left of it. Nothing is left for another machine. */
 #if defined __BYTE_ORDER__ && __BYTE_ORDER__ == __ORDER_LITTLE_ENDIAN__
 #if defined __x86_64__ && !defined __ILP32__
 "x86_64"

@@ -1,5 +1,6 @@
 """What the measurements share: packages that must be there, verdicts and statuses (README.md)."""
 import argparse
+import functools
 import os
 import pathlib
 import platform
@@ -9,26 +10,23 @@ import subprocess
 import sys
 import time
 
+import crates
+from crates import CACHE, TOP
+
 RIGHT, WRONG, BLIND, STOPPED, PARTIAL = range(5)
-HERE = pathlib.Path(__file__).resolve().parent
-TOP = HERE.parent
 MEASUREMENTS = TOP / "docs" / "MEASUREMENTS.md"
-sys.path.append(str(TOP / "tools"))
-from crates import CACHE  # noqa: E402
 # Outside the repository: the gate refuses sources there that it does not read.
 ROOM = pathlib.Path(os.environ.get("FOTSGURE_EVIDENCE") or CACHE / "evidence")
-BACKENDS = ("llvm", "rattle")
-BITS = ("128", "192", "256")
 # Valgrind merges two branches to one place (guest-chase), and then reports at both what the first one tests.
 MEMCHECK = """valgrind --tool=memcheck --vex-guest-chase=no --error-limit=no --leak-check=no --expensive-definedness-checks=yes
     --num-callers=8"""
 
 
 class Found:
-    """What a run found: what is wrong, planted faults that it missed, parts that it left out, and what is to be said."""
+    """What a run found: what is wrong, planted faults that it missed, and parts that it left out."""
 
     def __init__(self):
-        self.wrong, self.blind, self.missing, self.summary = [], [], [], []
+        self.wrong, self.blind, self.missing = [], [], []
 
     def is_whole(self, options):
         """Whether a run left nothing out and found nothing, so that its results may be recorded."""
@@ -46,21 +44,13 @@ def stop(why):
 
 
 def need(command, package):
-    """A program that must be there."""
+    """Stops if a program isn't there."""
     if not shutil.which(command):
         stop(f"there is no {command}: apt-get install {package}" if package else f"there is no {command} on the PATH")
-    return command
 
 
-def run(words, what, **how):
-    """Runs a command that must succeed, and returns what it wrote."""
-    try:
-        done = subprocess.run([str(it) for it in words], capture_output=True, text=True, **how)
-    except FileNotFoundError as error:
-        stop(f"{what}: there is no {error.filename}")
-    if done.returncode:
-        stop(f"{what}\n{(done.stdout + done.stderr)[-3000:]}")
-    return done.stdout
+# Runs a command that has to succeed, and returns what it wrote to its standard output.
+run = functools.partial(crates.run, fail=stop, stderr=subprocess.PIPE)
 
 
 def exported(archive):
@@ -74,7 +64,7 @@ def git(*words):
 
 
 def conditions():
-    """Where and when a run was made, for whoever copies its numbers."""
+    """Where and when a run was made, to be copied with its numbers."""
     cpu = re.search(r"^model name\s*: (.*)", pathlib.Path("/proc/cpuinfo").read_text(), re.M)
     kit = run(["rt", "version"], "rt version").strip().split(", ")[0] if shutil.which("rt") else "no rt here"
     changes = " with changes" if git("status", "--porcelain", "crates", "crates.txt") else ""
@@ -90,18 +80,7 @@ def table(heads, *rows):
     return [lines[0], "|---" * len(heads) + "|", *lines[1:]]
 
 
-def rows_of(path):
-    """The rows of a list by tabs, except comments."""
-    return [it.split("\t") for it in path.read_text().splitlines() if it and not it.startswith("#")]
-
-
-def explained(items, reasons, speaks_of):
-    """The items of which no reason speaks, and the reasons that speak of none."""
-    missed = [it for it in items if not any(speaks_of(reason, it) for reason in reasons)]
-    return missed, [reason for reason in reasons if not any(speaks_of(reason, it) for it in items)]
-
-
-def compiled(source, name, archive, *flags):
+def compile_program(source, name, archive, *flags):
     """A program of one C file and an archive."""
     made = ROOM / f"{source.parent.name}-{source.stem}-{name}"
     run(["cc", "-std=gnu11", "-O2", "-Wall", "-Wextra", "-Wl,-z,now", *flags, "-o", made, source, archive], source.name)
@@ -117,30 +96,30 @@ def under_memcheck(program):
     if done.returncode or lines[-1:] != [["end"]]:
         # valgrind wants the symbols of the C library.
         stop(
-            f"the run ended with status {done.returncode}; {log} has why (if it asks for debug information: "
+            f"the run ended with status {done.returncode}; see {log} (if it asks for debug information: "
             f"apt-get install libc6-dbg)\n{done.stdout[-500:]}"
         )
     return lines[:-1], log.read_text(errors="replace")
 
 
-def asking(text, *parts, flags=()):
-    """What every command can be asked: to leave parts out; and words that some can be asked."""
+def parser(text, *parts, flags=()):
+    """A parser of the arguments of a command: the parts that it leaves out, and flags that some commands have."""
     ROOM.mkdir(parents=True, exist_ok=True)
-    ask = argparse.ArgumentParser(sys.argv[0], description=text, formatter_class=argparse.RawDescriptionHelpFormatter)
+    made = argparse.ArgumentParser(sys.argv[0], description=text, formatter_class=argparse.RawDescriptionHelpFormatter)
     # (Its own status for a wrong word has another meaning here.)
-    ask.error = lambda why: stop(f"{why}; --help says what it can be asked")
-    ask.set_defaults(without=[])
+    made.error = lambda why: stop(f"{why}; --help lists the arguments")
+    made.set_defaults(without=[])
     if parts:
-        ask.add_argument("--without", nargs="+", choices=parts)
-    for it in flags:
-        ask.add_argument(f"--{it}", action="store_true")
-    return ask
+        made.add_argument("--without", nargs="+", choices=parts)
+    for flag in flags:
+        made.add_argument(f"--{flag}", action="store_true")
+    return made
 
 
-def begin(ask, needed, *versions):
-    """Reads what a command is asked, stops if a program that it needs is missing (each with its package), and says the conditions, with
+def begin(parser, needed, *versions):
+    """Reads a command's arguments, stops if a program that it needs is missing (each with its package), and says the conditions, with
     the versions of some programs. Returns the options, and what is found, which is nothing yet."""
-    options = ask.parse_args()
+    options = parser.parse_args()
     for command, package in needed.items():
         need(command, package)
     say(", ".join([conditions(), *(run([it, "--version"], it).splitlines()[0] for it in versions)]))
@@ -149,20 +128,16 @@ def begin(ask, needed, *versions):
 
 def finish(found, options, text):
     """Says what was found and left out, and ends with the status that this makes."""
-    for it in found.wrong[:40]:
-        say(f"FOUND: {it}")
-    for it in (*found.missing, *(f"{it}, as asked" for it in options.without)):
-        say(f"left out: {it}")
+    for fault in found.wrong[:40]:
+        say(f"FOUND: {fault}")
+    left_out = [*found.missing, *(f"{it}, as asked" for it in options.without)]
+    for part in left_out:
+        say(f"left out: {part}")
     if found.blind:
-        end(BLIND, "; ".join(found.blind[:9]))
-    if found.wrong:
-        end(WRONG, f"{len(found.wrong)} findings")
-    end(PARTIAL if found.missing or options.without else RIGHT, text)
-
-
-def end(status, text):
-    """The last line, and the status."""
-    blind = "a planted fault was NOT found, so this shows nothing"
-    said = {RIGHT: "as it should be", WRONG: "NOT as it should be", BLIND: blind, PARTIAL: "as it should be, with parts left out"}
-    say(f"VERDICT: {said[status]}: {text}")
+        status, verdict = BLIND, f"a planted fault was NOT found, so this shows nothing: {'; '.join(found.blind[:9])}"
+    elif found.wrong:
+        status, verdict = WRONG, f"NOT as it should be: {len(found.wrong)} findings"
+    else:
+        status, verdict = (PARTIAL, f"as it should be, with parts left out: {text}") if left_out else (RIGHT, f"as it should be: {text}")
+    say(f"VERDICT: {verdict}")
     sys.exit(status)

@@ -1,15 +1,16 @@
-"""What scripts share that needs no toolchain: the crates of this repository as crates.txt lists them, sums of what they are made of, and
-how a script reads what it is called with."""
+"""What scripts share that needs no toolchain: the crates of this repository as crates.txt lists them, sums of their sources, how a script
+runs a command, and how it reads its arguments."""
 import hashlib
 import os
 import pathlib
 import re
+import subprocess
 import sys
 
 TOP = pathlib.Path(__file__).resolve().parent.parent
 # Where scripts keep what later runs use.
 CACHE = pathlib.Path(os.environ.get("XDG_CACHE_HOME") or "~/.cache").expanduser() / "fotsgure"
-# Each crate with its sentence and the words behind its name.
+# Each crate with its sentence and the words after its name.
 LINES = re.findall(r"^# (.*)\n(\w+)(?: staticlib)?:(.*)$", (TOP / "crates.txt").read_text(encoding="utf-8"), re.M)
 SENTENCES = {name: sentence for sentence, name, _ in LINES}
 # Each crate with those that it names. (One may be of the toolchain's own library, and isn't here.)
@@ -36,7 +37,19 @@ def sum_of_sources(crate):
     return sum_of(listed_sums(sorted(files)).encode())
 
 
-def asked(text, is_right):
+def run(words, what, fail=sys.exit, stderr=subprocess.STDOUT, **how):
+    """Runs a command that has to succeed, and returns what it wrote. If it doesn't, `fail` is given the reason."""
+    words, reads = [str(it) for it in words], {"stdin": subprocess.DEVNULL, "stdout": subprocess.PIPE, "stderr": stderr}
+    try:
+        done = subprocess.run(words, text=True, errors="replace", **reads, **how)
+    except FileNotFoundError as error:
+        fail(f"{what}: there is no {error.filename}")
+    if done.returncode:
+        fail(f"{what} failed:\n{(done.stdout + (done.stderr or ''))[-3000:]}")
+    return done.stdout
+
+
+def read_arguments(text, is_right):
     """The words that a script is called with. If they ask for help, it ends with its description; if they aren't right, with status 2 and
     the lines of that which say how it is called."""
     words = sys.argv[1:]

@@ -1,7 +1,7 @@
-"""All that the scripts take of the toolchain's own module, which nothing promises to keep: copies of the crates, and proofs and builds over
+"""All that the scripts use of the toolchain's own module, which may change with each kit: copies of the crates, and proofs and builds over
 the libraries that the gate proved on this machine.
 
-    tools/toolchain.py --lanes                how many checks run side by side
+    tools/toolchain.py --jobs                 how many checks run side by side
     tools/toolchain.py --serve FILE           lets later commands use the libraries that `rt ci` left here; FILE is older than its run
     tools/toolchain.py --prove TREE CRATE ..  proves crates of a tree for ./release
 """
@@ -14,7 +14,7 @@ import sys
 import tempfile
 import types
 
-from crates import TOP, asked
+from crates import TOP, read_arguments
 
 # The toolchain's command, which is in the folder bin of the kit, and its module, or None where there is none.
 COMMAND = os.path.realpath(shutil.which("rt") or "/no/rt")
@@ -49,9 +49,9 @@ def workspace(room, add=lambda tree: None):
     return rt.crates_of(copy, *([] if KEEPS else [room]))
 
 
-def given(crates, wanted):
-    """Gives those wanted of a copy's crates the libraries below them: all that the gate keeps, or all as `rt lib` makes them in this
-    repository. Returns what gives the sum of all that a crate's proof reads."""
+def give_libraries(crates, wanted):
+    """Gives the wanted crates of a copy the libraries below them: all that the gate keeps, or all as `rt lib` makes them in this
+    repository. Returns a function that gives the sum of all that a crate's proof reads."""
     gate = rt.Kept(crates) if KEEPS else None
     below = [it for it in crates if any(it in crate.below() for crate in wanted)]
     # (The key of a library is of those below it, as they are built.)
@@ -71,12 +71,12 @@ def given(crates, wanted):
     return gate.key if gate else rt.Crate.stamp
 
 
-def checked(crate, kept, texts=None, flags=()):
+def check_crate(crate, kept, texts=None, flags=()):
     """Checks a crate, with these texts in place of its own, over what a folder keeps of earlier checks."""
     return rt.checked(crate, texts or {}, ["--jobs", "1", *flags], kept)
 
 
-def begun(crate, kept):
+def copy_kept_work(crate, kept):
     """Makes a folder of what checks of a crate kept here, or in another copy of the repository."""
     found = rt.work_for(crate) if KEEPS else f"{TOP}/crates/{crate.name}/out/incremental"
     shutil.copytree(found, kept) if found and os.path.isdir(found) else kept.mkdir()
@@ -87,13 +87,13 @@ def build_words(crate, *flags):
     return [rt.rtlib.RATTLE, "build", *crate.words(["--jobs", "1", *flags], keeps=False)]
 
 
-def lanes():
+def jobs():
     """How many checks run side by side: as RT_JOBS says, or as processors and 3 GB of memory for each allow."""
     return int(os.environ.get("RT_JOBS") or 0) or max(1, min(rt.processors(), int(rt.free() / 3e9)))
 
 
 def stamp(crate):
-    """Says of which sources the library in out/rlib is, so that `rt` serves it to other commands."""
+    """Notes the sources of the library in out/rlib, so that `rt` serves it to other commands."""
     pathlib.Path(crate.folder, "out/rlib/stamp").write_text(crate.stamp(), encoding="utf-8")
 
 
@@ -130,9 +130,9 @@ def serve(since):
 
 
 def is_right(words):
-    return words == ["--lanes"] or words[:1] == ["--serve"] and len(words) == 2 or words[:1] == ["--prove"] and len(words) > 2
+    return words == ["--jobs"] or words[:1] == ["--serve"] and len(words) == 2 or words[:1] == ["--prove"] and len(words) > 2
 
 
 if __name__ == "__main__":
-    option, *more = asked(__doc__, is_right)
-    {"--lanes": lambda: print(lanes()), "--serve": serve, "--prove": prove}[option](*more)
+    option, *more = read_arguments(__doc__, is_right)
+    {"--jobs": lambda: print(jobs()), "--serve": serve, "--prove": prove}[option](*more)

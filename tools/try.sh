@@ -1,4 +1,4 @@
-# What all checks share: they try commands, and add up how these end. $work is a folder that goes at the end.
+# What all checks share: they try commands, and add up how these end. $work is a folder that is removed at the end.
 # shellcheck shell=bash disable=SC2034,SC2154 # others read and set some of these
 passed=0 failed=0
 work=$(mktemp -d) && chmod 755 "$work" || exit 2
@@ -25,7 +25,7 @@ try() { # WHAT COMMAND ..
         head -n -2 "$work/trace" | tail -n 4 | cut -c 1-300
     fi
 }
-# Whether programs or a header are there. What needs them is named if not, with the packages of Debian that have them.
+# Whether programs or a header are there. If not, what needs them is named, with the packages of Debian that have them.
 has() { # PROGRAMS WHAT [PACKAGES]
     local program
     for program in $1; do command -v "$program" > /dev/null || skipped "$2" "$program" "${3:-}" || return; done

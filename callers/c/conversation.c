@@ -27,7 +27,7 @@ struct about {
     uint8_t number[8];        /* counted by each sender from 0 on, highest byte first */
 };
 
-/* A message as it is sent: of the text only its length. */
+/* A message as it is sent. Of `text` only as many bytes are sent as `length` says. */
 struct frame {
     uint8_t length[4], nonce[FOTSGURE_GCM_SIV_NONCE], tag[FOTSGURE_GCM_TAG], text[MOST];
 };
@@ -53,44 +53,44 @@ static void put_number(uint8_t *bytes, int count, uint64_t number)
         bytes[i] = (uint8_t)number;
 }
 
-static struct about about_next(struct side *it, uint8_t sender)
+static struct about about_next(struct side *side, uint8_t sender)
 {
     struct about about;
-    memcpy(about.hellos, it->hellos, sizeof about.hellos);
+    memcpy(about.hellos, side->hellos, sizeof about.hellos);
     about.sender = sender;
-    put_number(about.number, sizeof about.number, it->numbers[sender]++);
+    put_number(about.number, sizeof about.number, side->numbers[sender]++);
     return about;
 }
 
 /* The calls below return 1, or 0 once they have said what failed. */
 
-static int say(struct side *it, const char *text)
+static int say(struct side *side, const char *text)
 {
     struct frame frame;
-    struct about about = about_next(it, it->role);
+    struct about about = about_next(side, side->role);
     size_t length = strlen(text);
     if (length > MOST)
         return fails("a text", "it is too long");
     put_number(frame.length, sizeof frame.length, length);
     memcpy(frame.text, text, length);
-    enum fotsgure_gcm_status status = fotsgure_gcm_siv_seal_random(&it->siv, frame.nonce, (const uint8_t *)&about, sizeof about,
+    enum fotsgure_gcm_status status = fotsgure_gcm_siv_seal_random(&side->siv, frame.nonce, (const uint8_t *)&about, sizeof about,
         frame.text, length, frame.tag);
     if (status != FOTSGURE_GCM_DONE)
         return fails("a text", fotsgure_gcm_status_text(status));
-    return (fwrite(&frame, offsetof(struct frame, text) + length, 1, it->out) == 1 && fflush(it->out) == 0) ||
+    return (fwrite(&frame, offsetof(struct frame, text) + length, 1, side->out) == 1 && fflush(side->out) == 0) ||
         fails("the other side", NULL);
 }
 
-static int hear(struct side *it, char text[MOST + 1])
+static int hear(struct side *side, char text[MOST + 1])
 {
     struct frame frame;
-    struct about about = about_next(it, !it->role);
-    if (fread(&frame, offsetof(struct frame, text), 1, it->in) != 1)
+    struct about about = about_next(side, !side->role);
+    if (fread(&frame, offsetof(struct frame, text), 1, side->in) != 1)
         return fails("the other side", "its stream was cut");
     size_t length = (size_t)frame.length[0] << 24 | (size_t)frame.length[1] << 16 | (size_t)frame.length[2] << 8 | frame.length[3];
-    if (length > MOST || fread(frame.text, 1, length, it->in) != length)
+    if (length > MOST || fread(frame.text, 1, length, side->in) != length)
         return fails("the other side", "its message is too long, or was cut");
-    enum fotsgure_gcm_status status = fotsgure_gcm_siv_open(&it->siv, frame.nonce, (const uint8_t *)&about, sizeof about,
+    enum fotsgure_gcm_status status = fotsgure_gcm_siv_open(&side->siv, frame.nonce, (const uint8_t *)&about, sizeof about,
         frame.text, length, frame.tag);
     if (status != FOTSGURE_GCM_DONE)
         return fails("a message", fotsgure_gcm_status_text(status));
@@ -99,41 +99,41 @@ static int hear(struct side *it, char text[MOST + 1])
     return 1;
 }
 
-static int greet(struct side *it)
+static int greet(struct side *side)
 {
-    uint8_t *mine = it->hellos[it->role], *other = it->hellos[!it->role];
-    if (getentropy(mine, HELLO) != 0 || fwrite(mine, HELLO, 1, it->out) != 1 || fflush(it->out) != 0)
+    uint8_t *mine = side->hellos[side->role], *other = side->hellos[!side->role];
+    if (getentropy(mine, HELLO) != 0 || fwrite(mine, HELLO, 1, side->out) != 1 || fflush(side->out) != 0)
         return fails("the greeting", NULL);
-    return fread(other, HELLO, 1, it->in) == 1 || fails("the other side", "its stream was cut");
+    return fread(other, HELLO, 1, side->in) == 1 || fails("the other side", "its stream was cut");
 }
 
-static int ask(struct side *it, char **texts)
+static int ask(struct side *side, char **texts)
 {
     char answer[MOST + 1];
     for (; *texts; texts++)
-        if (!say(it, *texts) || !hear(it, answer) || puts(answer) < 0)
+        if (!say(side, *texts) || !hear(side, answer) || puts(answer) < 0)
             return 0;
-    return say(it, "") && hear(it, answer) && (!*answer || fails("the other side", "it sent more after the end"));
+    return say(side, "") && hear(side, answer) && (!*answer || fails("the other side", "it sent more after the end"));
 }
 
-static int answer(struct side *it)
+static int answer(struct side *side)
 {
     char text[MOST + 1];
     do
-        if (!hear(it, text) || !say(it, text))
+        if (!hear(side, text) || !say(side, text))
             return 0;
     while (*text);
     return 1;
 }
 
-static int set_key(struct side *it, const char *path)
+static int set_key(struct side *side, const char *path)
 {
     uint8_t key[32], more;
     FILE *file = fopen(path, "rb");
     if (!file || setvbuf(file, NULL, _IONBF, 0) != 0)
         return fails(path, NULL);
     int is_key = fread(key, sizeof key, 1, file) == 1 && fread(&more, 1, 1, file) == 0 &&
-        fotsgure_gcm_siv_set_key(&it->siv, key, sizeof key) == FOTSGURE_GCM_DONE;
+        fotsgure_gcm_siv_set_key(&side->siv, key, sizeof key) == FOTSGURE_GCM_DONE;
     fclose(file);
     fotsgure_gcm_wipe_bytes(key, sizeof key);
     return is_key || fails(path, "a key has 32 bytes");
@@ -148,18 +148,18 @@ static int open_pipe(FILE **pipe, const char *path, const char *mode)
 
 int main(int count, char **words)
 {
-    struct side it = {0};
+    struct side side = {0};
     int asks = count >= 6 && strcmp(words[1], "ask") == 0;
     if (!asks && (count != 5 || strcmp(words[1], "answer") != 0)) {
         fprintf(stderr, "usage: conversation ask KEY THERE BACK TEXT .., or conversation answer KEY THERE BACK\n");
         return 2;
     }
-    it.role = !asks;
+    side.role = !asks;
     signal(SIGPIPE, SIG_IGN); /* a write to a side that has gone then fails in words */
-    int done = set_key(&it, words[2]) && open_pipe(asks ? &it.out : &it.in, words[3], asks ? "wb" : "rb") &&
-        open_pipe(asks ? &it.in : &it.out, words[4], asks ? "rb" : "wb") && greet(&it) &&
-        (asks ? ask(&it, words + 5) : answer(&it));
-    fotsgure_gcm_siv_wipe(&it.siv);
+    int done = set_key(&side, words[2]) && open_pipe(asks ? &side.out : &side.in, words[3], asks ? "wb" : "rb") &&
+        open_pipe(asks ? &side.in : &side.out, words[4], asks ? "rb" : "wb") && greet(&side) &&
+        (asks ? ask(&side, words + 5) : answer(&side));
+    fotsgure_gcm_siv_wipe(&side.siv);
     int written = (fflush(stdout) == 0 && !ferror(stdout)) || fails("the output", NULL);
     return !(done && written);
 }

@@ -13,11 +13,11 @@
  *  - A forked child: the same. Each call opens the folder and reads the file again, and no counter stays in memory,
  *    where a fork would copy it.
  *  - A new key: `new-key` moves the file, so that the counter stays with its key, and replaces no other file. Old messages
- *    are opened with the old file, by a call that can't seal. Moved without the lock, the file may come back by a call
- *    that runs, and its copy has an older counter.
- *  - A copy of the file that comes back, from a backup or a snapshot: its counter is an old one, the nonces come
- *    again, and nothing here can see it. TAKE A NEW KEY before the next message, and never go back to that one. So too
- *    if the file is damaged, which is refused here.
+ *    are opened with the old file, by a call that can't seal. Never move the file without the lock: a call that runs may
+ *    write it again, and the moved copy then has an older counter.
+ *  - A copy of the file that comes back, from a backup or a snapshot: its counter is an old one. The nonces come again,
+ *    and nothing here can see it. CALL new-key before the next message, and never go back to that key. Do the same if
+ *    the file is damaged, which is refused here.
  *  - The folder needs a local file system, which has flock(2) for folders. */
 #define _GNU_SOURCE
 #include <fotsgure_gcm.h>
@@ -38,7 +38,7 @@ struct kept {
     struct fotsgure_gcm_counter counter;
 };
 
-/* A message with what is sent unencrypted beside it: all of this is sent. */
+/* A message as it is sent. The name and the nonce aren't encrypted. */
 struct sealed {
     uint8_t name[16], nonce[FOTSGURE_GCM_NONCE], text[32], tag[FOTSGURE_GCM_TAG];
 };
@@ -74,14 +74,14 @@ static int draw(struct kept *kept)
     return getrandom(kept->key, sizeof kept->key, 0) == sizeof kept->key || fails("no key was drawn", NULL);
 }
 
-/* Writes another file, which is flushed and then takes the name, and flushes the folder: after a crash one of the two
- * is there, whole. A file that a crash left is not written again: others might be allowed to read it. */
+/* Writes another file, flushes it, gives it the name, and flushes the folder. After a crash the old file or the new one is
+ * there, whole. A file that a crash left is not written again: others might be allowed to read it. */
 static int store(int folder, const char *name, const struct kept *kept)
 {
     int is_free = unlinkat(folder, "new", 0) == 0 || errno == ENOENT;
     int file = is_free ? openat(folder, "new", O_WRONLY | O_CREAT | O_EXCL | O_CLOEXEC, 0600) : -1;
     if (file >= 0)
-        errno = ENOSPC; /* the reason if it takes fewer bytes than it was given */
+        errno = ENOSPC; /* the reason if fewer bytes are written */
     int stored = file >= 0 && write(file, kept, sizeof *kept) == (ssize_t)sizeof *kept && fsync(file) == 0;
     if (file >= 0 && close(file) != 0)
         stored = 0;
@@ -89,12 +89,12 @@ static int store(int folder, const char *name, const struct kept *kept)
         fails("the counter was not stored, so nothing is sent, and the key is as good as before", NULL);
 }
 
-static int seal_next(struct kept *kept, struct sealed *it)
+static int seal_next(struct kept *kept, struct sealed *message)
 {
     struct fotsgure_gcm gcm = {0};
     int sealed = fotsgure_gcm_set_key(&gcm, kept->key, sizeof kept->key) == FOTSGURE_GCM_DONE &&
-        fotsgure_gcm_seal_next(&gcm, &kept->counter, it->nonce, it->name, sizeof it->name, it->text, sizeof it->text,
-            it->tag) == FOTSGURE_GCM_DONE;
+        fotsgure_gcm_seal_next(&gcm, &kept->counter, message->nonce, message->name, sizeof message->name, message->text,
+            sizeof message->text, message->tag) == FOTSGURE_GCM_DONE;
     fotsgure_gcm_wipe(&gcm);
     return sealed || fails("key", "no nonce is left. Call new-key: the next message draws another key");
 }
@@ -123,13 +123,13 @@ static int is_there(int folder, const char *name)
 }
 
 /* Encrypts the text in place. Send it if this returns 1, and if not, send nothing of it. */
-static int seal(const char *path, struct sealed *it)
+static int seal(const char *path, struct sealed *message)
 {
     struct kept kept;
     int folder = locked(path);
     if (folder < 0)
         return 0;
-    int sealed = (is_there(folder, "key") ? load(folder, "key", &kept) : draw(&kept)) && seal_next(&kept, it) &&
+    int sealed = (is_there(folder, "key") ? load(folder, "key", &kept) : draw(&kept)) && seal_next(&kept, message) &&
         store(folder, "key", &kept);
     explicit_bzero(&kept, sizeof kept);
     close(folder); /* and so unlocks it */
@@ -182,14 +182,14 @@ static int old_key(const char *path, const char *name)
 
 /* Decrypts the text in place, if nothing was changed, with the key of the file that is named: the present one or an
  * older. */
-static int open_with(const char *file, struct sealed *it)
+static int open_with(const char *file, struct sealed *message)
 {
     struct kept kept;
     struct fotsgure_gcm gcm = {0};
     int loaded = load(AT_FDCWD, file, &kept);
     int opened = loaded && fotsgure_gcm_set_key(&gcm, kept.key, sizeof kept.key) == FOTSGURE_GCM_DONE &&
-        fotsgure_gcm_open(&gcm, it->nonce, sizeof it->nonce, it->name, sizeof it->name, it->text, sizeof it->text,
-            it->tag, sizeof it->tag) == FOTSGURE_GCM_DONE;
+        fotsgure_gcm_open(&gcm, message->nonce, sizeof message->nonce, message->name, sizeof message->name, message->text,
+            sizeof message->text, message->tag, sizeof message->tag) == FOTSGURE_GCM_DONE;
     fotsgure_gcm_wipe(&gcm);
     explicit_bzero(&kept, sizeof kept);
     return opened || (loaded && fails("the message", "it was changed, or sealed under another key"));
@@ -198,13 +198,13 @@ static int open_with(const char *file, struct sealed *it)
 /* Returns 1, or 0 if something failed, or -1 if there is no such call. */
 static int run(int count, char **words)
 {
-    struct sealed it = {"its name", {0}, "a message", {0}};
+    struct sealed message = {"its name", {0}, "a message", {0}};
     const char *word = count >= 3 ? words[1] : "";
     if (count == 3 && strcmp(word, "seal") == 0)
-        return seal(words[2], &it) && fwrite(&it, sizeof it, 1, stdout) == 1;
+        return seal(words[2], &message) && fwrite(&message, sizeof message, 1, stdout) == 1;
     if (count == 3 && strcmp(word, "open") == 0)
-        return (fread(&it, sizeof it, 1, stdin) == 1 || fails("the message", "it is too short")) &&
-            open_with(words[2], &it) && printf("%.32s\n", (char *)it.text) > 0;
+        return (fread(&message, sizeof message, 1, stdin) == 1 || fails("the message", "it is too short")) &&
+            open_with(words[2], &message) && printf("%.32s\n", (char *)message.text) > 0;
     if (count == 3 && strcmp(word, "new-key") == 0)
         return new_key(words[2]);
     if (count == 4 && strcmp(word, "old-key") == 0)

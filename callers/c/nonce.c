@@ -4,9 +4,9 @@
 #include <stdio.h>
 #include <string.h>
 
-/* Encrypts or decrypts a message in place. Never use a nonce for two messages under one key. A message of 64 GiB
- * less 16 bytes, or more, is refused: a longer one would use counter blocks of other nonces, and so short a test takes
- * the limit with it. */
+/* Encrypts or decrypts a message in place. Never use a nonce for two messages under one key. A message of 64 GiB less 16
+ * bytes, or more, is refused: a longer one would use counter blocks of other nonces. (The test is simple, so it also
+ * refuses a message of just that length.) */
 static enum fotsgure_aes_status add_message_keystream(const struct fotsgure_aes *aes, const uint8_t nonce[12],
     uint8_t *bytes, size_t count)
 {

@@ -1,5 +1,5 @@
 /* A file in pieces: encrypted as it is read, into one file of nonce, text and tag, and decrypted only once its tag was found
- * right. Ends with status 0 if the file comes back, and if nothing comes of it once a bit was changed or a byte is gone. */
+ * right. Ends with status 0 if each file comes back whole, and nothing comes back of a file in which a bit was changed. */
 #include "fotsgure_gcm.h"
 
 #include <stdio.h>
@@ -11,14 +11,14 @@ static int seal_file(const struct fotsgure_gcm *gcm, struct fotsgure_gcm_counter
 {
     struct fotsgure_gcm_message message;
     uint8_t nonce[12], piece[4096], tag[16];
-    size_t n;
+    size_t count;
     enum fotsgure_gcm_status status = fotsgure_gcm_begin_next(gcm, &message, counter, nonce);
     if (!status)
         fwrite(nonce, 1, sizeof nonce, out);
-    while (!status && (n = fread(piece, 1, sizeof piece, in)) > 0) {
-        status = fotsgure_gcm_encrypt(gcm, &message, piece, n);
+    while (!status && (count = fread(piece, 1, sizeof piece, in)) > 0) {
+        status = fotsgure_gcm_encrypt(gcm, &message, piece, count);
         if (!status)
-            fwrite(piece, 1, n, out);
+            fwrite(piece, 1, count, out);
     }
     if (!status)
         status = fotsgure_gcm_finish(gcm, &message, tag);
@@ -50,39 +50,39 @@ static int open_file(const struct fotsgure_gcm *gcm, FILE *in, FILE *out)
 {
     struct fotsgure_gcm_message message;
     uint8_t nonce[12], piece[4096], tag[16];
-    size_t n;
+    size_t count;
     long left, length = ends_of(in, nonce, tag);
     if (length < 0)
         return 1;
     enum fotsgure_gcm_status status = fotsgure_gcm_begin(gcm, &message, nonce, 12);
-    for (left = length; !status && (n = next_piece(in, piece, left)) > 0; left -= (long)n)
-        status = fotsgure_gcm_verify(gcm, &message, piece, n);
+    for (left = length; !status && (count = next_piece(in, piece, left)) > 0; left -= (long)count)
+        status = fotsgure_gcm_verify(gcm, &message, piece, count);
     if (!status)
         status = fotsgure_gcm_accept(gcm, &message, tag, 16);
     int failed = left || fseek(in, 12, SEEK_SET);
-    for (left = length; !failed && !status && (n = next_piece(in, piece, left)) > 0; left -= (long)n) {
-        status = fotsgure_gcm_decrypt(gcm, &message, piece, n);
+    for (left = length; !failed && !status && (count = next_piece(in, piece, left)) > 0; left -= (long)count) {
+        status = fotsgure_gcm_decrypt(gcm, &message, piece, count);
         if (!status)
-            fwrite(piece, 1, n, out);
+            fwrite(piece, 1, count, out);
     }
     fotsgure_gcm_wipe_message(&message);
     return failed || status || left || ferror(in) || fflush(out) || ferror(out);
 }
 
 /* Whether two files have the same bytes. */
-static int same(FILE *a, FILE *b)
+static int same(FILE *one, FILE *other)
 {
-    int x, y;
-    rewind(a);
-    rewind(b);
+    int byte, other_byte;
+    rewind(one);
+    rewind(other);
     do {
-        x = getc(a);
-        y = getc(b);
-    } while (x == y && x != EOF);
-    return x == y;
+        byte = getc(one);
+        other_byte = getc(other);
+    } while (byte == other_byte && byte != EOF);
+    return byte == other_byte;
 }
 
-/* Whether a sealed file of so many bytes comes back whole, or nothing of it. */
+/* Whether a sealed file comes back whole. */
 static int opens(const struct fotsgure_gcm *gcm, FILE *sealed, FILE *plain)
 {
     FILE *opened = tmpfile();
@@ -92,6 +92,8 @@ static int opens(const struct fotsgure_gcm *gcm, FILE *sealed, FILE *plain)
     fclose(opened);
     return right;
 }
+
+/* Whether a sealed file is refused, and nothing of it comes back. */
 static int is_refused(const struct fotsgure_gcm *gcm, FILE *sealed)
 {
     FILE *opened = tmpfile();
@@ -120,16 +122,17 @@ int main(void)
     static const long lengths[] = {0, 1, 4096, 100000};
     struct fotsgure_gcm gcm;
     int right = fotsgure_gcm_set_key(&gcm, key, sizeof key) == FOTSGURE_GCM_DONE;
-    for (size_t k = 0; k < sizeof lengths / sizeof *lengths; k++) {
+    for (size_t i = 0; i < sizeof lengths / sizeof *lengths; i++) {
+        long length = lengths[i];
         FILE *plain = tmpfile(), *sealed = tmpfile();
         if (!plain || !sealed)
             return 2;
-        for (long i = 0; i < lengths[k]; i++)
-            putc((int)(i % 251), plain);
+        for (long at = 0; at < length; at++)
+            putc((int)(at % 251), plain);
         rewind(plain);
-        right = right && !seal_file(&gcm, &counter, plain, sealed) && ftell(sealed) == 12 + lengths[k] + 16 &&
+        right = right && !seal_file(&gcm, &counter, plain, sealed) && ftell(sealed) == 12 + length + 16 &&
             opens(&gcm, sealed, plain);
-        for (long at = 0; at < 12 + lengths[k] + 16; at += 1 + lengths[k] / 3) {
+        for (long at = 0; at < 12 + length + 16; at += 1 + length / 3) {
             change(sealed, at);
             right = right && is_refused(&gcm, sealed);
             change(sealed, at);

@@ -16,7 +16,7 @@ export class Aes {
   wipe(): void;
 }
 
-/** AES-GCM (SP 800-38D): a tag of 16 bytes is behind the text. Never seal two messages under one nonce. */
+/** AES-GCM (SP 800-38D): the text is followed by a tag of 16 bytes. Never seal two messages under one nonce. */
 export class AesGcm {
   constructor(key: Uint8Array);
   seal(nonce: Uint8Array, text: Uint8Array, additional?: Uint8Array): Uint8Array;

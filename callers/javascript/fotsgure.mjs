@@ -1,15 +1,15 @@
-// AES, AES-GCM and AES-GCM-SIV, proved, in WebAssembly. What holds keys or text in a module's memory is wiped before a call returns, but
-// for kept keys: those are wiped by `wipe`. Copies in JavaScript's own memory are the caller's.
+// AES, AES-GCM and AES-GCM-SIV, proved, in WebAssembly. Before a call returns, it wipes the keys and texts that it has put into a module's
+// memory. Only a kept key stays there, until `wipe`. Copies in JavaScript's own memory are the caller's.
 
-const DONE = 0, KEY_LENGTH = 1, REFUSED = 6;
+const DONE = 0, KEY_LENGTH = 1, NONCE_LENGTH = 3, TOO_LONG = 5, REFUSED = 6;
 const WHY = {
-  1: "a key has 16, 24 or 32 bytes, of AES-GCM-SIV 16 or 32",
-  3: "the nonce is empty",
-  5: "the message is too long",
-  6: "the message was changed, or sealed under another key or nonce",
+  [KEY_LENGTH]: "a key has 16, 24 or 32 bytes, of AES-GCM-SIV 16 or 32",
+  [NONCE_LENGTH]: "the nonce is empty",
+  [TOO_LONG]: "the message is too long",
+  [REFUSED]: "the message was changed, or sealed under another key or nonce",
 };
 const BLOCK = 16, TAG = 16, NONCE = 12, LONGEST_KEY = 32, PAGE = 65536, NOTHING = new Uint8Array();
-// How many bytes the structs have for which a key is kept: as in the headers for C.
+// How many bytes the struct of a key has: as in the headers for C.
 const KEPT = { aes: 484, gcm: 1780, siv: 484 };
 const libraries = {};
 
@@ -34,7 +34,7 @@ class Library {
     this.look();
   }
 
-  // A view is of one size of the memory.
+  // When the memory grows, the old view of it ends.
   look() {
     this.bytes = new Uint8Array(this.calls.memory.buffer);
   }
@@ -147,7 +147,7 @@ export class Aes extends Key {
   }
 }
 
-/** What GCM and GCM-SIV share. The room of a call has the text first with the tag behind it, then the nonce, then the additional data. */
+/** What GCM and GCM-SIV share. The room of a call has the text, then the tag, the nonce and the additional data. */
 class Sealing extends Key {
   seal(nonce, text, additional = NOTHING) {
     checked(text, "the text");
@@ -179,7 +179,7 @@ class Sealing extends Key {
   }
 }
 
-/** AES-GCM (SP 800-38D), with tags of 16 bytes behind the text. Never seal two messages under one nonce. */
+/** AES-GCM (SP 800-38D). The text is followed by a tag of 16 bytes. Never seal two messages under one nonce. */
 export class AesGcm extends Sealing {
   constructor(key) {
     super("gcm", "fotsgure_gcm", key);

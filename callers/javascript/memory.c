@@ -1,4 +1,4 @@
-/* What the library takes of C's, by the instructions of WebAssembly. */
+/* The functions of C's library that the assembly calls, by the instructions of WebAssembly. */
 #include <stddef.h>
 
 void *memcpy(void *restrict to, const void *restrict from, size_t count)

@@ -1,4 +1,4 @@
-// The same for node: the modules are read from beside this file.
+// The same for node: the modules are read from the folder of this file.
 import { readFileSync } from "node:fs";
 import { load } from "./fotsgure.mjs";
 

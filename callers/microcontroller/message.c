@@ -12,8 +12,8 @@ static void put(const char *what, const uint8_t *bytes, size_t count)
     printf("\n");
 }
 
-/* On a board, `key` is read from where it was put when the board was made, `next` from the flash that holds the number of the last
- * message's nonce, and `next` is stored again before the message is sent. */
+/* On a board, `key` is read from where it was put when the board was made. `next` is read from flash, and stored there again before the
+ * message is sent. */
 static int sealed(const uint8_t key[16], struct fotsgure_gcm_counter *next, uint8_t *text, size_t length)
 {
     struct fotsgure_gcm gcm;

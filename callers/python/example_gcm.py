@@ -49,8 +49,8 @@ def load(file: pathlib.Path) -> Tuple[bytes, bytes]:
 
 
 def store(path: pathlib.Path, folder: int, data: bytes) -> None:
-    """Writes another file, which is flushed and then takes the name, and flushes the folder: after a crash one of the
-    two is there, whole. A file that a crash left is not written again: others might be allowed to read it. If it
+    """Writes another file, flushes it, gives it the name, and flushes the folder. After a crash the old file or the new
+    one is there, whole. A file that a crash left is not written again: others might be allowed to read it. If this
     raises, nothing is sent, and the key is as good as before."""
     with contextlib.suppress(FileNotFoundError):
         (path / "new").unlink()

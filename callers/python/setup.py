@@ -18,7 +18,7 @@ except ImportError:
 DIST = pathlib.Path(__file__).resolve().parents[2] / "dist"
 CC = os.environ.get("CC", "cc")
 HAS_LIBRARIES = (DIST / "Makefile").exists() and all(shutil.which(tool) for tool in ("make", CC.split()[0]))
-# All that is built goes elsewhere, so that the folder stays as it is, and nothing old is taken.
+# All that is built goes elsewhere. So the folder stays unchanged, and nothing old is used.
 ROOM = tempfile.mkdtemp()
 atexit.register(shutil.rmtree, ROOM, ignore_errors=True)
 
@@ -27,7 +27,7 @@ class BuildWithLibraries(build_py):
     def run(self) -> None:
         super().run()
         if HAS_LIBRARIES and not getattr(self, "editable_mode", False):
-            # Without a build of its own for AVX2 each library holds both, and chooses by itself.
+            # One library for all processors: it holds all builds, and chooses one by itself. `hwcaps=` leaves out the other one.
             out = pathlib.Path(ROOM, "out")
             subprocess.run(["make", "-C", DIST, f"OUT={out}", f"CC={CC}", "hwcaps=", "PROGRAM=", "shared"], check=True)
             for library in out.glob("lib*.so.*"):

@@ -1,7 +1,9 @@
-/* The library from C: FIPS 197, appendix C, in both directions; slices of 0 to 40 blocks against single calls;
- * SP 800-38A, F.5 and F.2, cut at every place; key wrap by RFC 3394; CMAC by SP 800-38B, D.1 to D.3, CCM by SP 800-38C, C.1 to
- * C.3; single rounds; every status; NULL with a count of 0; the wipe; with WITH_OPENSSL 1 MiB against OpenSSL. The last line is
- * `N passed, M failed`. */
+/* The library from C. The last line is `N passed, M failed`. It tries:
+ * - FIPS 197, appendix C, in both directions; slices of 0 to 40 blocks against single calls; single rounds;
+ * - SP 800-38A, F.5 and F.2, cut at every place;
+ * - key wrap by RFC 3394 and RFC 5649; CMAC by SP 800-38B, D.1 to D.3; CCM by SP 800-38C, C.1 to C.3;
+ * - what is in aes_statuses.h;
+ * - with WITH_OPENSSL 1 MiB against OpenSSL. */
 #include "fotsgure_aes.h"
 
 #ifdef WITH_OPENSSL
@@ -10,6 +12,8 @@
 #include <stdio.h>
 #include <stdlib.h>
 #include <string.h>
+
+#include "aes_vectors.h"
 
 /* How many bytes of a struct fotsgure_aes a build keeps. */
 #ifdef __riscv_v
@@ -36,81 +40,6 @@ static void from_hex(uint8_t *bytes, const char *digits)
     for (; sscanf(digits, "%2x", &byte) == 1; digits += 2)
         *bytes++ = (uint8_t)byte;
 }
-
-/* FIPS 197, appendix C: the key counts from 00 on. */
-static const char *const c_plain = "00112233445566778899aabbccddeeff";
-static const struct { size_t size; const char *cipher; } c_rows[] = {
-    {16, "69c4e0d86a7b0430d8cdb78070b4c55a"},
-    {24, "dda97ca4864cdfe06eaf70a0ec0d7191"},
-    {32, "8ea2b7ca516745bfeafc49904b496089"},
-};
-
-/* SP 800-38A, F.5.1, F.5.3 and F.5.5. */
-static const char *const f_iv = "f0f1f2f3f4f5f6f7f8f9fafbfcfdfeff";
-static const char *const f_plain = "6bc1bee22e409f96e93d7e117393172aae2d8a571e03ac9c9eb76fac45af8e51"
-                                   "30c81c46a35ce411e5fbc1191a0a52eff69f2445df4f9b17ad2b417be66c3710";
-static const struct { size_t size; const char *key, *cipher; } f_rows[] = {
-    {16, "2b7e151628aed2a6abf7158809cf4f3c",
-     "874d6191b620e3261bef6864990db6ce9806f66b7970fdff8617187bb9fffdff"
-     "5ae4df3edbd5d35e5b4f09020db03eab1e031dda2fbe03d1792170a0f3009cee"},
-    {24, "8e73b0f7da0e6452c810f32b809079e562f8ead2522c6b7b",
-     "1abc932417521ca24f2b0459fe7e6e0b090339ec0aa6faefd5ccc2c6f4ce8e94"
-     "1e36b26bd1ebc670d1bd1d665620abf74f78a7f6d29809585a97daec58c6b050"},
-    {32, "603deb1015ca71be2b73aef0857d77811f352c073b6108d72d9810a30914dff4",
-     "601ec313775789a5b7a7f504bbf3d228f443e3ca4d62b59aca84e990cacaf5c5"
-     "2b0930daa23de94ce87017ba2d84988ddfc9c58db67aada613c2dd08457941a6"},
-};
-
-/* SP 800-38A, F.2.1, F.2.3 and F.2.5: keys and text of F.5, in CBC under the initialization vector 00 01 .. 0f. */
-static const char *const cbc_rows[] = {
-    "7649abac8119b246cee98e9b12e9197d5086cb9b507219ee95db113a917678b2"
-    "73bed6b8e3c1743b7116e69e222295163ff1caa1681fac09120eca307586e1a7",
-    "4f021db243bc633d7178183a9fa071e8b4d9ada9ad7dedf4e5e738763f69145a"
-    "571b242012fb7ae07fa9baac3df102e008b0e27988598881d920a9e64f5615cd",
-    "f58c4c04d6e5f1ba779eabfb5f7bfbd69cfc4e967edb808d679f777bc6702c7d"
-    "39f23369a9d9bacfa530e26304231461b2eb05e2c39be9fcda6c19078c6a9d1b",
-};
-
-/* RFC 3394, 4.1 to 4.6: the keys count from 00 on, and wrap the first bytes of the same data. */
-static const char *const wrap_data = "00112233445566778899aabbccddeeff000102030405060708090a0b0c0d0e0f";
-static const struct { size_t size, bytes; const char *wrapped; } wrap_rows[] = {
-    {16, 16, "1fa68b0a8112b447aef34bd8fb5a7b829d3e862371d2cfe5"},
-    {24, 16, "96778b25ae6ca435f92b5b97c050aed2468ab8a17ad84e5d"},
-    {32, 16, "64e8c3f9ce0f5ba263e9777905818a2a93c8191e7d6e8ae7"},
-    {24, 24, "031d33264e15d33268f24ec260743edce1c6c7ddee725a936ba814915c6762d2"},
-    {32, 24, "a8f9bc1612c68b3ff6e6f4fbe30e71e4769c8b80a32cb8958cd5d17d6b254da1"},
-    {32, 32, "28c9f404c4b810f4cbccb35cfb87f8263f5786e2d80ed326cbc7f0e71a99f43bfb988b9b7a02dd21"},
-};
-
-/* RFC 5649, 6, and rows of NIST's KWP_AE. */
-static const struct { const char *key, *data, *wrapped; } padded_rows[] = {
-    {"5840df6e29b02af1ab493b705bf16ea1ae8338f4dcc176a8", "c37b7e6492584340bed12207808941155068f738",
-        "138bdeaa9b8fa7fc61f97742e72248ee5ae6ae5360d1ae6a5f54f373fa543b6a"},
-    {"5840df6e29b02af1ab493b705bf16ea1ae8338f4dcc176a8", "466f7250617369", "afbeb0f07dfbf5419200f2ccb50bb24f"},
-    {"be96dc195ec034d616486ed70e97fe83", "85b5437b6335ebba7635903a4493d12a77d9357a9e0dbc013456d85f1d3201",
-        "974769b3a7b4d5d32985f87fddf9990631e5610fbfb278387b58b1f48e05c77d2fb7575c5169eb0e"},
-    {"95da2700ca6fd9a52554ee2a8df1386f5b94a1a60ed8a4aef60a8d61ab5f225a", "d1", "06ba7ae6f3248cfdcf267507fa001bc4"},
-    {"3517f0efa7f0c4d74f91af83ece5e7503bcc5ab82907a6e4b7ed34d87b69ab1d", "897e0456b289ad31",
-        "0b06a9b635d50cda9d4210cb3a71f990"},
-};
-
-/* SP 800-38B, D.1 to D.3: tags of the first 0, 16, 40 and 64 bytes of the text of F.5, under its keys. */
-static const size_t cmac_lengths[] = {0, 16, 40, 64};
-static const char *const cmac_rows[][4] = {
-    {"bb1d6929e95937287fa37d129b756746", "070a16b46b4d4144f79bdd9dd04a287c",
-     "dfa66747de9ae63030ca32611497c827", "51f0bebf7e3b9d92fc49741779363cfe"},
-    {"d17ddf46adaacde531cac483de7a9367", "9e99a7bf31e710900662f65e617c5184",
-     "8a1de5be2eb31aad089a82e6ee908b0e", "a1d5df0eed790f794d77589659f39a11"},
-    {"028962f61b7bf89efc6b551f4667d983", "28a7023f452e8f82bd4bf28d8c37c35c",
-     "aaf3d8f1de5640c232f5b169b9c911e6", "e1992190549f6ed5696a2c056c315410"},
-};
-
-/* SP 800-38C, C.1 to C.3: the key is 40 41 .. 4f, the nonce counts from 10 on, the additional data from 00 on, the text from 20 on. */
-static const struct { size_t nonce, additional, text, tag; const char *sealed, *tagged; } ccm_rows[] = {
-    {7, 8, 4, 4, "7162015b", "4dac255d"},
-    {8, 16, 16, 6, "d2a1f0e051ea5f62081a7792073d593d", "1fc64fbfaccd"},
-    {12, 20, 24, 8, "e3b201a9f5b71a7a9b1ceaeccd97e70b6176aad9a4428aa5", "484392fbc1b09951"},
-};
 
 static uint8_t counted[33];
 
@@ -173,57 +102,93 @@ static void slices(size_t size)
     expect(same, "0 to 40 blocks, in place, to a buffer and one by one", size);
 }
 
-static void counter_mode(size_t size, const char *key_digits, const char *digits)
-{
-    uint8_t key[32], plain[64], cipher[64], bytes[64];
+/* A row of F.5, ready for calls. */
+struct stream {
+    size_t size;
     struct fotsgure_aes aes;
-    struct fotsgure_aes_ctr start = {{0}, 0}, ctr;
-    int cut = 1;
-    from_hex(key, key_digits);
-    from_hex(plain, f_plain);
-    from_hex(cipher, digits);
-    from_hex(start.iv, f_iv);
-    expect(fotsgure_aes_set_key(&aes, key, size) == FOTSGURE_AES_DONE, "a key is kept", size);
-    memcpy(bytes, plain, 64);
-    ctr = start;
-    expect(fotsgure_aes_add_keystream(&aes, &ctr, bytes, 64) == FOTSGURE_AES_DONE && !memcmp(bytes, cipher, 64) &&
-        ctr.position == 64, "F.5", size);
-    ctr = start;
-    expect(fotsgure_aes_add_keystream_with(key, size, &ctr, bytes, 64) == FOTSGURE_AES_DONE &&
-        !memcmp(bytes, plain, 64) && ctr.position == 64, "F.5, in one call", size);
+    struct fotsgure_aes_ctr start;
+    uint8_t key[32], plain[64], cipher[64];
+};
+
+static void stream_at_once(const struct stream *row)
+{
+    struct fotsgure_aes_ctr ctr = row->start;
+    uint8_t bytes[64];
+    memcpy(bytes, row->plain, 64);
+    expect(fotsgure_aes_add_keystream(&row->aes, &ctr, bytes, 64) == FOTSGURE_AES_DONE &&
+        !memcmp(bytes, row->cipher, 64) && ctr.position == 64, "F.5", row->size);
+    ctr = row->start;
+    expect(fotsgure_aes_add_keystream_with(row->key, row->size, &ctr, bytes, 64) == FOTSGURE_AES_DONE &&
+        !memcmp(bytes, row->plain, 64) && ctr.position == 64, "F.5, in one call", row->size);
+}
+
+static void stream_in_place(const struct stream *row)
+{
+    const struct fotsgure_aes *aes = &row->aes;
+    struct fotsgure_aes_ctr ctr;
+    uint8_t bytes[64];
+    int same = 1;
     for (size_t at = 0; at <= 64; at++) {
-        memcpy(bytes, plain, 64);
-        ctr = start;
-        cut &= fotsgure_aes_add_keystream(&aes, &ctr, bytes, at) == FOTSGURE_AES_DONE && ctr.position == at;
-        cut &= fotsgure_aes_add_keystream(&aes, &ctr, bytes + at, 64 - at) == FOTSGURE_AES_DONE &&
-            !memcmp(bytes, cipher, 64);
+        memcpy(bytes, row->plain, 64);
+        ctr = row->start;
+        same &= fotsgure_aes_add_keystream(aes, &ctr, bytes, at) == FOTSGURE_AES_DONE && ctr.position == at;
+        same &= fotsgure_aes_add_keystream(aes, &ctr, bytes + at, 64 - at) == FOTSGURE_AES_DONE &&
+            !memcmp(bytes, row->cipher, 64);
         ctr.position = at;
-        cut &= fotsgure_aes_add_keystream(&aes, &ctr, bytes + at, 64 - at) == FOTSGURE_AES_DONE &&
-            !memcmp(bytes + at, plain + at, 64 - at);
+        same &= fotsgure_aes_add_keystream(aes, &ctr, bytes + at, 64 - at) == FOTSGURE_AES_DONE &&
+            !memcmp(bytes + at, row->plain + at, 64 - at);
     }
-    expect(cut, "F.5, cut at each place, and taken up at each place", size);
-    cut = 1;
+    expect(same, "F.5, cut at each place, and taken up at each place", row->size);
+}
+
+static void stream_between_buffers(const struct stream *row)
+{
+    const struct fotsgure_aes *aes = &row->aes;
+    const uint8_t *plain = row->plain;
+    struct fotsgure_aes_ctr ctr;
+    uint8_t bytes[64];
+    int same = 1;
     for (size_t at = 0; at <= 64; at++) {
         memset(bytes, 0, 64);
-        ctr = start;
-        cut &= fotsgure_aes_add_keystream_to(&aes, &ctr, plain, at, bytes, at) == FOTSGURE_AES_DONE &&
-            ctr.position == at;
-        cut &= at == 64 || bytes[at] == 0;
-        cut &= fotsgure_aes_add_keystream_to(&aes, &ctr, plain + at, 64 - at, bytes + at, 64 - at) == FOTSGURE_AES_DONE;
-        cut &= !memcmp(bytes, cipher, 64) && ctr.position == 64;
+        ctr = row->start;
+        same &= fotsgure_aes_add_keystream_to(aes, &ctr, plain, at, bytes, at) == FOTSGURE_AES_DONE && ctr.position == at;
+        same &= at == 64 || bytes[at] == 0;
+        same &= fotsgure_aes_add_keystream_to(aes, &ctr, plain + at, 64 - at, bytes + at, 64 - at) == FOTSGURE_AES_DONE;
+        same &= !memcmp(bytes, row->cipher, 64) && ctr.position == 64;
     }
-    expect(cut, "F.5 from buffer to buffer, cut at each place", size);
-    ctr = start;
+    expect(same, "F.5 from buffer to buffer, cut at each place", row->size);
+}
+
+static void stream_end(const struct stream *row)
+{
+    const struct fotsgure_aes *aes = &row->aes;
+    const uint8_t *plain = row->plain, *cipher = row->cipher;
+    struct fotsgure_aes_ctr ctr = row->start;
+    uint8_t bytes[64];
     ctr.position = UINT64_MAX - 3;
     memcpy(bytes, plain, 64);
-    expect(fotsgure_aes_add_keystream(&aes, &ctr, bytes, 4) == FOTSGURE_AES_KEYSTREAM_END &&
-        !memcmp(bytes, plain, 64) && ctr.position == UINT64_MAX - 3, "the end is refused", size);
-    expect(fotsgure_aes_add_keystream_to(&aes, &ctr, cipher, 4, bytes, 4) == FOTSGURE_AES_KEYSTREAM_END &&
-           fotsgure_aes_add_keystream_to(&aes, &ctr, cipher, 4, bytes, 3) == FOTSGURE_AES_UNEQUAL_COUNTS &&
-           fotsgure_aes_add_keystream_with(key, size, &ctr, bytes, 4) == FOTSGURE_AES_KEYSTREAM_END &&
-           !memcmp(bytes, plain, 64) && ctr.position == UINT64_MAX - 3, "the other calls refuse it too", size);
-    expect(fotsgure_aes_add_keystream(&aes, &ctr, bytes, 3) == FOTSGURE_AES_DONE &&
-        ctr.position == UINT64_MAX, "up to the end", size);
+    expect(fotsgure_aes_add_keystream(aes, &ctr, bytes, 4) == FOTSGURE_AES_KEYSTREAM_END &&
+        !memcmp(bytes, plain, 64) && ctr.position == UINT64_MAX - 3, "the end is refused", row->size);
+    expect(fotsgure_aes_add_keystream_to(aes, &ctr, cipher, 4, bytes, 4) == FOTSGURE_AES_KEYSTREAM_END &&
+        fotsgure_aes_add_keystream_to(aes, &ctr, cipher, 4, bytes, 3) == FOTSGURE_AES_UNEQUAL_COUNTS &&
+        fotsgure_aes_add_keystream_with(row->key, row->size, &ctr, bytes, 4) == FOTSGURE_AES_KEYSTREAM_END &&
+        !memcmp(bytes, plain, 64) && ctr.position == UINT64_MAX - 3, "the other calls refuse it too", row->size);
+    expect(fotsgure_aes_add_keystream(aes, &ctr, bytes, 3) == FOTSGURE_AES_DONE &&
+        ctr.position == UINT64_MAX, "up to the end", row->size);
+}
+
+static void counter_mode(size_t size, const char *key_digits, const char *digits)
+{
+    struct stream row = {.size = size};
+    from_hex(row.key, key_digits);
+    from_hex(row.plain, f_plain);
+    from_hex(row.cipher, digits);
+    from_hex(row.start.iv, f_iv);
+    expect(fotsgure_aes_set_key(&row.aes, row.key, size) == FOTSGURE_AES_DONE, "a key is kept", size);
+    stream_at_once(&row);
+    stream_in_place(&row);
+    stream_between_buffers(&row);
+    stream_end(&row);
 }
 
 /* At every cut, and a long chain at once beside the same in parts. */
@@ -325,7 +290,7 @@ static void padded_keys(size_t row)
         length == 0 && !memcmp(output, sealed, 40), "wrong counts, nothing written", bytes);
 }
 
-/* Blocks with each length and with padding that isn't zeros, encrypted: what KWP refuses of them, and what it takes. */
+/* Blocks with each length and with padding that isn't zeros, encrypted: which of them KWP refuses, and which it accepts. */
 static void paddings(void)
 {
     uint8_t block[16], output[8];
@@ -463,91 +428,7 @@ static void single_rounds(void)
     expect(!memcmp(block, mixed, 16), "InvMixColumns", 16);
 }
 
-static void statuses(void)
-{
-    uint8_t text[48], bytes[48];
-    struct fotsgure_aes aes, zeros = {0, {0}}, before;
-    struct fotsgure_aes_ctr ctr = {{0}, 5};
-    struct fotsgure_aes_cbc cbc = {{7}};
-    size_t length = 7;
-    int refused = 1, kept = 1;
-    fill(text, sizeof text, 7);
-    memcpy(bytes, text, sizeof text);
-    for (size_t size = 0; size <= 33; size++) {
-        if (size == 16 || size == 24 || size == 32)
-            continue;
-        memset(&aes, 0xff, sizeof aes);
-        refused &= fotsgure_aes_set_key(&aes, counted, size) == FOTSGURE_AES_KEY_LENGTH &&
-            fotsgure_aes_key_length(&aes) == 0;
-        refused &= fotsgure_aes_encrypt_blocks_with(counted, size, bytes, 3) == FOTSGURE_AES_KEY_LENGTH;
-        refused &= fotsgure_aes_decrypt_blocks_with(counted, size, bytes, 3) == FOTSGURE_AES_KEY_LENGTH;
-        refused &= fotsgure_aes_add_keystream_with(counted, size, &ctr, bytes, 48) == FOTSGURE_AES_KEY_LENGTH;
-        kept &= !memcmp(bytes, text, sizeof text) && ctr.position == 5;
-    }
-    expect(refused, "keys of every other length are refused", 0);
-    expect(kept, "and nothing is written", 0);
-    for (int wiped = 0; wiped < 2; wiped++) {
-        aes = zeros;
-        if (wiped) {
-            expect(fotsgure_aes_set_key(&aes, counted, 32) == FOTSGURE_AES_DONE, "a key is kept", 32);
-            fotsgure_aes_wipe(&aes);
-            expect(!memcmp(&aes, &zeros, sizeof aes), "wiped", 32);
-        }
-        expect(fotsgure_aes_encrypt_blocks(&aes, bytes, 3) == FOTSGURE_AES_NO_KEY &&
-            fotsgure_aes_decrypt_blocks(&aes, bytes, 3) == FOTSGURE_AES_NO_KEY &&
-               fotsgure_aes_encrypt_blocks_to(&aes, counted, 2, bytes, 2) == FOTSGURE_AES_NO_KEY &&
-                   fotsgure_aes_decrypt_blocks_to(&aes, counted, 2, bytes, 2) == FOTSGURE_AES_NO_KEY &&
-               fotsgure_aes_add_keystream(&aes, &ctr, bytes, 48) == FOTSGURE_AES_NO_KEY &&
-               fotsgure_aes_add_keystream_to(&aes, &ctr, counted, 9, bytes, 9) == FOTSGURE_AES_NO_KEY &&
-               fotsgure_aes_cbc_encrypt(&aes, &cbc, bytes, 3) == FOTSGURE_AES_NO_KEY &&
-               fotsgure_aes_cbc_decrypt(&aes, &cbc, bytes, 3) == FOTSGURE_AES_NO_KEY && cbc.previous[0] == 7 &&
-               fotsgure_aes_wrap(&aes, counted, 2, bytes, 3) == FOTSGURE_AES_NO_KEY &&
-               fotsgure_aes_unwrap(&aes, counted, 3, bytes, 2) == FOTSGURE_AES_NO_KEY &&
-               fotsgure_aes_wrap_padded(&aes, counted, 9, bytes, 3) == FOTSGURE_AES_NO_KEY &&
-               fotsgure_aes_unwrap_padded(&aes, counted, 3, bytes, 2, &length) == FOTSGURE_AES_NO_KEY && length == 0 &&
-               fotsgure_aes_cmac(&aes, counted, 5, bytes) == FOTSGURE_AES_NO_KEY &&
-               fotsgure_aes_cmac_verify(&aes, counted, 5, bytes, 3) == FOTSGURE_AES_NO_KEY &&
-               fotsgure_aes_ccm_seal(&aes, counted, 5, counted, 9, bytes, 9, bytes + 16, 8) == FOTSGURE_AES_NO_KEY &&
-               fotsgure_aes_ccm_open(&aes, counted, 5, counted, 9, bytes, 9, counted, 8) == FOTSGURE_AES_NO_KEY &&
-               fotsgure_aes_encrypt_blocks(&aes, NULL, 0) == FOTSGURE_AES_NO_KEY &&
-                   !memcmp(bytes, text, sizeof text) && ctr.position == 5,
-               "no key, nothing written", (size_t)wiped);
-    }
-    expect(fotsgure_aes_set_key(&aes, counted, 24) == FOTSGURE_AES_DONE, "a key is kept", 24);
-    expect(fotsgure_aes_encrypt_blocks_to(&aes, counted, 2, bytes, 3) == FOTSGURE_AES_UNEQUAL_COUNTS &&
-           fotsgure_aes_decrypt_blocks_to(&aes, counted, 1, bytes, 0) == FOTSGURE_AES_UNEQUAL_COUNTS &&
-               !memcmp(bytes, text, sizeof text), "unequal counts, nothing written", 0);
-    expect(fotsgure_aes_encrypt_blocks(&aes, NULL, 0) == FOTSGURE_AES_DONE &&
-        fotsgure_aes_decrypt_blocks(&aes, NULL, 0) == FOTSGURE_AES_DONE &&
-           fotsgure_aes_encrypt_blocks_to(&aes, NULL, 0, NULL, 0) == FOTSGURE_AES_DONE &&
-           fotsgure_aes_decrypt_blocks_to(&aes, NULL, 0, NULL, 0) == FOTSGURE_AES_DONE &&
-           fotsgure_aes_decrypt_blocks_to(&aes, NULL, 0, bytes, 1) == FOTSGURE_AES_UNEQUAL_COUNTS &&
-           fotsgure_aes_add_keystream(&aes, &ctr, NULL, 0) == FOTSGURE_AES_DONE &&
-           fotsgure_aes_cbc_encrypt(&aes, &cbc, NULL, 0) == FOTSGURE_AES_DONE &&
-           fotsgure_aes_cbc_decrypt(&aes, &cbc, NULL, 0) == FOTSGURE_AES_DONE && cbc.previous[0] == 7 &&
-           fotsgure_aes_wrap(&aes, NULL, 0, NULL, 0) == FOTSGURE_AES_INVALID_COUNT &&
-           fotsgure_aes_unwrap(&aes, NULL, 0, NULL, 0) == FOTSGURE_AES_INVALID_COUNT &&
-           fotsgure_aes_wrap_padded(&aes, NULL, 0, NULL, 0) == FOTSGURE_AES_INVALID_COUNT &&
-           fotsgure_aes_unwrap_padded(&aes, NULL, 0, NULL, 0, &length) == FOTSGURE_AES_INVALID_COUNT &&
-           fotsgure_aes_add_keystream_to(&aes, &ctr, NULL, 0, NULL, 0) == FOTSGURE_AES_DONE &&
-           fotsgure_aes_encrypt_blocks_with(counted, 16, NULL, 0) == FOTSGURE_AES_DONE &&
-           fotsgure_aes_decrypt_blocks_with(NULL, 0, NULL, 0) == FOTSGURE_AES_KEY_LENGTH &&
-           fotsgure_aes_add_keystream_with(counted, 24, &ctr, NULL, 0) == FOTSGURE_AES_DONE &&
-               ctr.position == 5, "NULL with a count of 0", 0);
-    /* A compound literal is one argument, however many commas it has. */
-    expect(fotsgure_aes_set_key(&aes, (const uint8_t[]){0, 1, 2, 3, 4, 5, 6, 7, 8, 9, 10, 11, 12, 13, 14, 15}, 16) ==
-        FOTSGURE_AES_DONE && fotsgure_aes_encrypt_blocks_to(&aes, (const uint8_t[16]){1, 2}, 1, bytes, 1) ==
-        FOTSGURE_AES_DONE && fotsgure_aes_decrypt_blocks(&aes, bytes, 1) == FOTSGURE_AES_DONE &&
-        !memcmp(bytes, (const uint8_t[16]){1, 2}, 16), "compound literals", 16);
-    expect(fotsgure_aes_set_key(&aes, counted, 24) == FOTSGURE_AES_DONE, "a key is kept", 24);
-    before = aes;
-    expect(fotsgure_aes_set_key(&aes, NULL, 0) == FOTSGURE_AES_KEY_LENGTH &&
-        fotsgure_aes_key_length(&aes) == 0, "no bytes are no key", 0);
-    memset(&aes, 0xff, sizeof aes);
-    expect(fotsgure_aes_set_key(&aes, counted, 24) == FOTSGURE_AES_DONE &&
-        !memcmp(&aes, &before, KEPT), "what was there before does not count", 24);
-    expect(fotsgure_aes_version() == FOTSGURE_AES_VERSION, "header and library are of one version", 0);
-}
+#include "aes_statuses.h"
 
 #ifdef WITH_OPENSSL
 static int other(const EVP_CIPHER *how, int there, const uint8_t *key, const uint8_t *iv, const uint8_t *in,
@@ -593,10 +474,10 @@ static void as_openssl(size_t size)
 }
 #endif
 
-/* Each status has words of its own, and what is no status has others. */
+/* Each status has words of its own. So has a number that is no status. */
 static void words(void)
 {
-    for (int a = 0; a <= FOTSGURE_AES_REFUSED + 1; a++)
+    for (int a = 0; a <= FOTSGURE_AES_TOO_LONG + 1; a++)
         for (int b = 0; b < a; b++)
             expect(strcmp(fotsgure_aes_status_text((enum fotsgure_aes_status)a),
                 fotsgure_aes_status_text((enum fotsgure_aes_status)b)) != 0, "two statuses in the same words", (size_t)a);

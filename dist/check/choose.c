@@ -1,4 +1,5 @@
-/* The choice between the builds, by threads that all ask first, against the compiler's own question to the processor. */
+/* The choice between the builds, by threads that all choose at once. It is compared with what the compiler's own functions say
+ * of the processor. */
 #include "choose.h"
 
 #include <pthread.h>
@@ -26,6 +27,6 @@ int main(void)
         wrong += found[i] != wanted;
     }
     wrong += started < THREADS || build() != wanted;
-    printf("this processor takes the build for x86-64-v%d\n%d passed, %d failed\n", wanted, started + 1 - wrong, wrong);
+    printf("on this processor the libraries choose the build for x86-64-v%d\n%d passed, %d failed\n", wanted, started + 1 - wrong, wrong);
     return wrong != 0;
 }

@@ -1,5 +1,5 @@
-/* What a shared library asks of the loader: it has to have no text relocation, no executable stack, no segment that is
- * both writable and executable, no function that is bound at its first use, and exactly the exports that are named.
+/* What a shared library asks of the loader. It may have no text relocation, no executable stack, no segment that is both
+ * writable and executable, and no function that is bound at its first use. Its exports are exactly those that are named.
  * usage: elf LIBRARY EXPORT .. */
 #include <elf.h>
 #include <stdio.h>

@@ -1,8 +1,10 @@
-/* The library of GCM from C: test cases 1 to 4, 13 and 16 of the submission of GCM (McGrew and Viega, appendix B), and
- * nonces under which the counter wraps; texts of 0 to 700 bytes there and back, and beside OpenSSL with WITH_OPENSSL;
- * every status; that nothing is written after a refusal; NULL with a length of 0; from buffer to buffer; counted nonces; messages in pieces,
- * cut in many ways and out of turn; short tags; what a shorter key leaves; the wipe. AES-GCM-SIV is in siv.h. The last line
- * is `N passed, M failed`. */
+/* The library of GCM from C. AES-GCM-SIV is in siv.h. The last line is `N passed, M failed`. It tries:
+ * - test cases 1 to 4, 13 and 16 of the submission of GCM (McGrew and Viega, appendix B), also from buffer to buffer;
+ * - nonces under which the counter wraps;
+ * - texts of 0 to 700 bytes there and back, and with WITH_OPENSSL against OpenSSL;
+ * - every status, that nothing is written after a refusal, and NULL with a length of 0;
+ * - counted nonces, and messages in pieces, cut in many ways and out of turn;
+ * - short tags, what a shorter key leaves, and the wipe. */
 #include <fotsgure_aes.h>
 #include <fotsgure_gcm.h>
 
@@ -45,8 +47,8 @@ static int all(const void *bytes, size_t count, uint8_t value)
     return 1;
 }
 
-/* A struct that had one value in each byte, after a call that empties it: zeros, and behind what a build keeps there the bytes that
- * were there before. No build keeps fewer than 244 bytes. */
+/* Whether a call has emptied a struct that had one value in each byte. What a build keeps of it is zeros then, and the bytes
+ * after that are unchanged. No build keeps fewer than 244 bytes. */
 static int is_emptied(const void *bytes, size_t count, uint8_t before)
 {
     size_t kept = 0;
@@ -68,9 +70,9 @@ static int is_emptied(const void *bytes, size_t count, uint8_t before)
     "8cb08e48590dbb3da7b08b1056828838c5f61e6393ba7a0abcc9f662"
 
 /* Nonces under which the last 32 bits of the counter wrap in the text: a random one does so once in 2^28 times. J_0 was
- * chosen to end in fffffffd and in ffffffff, so that the third block and the first are those of the counter 0, and the
- * nonce N of one block follows from J_0 = (N H + L) H, where L is the block of its length. The cipher texts and tags are
- * those of OpenSSL's libcrypto. */
+ * chosen to end in fffffffd and in ffffffff. So the third block, or the first, is that of the counter 0. The nonce N of one
+ * block follows from J_0 = (N H + L) H, where L is the block of its length. The cipher texts and tags are those of OpenSSL's
+ * libcrypto. */
 enum { WRAPS = 2, WRAP_LENGTH = 70 };
 #define WRAP_THIRD "520f83f07980ff6e39a219f2b2be77da"
 #define WRAP_FIRST "4384f2e1345fa9cc9d0989c25d707885"
@@ -115,7 +117,7 @@ static void to_a_buffer(const struct fotsgure_gcm *gcm, size_t row)
         FOTSGURE_GCM_NONCE_LENGTH, "lengths of buffers", row);
 }
 
-/* The key of a struct of the other library: the two begin with the same bytes, as far as a key serves to encrypt. */
+/* A key from a struct of the other library. Both structs begin with the same bytes: those that serve to encrypt. */
 static void key_of(const struct fotsgure_gcm *gcm, size_t row)
 {
     struct fotsgure_aes aes = {0, {0}};
@@ -203,14 +205,10 @@ static void lengths(void)
     fotsgure_gcm_wipe(&gcm);
 }
 
-/* Every status, in the order in which calls name them, and that nothing is written after one. */
-static void statuses(void)
+static void other_key_lengths(void)
 {
-    uint8_t key[33] = {1}, nonce[12] = {2}, text[4] = {3, 3, 3, 3}, tag[16], made[16];
-    struct fotsgure_gcm gcm, none;
-    const size_t too_long = (size_t)FOTSGURE_GCM_MOST + 1, too_much = (size_t)FOTSGURE_GCM_MOST_ADDITIONAL + 1;
-    memset(&gcm, 0xa5, sizeof gcm);
-    memset(&none, 0, sizeof none);
+    const uint8_t key[33] = {1};
+    struct fotsgure_gcm gcm;
     for (size_t length = 0; length <= 33; length++) {
         if (length == 16 || length == 24 || length == 32)
             continue;
@@ -218,6 +216,16 @@ static void statuses(void)
         expect(fotsgure_gcm_set_key(&gcm, length ? key : NULL, length) == FOTSGURE_GCM_KEY_LENGTH &&
             is_emptied(&gcm, sizeof gcm, 0xa5) && fotsgure_gcm_key_length(&gcm) == 0, "a key of another length", length);
     }
+}
+
+/* Every status, in the order in which calls name them, and that nothing is written after one. */
+static void statuses(void)
+{
+    uint8_t key[16] = {1}, nonce[12] = {2}, text[4] = {3, 3, 3, 3}, tag[16], made[16];
+    struct fotsgure_gcm gcm, none;
+    const size_t too_long = (size_t)FOTSGURE_GCM_MOST + 1, too_much = (size_t)FOTSGURE_GCM_MOST_ADDITIONAL + 1;
+    memset(&none, 0, sizeof none);
+    other_key_lengths();
     if (fotsgure_gcm_set_key(&gcm, key, 16) != FOTSGURE_GCM_DONE)
         abort();
     memset(tag, 9, sizeof tag);
@@ -292,7 +300,7 @@ static void counted(void)
 
 static uint8_t plain[300], text[300], sealed[300], additional[300], tag[16], wanted[16];
 
-/* Whether a message in pieces of so many bytes is that of one call, and comes back in pieces, in both ways. */
+/* Whether a message in pieces of `piece` bytes is that of one call, and comes back in pieces, in both ways. */
 static int cut(const struct fotsgure_gcm *gcm, const uint8_t *nonce, size_t nonce_length, size_t piece, size_t extra,
     size_t length)
 {
@@ -361,7 +369,7 @@ static void counted_pieces(const struct fotsgure_gcm *gcm, const struct fotsgure
     expect(fotsgure_gcm_begin_next(none, &message, &counter, nonce) == FOTSGURE_GCM_NONCES_END, "begin_next", 3);
 }
 
-/* Short tags: each length beside each that is fixed, right ones and ones with a bit changed. */
+/* Short tags: each length with each fixed length, right ones and ones with a bit changed. */
 static void short_tags(const struct fotsgure_gcm *gcm)
 {
     struct fotsgure_gcm_message message;
@@ -401,13 +409,13 @@ static void shorter_key(void)
         expect(fotsgure_gcm_set_key(&gcm, key, 32) == FOTSGURE_GCM_DONE &&
             fotsgure_gcm_set_key(&gcm, key, length) == FOTSGURE_GCM_DONE &&
             fotsgure_gcm_set_key(&alone, key, length) == FOTSGURE_GCM_DONE && memcmp(&gcm, &alone, sizeof gcm) == 0,
-            "behind a shorter key", length);
+            "after a shorter key", length);
         fotsgure_gcm_wipe(&gcm);
         fotsgure_gcm_wipe(&alone);
     }
 }
 
-/* What a program reads in the fields of a message, whose places no proof pins: what has come, and what comes next. */
+/* The fields of a message, as a program reads them: what has come, and what comes next. No proof fixes their places. */
 static void fields(const struct fotsgure_gcm *gcm)
 {
     struct fotsgure_gcm_message message;
@@ -463,7 +471,7 @@ static void out_of_turn(const struct fotsgure_gcm *gcm)
     }
 }
 
-/* Messages under the nonces of the last cases, in pieces that end before the wrap, there and behind it. */
+/* Messages under the nonces of the last cases, in pieces that end before the wrap, at it and after it. */
 static void wraps_in_pieces(void)
 {
     const size_t count = sizeof cases / sizeof *cases;
@@ -478,11 +486,46 @@ static void wraps_in_pieces(void)
     }
 }
 
+/* Without a key, and too long: a message that is refused stays as it was. */
+static void refused_pieces(const struct fotsgure_gcm *gcm, const struct fotsgure_gcm *none)
+{
+    uint8_t key[32] = {3}, nonce[12] = {4};
+    struct fotsgure_gcm_message message, before;
+    if (fotsgure_gcm_begin(gcm, &message, nonce, 12) != FOTSGURE_GCM_DONE)
+        abort();
+    before = message;
+    expect(fotsgure_gcm_begin(none, &message, NULL, 0) == FOTSGURE_GCM_NONCE_LENGTH, "begin", 0);
+    expect(fotsgure_gcm_begin(none, &message, nonce, 12) == FOTSGURE_GCM_NO_KEY, "begin", 1);
+    expect(fotsgure_gcm_additional(none, &message, NULL, 0) == FOTSGURE_GCM_NO_KEY, "no key", 0);
+    expect(fotsgure_gcm_encrypt(none, &message, NULL, 0) == FOTSGURE_GCM_NO_KEY, "no key", 1);
+    expect(fotsgure_gcm_finish(none, &message, tag) == FOTSGURE_GCM_NO_KEY, "no key", 2);
+    expect(fotsgure_gcm_verify(none, &message, NULL, 0) == FOTSGURE_GCM_NO_KEY, "no key", 3);
+    expect(fotsgure_gcm_accept(none, &message, tag, 15) == FOTSGURE_GCM_TAG_LENGTH, "no key", 4);
+    expect(fotsgure_gcm_accept(none, &message, tag, 16) == FOTSGURE_GCM_NO_KEY, "no key", 5);
+    expect(fotsgure_gcm_decrypt(none, &message, NULL, 0) == FOTSGURE_GCM_NO_KEY, "no key", 6);
+    expect(fotsgure_gcm_decrypt_unverified(none, &message, NULL, 0) == FOTSGURE_GCM_NO_KEY, "no key", 7);
+    expect(IS_32 || fotsgure_gcm_additional(gcm, &message, key, (size_t)FOTSGURE_GCM_MOST_ADDITIONAL + 1) ==
+        FOTSGURE_GCM_TOO_LONG, "too long", 0);
+    expect(IS_32 || fotsgure_gcm_encrypt(gcm, &message, key, (size_t)FOTSGURE_GCM_MOST + 1) == FOTSGURE_GCM_TOO_LONG,
+        "too long", 1);
+    expect(memcmp(&message, &before, sizeof message) == 0, "a message that is refused stays as it was", 0);
+    expect(fotsgure_gcm_encrypt(gcm, &message, NULL, 0) == FOTSGURE_GCM_DONE, "NULL for no bytes", 1);
+    fotsgure_gcm_wipe_message(&message);
+}
+
+/* A compound literal is one argument, however many commas it has. */
+static void compound_literals(const struct fotsgure_gcm *gcm)
+{
+    memset(text, 1, 3);
+    expect(fotsgure_gcm_seal(gcm, (const uint8_t[12]){1, 2}, 12, (const uint8_t[]){1, 2, 3}, 3, text, 3, tag) ==
+        FOTSGURE_GCM_DONE && fotsgure_gcm_open(gcm, (const uint8_t[12]){1, 2}, 12, (const uint8_t[]){1, 2, 3}, 3, text, 3,
+        tag, 16) == FOTSGURE_GCM_DONE && all(text, 3, 1), "compound literals", 3);
+}
+
 static void pieces(void)
 {
     uint8_t key[32] = {3}, nonce[60] = {4};
     struct fotsgure_gcm gcm, none;
-    struct fotsgure_gcm_message message, before;
     memset(&none, 0, sizeof none);
     for (size_t i = 0; i < sizeof plain; i++) {
         plain[i] = (uint8_t)(i * 5 + 1);
@@ -499,38 +542,15 @@ static void pieces(void)
     counted_pieces(&gcm, &none);
     short_tags(&gcm);
     shorter_key();
-    if (fotsgure_gcm_begin(&gcm, &message, nonce, 12) != FOTSGURE_GCM_DONE)
-        abort();
-    before = message;
-    expect(fotsgure_gcm_begin(&none, &message, NULL, 0) == FOTSGURE_GCM_NONCE_LENGTH, "begin", 0);
-    expect(fotsgure_gcm_begin(&none, &message, nonce, 12) == FOTSGURE_GCM_NO_KEY, "begin", 1);
-    expect(fotsgure_gcm_additional(&none, &message, NULL, 0) == FOTSGURE_GCM_NO_KEY, "no key", 0);
-    expect(fotsgure_gcm_encrypt(&none, &message, NULL, 0) == FOTSGURE_GCM_NO_KEY, "no key", 1);
-    expect(fotsgure_gcm_finish(&none, &message, tag) == FOTSGURE_GCM_NO_KEY, "no key", 2);
-    expect(fotsgure_gcm_verify(&none, &message, NULL, 0) == FOTSGURE_GCM_NO_KEY, "no key", 3);
-    expect(fotsgure_gcm_accept(&none, &message, tag, 15) == FOTSGURE_GCM_TAG_LENGTH, "no key", 4);
-    expect(fotsgure_gcm_accept(&none, &message, tag, 16) == FOTSGURE_GCM_NO_KEY, "no key", 5);
-    expect(fotsgure_gcm_decrypt(&none, &message, NULL, 0) == FOTSGURE_GCM_NO_KEY, "no key", 6);
-    expect(fotsgure_gcm_decrypt_unverified(&none, &message, NULL, 0) == FOTSGURE_GCM_NO_KEY, "no key", 7);
-    expect(IS_32 || fotsgure_gcm_additional(&gcm, &message, key, (size_t)FOTSGURE_GCM_MOST_ADDITIONAL + 1) ==
-        FOTSGURE_GCM_TOO_LONG, "too long", 0);
-    expect(IS_32 || fotsgure_gcm_encrypt(&gcm, &message, key, (size_t)FOTSGURE_GCM_MOST + 1) == FOTSGURE_GCM_TOO_LONG,
-        "too long", 1);
-    expect(memcmp(&message, &before, sizeof message) == 0, "a message that is refused stays as it was", 0);
-    expect(fotsgure_gcm_encrypt(&gcm, &message, NULL, 0) == FOTSGURE_GCM_DONE, "NULL for no bytes", 1);
-    fotsgure_gcm_wipe_message(&message);
-    /* A compound literal is one argument, however many commas it has. */
-    memset(text, 1, 3);
-    expect(fotsgure_gcm_seal(&gcm, (const uint8_t[12]){1, 2}, 12, (const uint8_t[]){1, 2, 3}, 3, text, 3, tag) ==
-        FOTSGURE_GCM_DONE && fotsgure_gcm_open(&gcm, (const uint8_t[12]){1, 2}, 12, (const uint8_t[]){1, 2, 3}, 3, text, 3,
-        tag, 16) == FOTSGURE_GCM_DONE && all(text, 3, 1), "compound literals", 3);
+    refused_pieces(&gcm, &none);
+    compound_literals(&gcm);
     fotsgure_gcm_wipe(&gcm);
 }
 
-/* Each status has words of its own, and what is no status has others. */
+/* Each status has words of its own. So has a number that is no status. */
 static void words(void)
 {
-    for (int a = 0; a <= FOTSGURE_GCM_NO_RANDOMNESS + 1; a++)
+    for (int a = 0; a <= FOTSGURE_GCM_UNEQUAL_LENGTHS + 1; a++)
         for (int b = 0; b < a; b++)
             expect(strcmp(fotsgure_gcm_status_text((enum fotsgure_gcm_status)a),
                 fotsgure_gcm_status_text((enum fotsgure_gcm_status)b)) != 0, "two statuses in the same words", (size_t)a);

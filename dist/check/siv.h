@@ -114,7 +114,7 @@ static void siv_statuses(void)
     expect(fotsgure_gcm_siv_set_key(&siv, key, 32) == FOTSGURE_GCM_DONE &&
         fotsgure_gcm_siv_set_key(&siv, key, 16) == FOTSGURE_GCM_DONE &&
         fotsgure_gcm_siv_set_key(&alone, key, 16) == FOTSGURE_GCM_DONE && memcmp(&siv, &alone, sizeof siv) == 0,
-        "siv: behind a short key", 16);
+        "siv: after a shorter key", 16);
     expect(IS_32 || fotsgure_gcm_siv_seal(&none, nonce, NULL, 0, text, too_long, tag) == FOTSGURE_GCM_TOO_LONG, "siv", 1);
     expect(IS_32 || fotsgure_gcm_siv_seal(&none, nonce, key, too_long, text, 4, tag) == FOTSGURE_GCM_TOO_LONG, "siv", 2);
     expect(fotsgure_gcm_siv_seal(&none, nonce, NULL, 0, text, 4, tag) == FOTSGURE_GCM_NO_KEY, "siv", 3);

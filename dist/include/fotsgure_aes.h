@@ -5,14 +5,14 @@
  * checks a call from C.
  *
  * For every call, the caller must ensure:
- *  - Valid pointers. A pointer to a struct points to a whole one, aligned as C aligns it; `key` points to `key_length`
- *    bytes, `bytes` to `count` bytes, `blocks` to `count` blocks of 16 bytes, and every other pointer to as many
- *    blocks or bytes as the count or the length beside it says, or as its array has. Bytes and blocks need no alignment.
+ *  - Valid pointers. A pointer to a struct points to a whole one, aligned as C aligns it. `key` points to `key_length`
+ *    bytes, `bytes` to `count` bytes, and `blocks` to `count` blocks of 16 bytes. Every other pointer points to as many
+ *    blocks or bytes as the count or the length after it says, or as its array has. Bytes and blocks need no alignment.
  *    What a call reads has been initialized.
  *  - No object of more than PTRDIFF_MAX bytes. Counts are in blocks where a parameter is called `blocks`, and where the
  *    name of the call says so.
- *  - No overlap: what a call writes overlaps nothing else that it is given, not even in full. To work in place, use
- *    the calls with one buffer. What a call only reads may overlap.
+ *  - No overlap: what a call writes overlaps nothing else that it is given, and isn't the same buffer either. To work in
+ *    place, use the calls with one buffer. What a call only reads may overlap.
  *  - A struct fotsgure_aes that fotsgure_aes_set_key or fotsgure_aes_wipe wrote last, or a copy of such a struct, or one
  *    whose bytes are all 0.
  *  - No data race: during the call no other thread writes what it reads, or reads or writes what it writes.
@@ -20,22 +20,22 @@
  *    32-bit ARM an ARMv7 or later, or a Cortex-M. On microcontrollers docs/MICROCONTROLLERS.md says how much stack a call
  *    needs.
  *
- * NULL is allowed for every pointer to bytes or blocks that has a count or a length beside it, if that is 0.
+ * NULL is allowed for a pointer to bytes or blocks if a count or a length follows it and is 0.
  *
  * In return, every call returns, and writes only what its comment says. No call allocates, prints, aborts, blocks,
  * or keeps a pointer. The library has no state of its own, except one word on x86-64: a library that holds several builds
  * keeps there which of them the processor runs. A call that doesn't return FOTSGURE_AES_DONE has changed nothing. There
  * are three exceptions: fotsgure_aes_set_key leaves a struct without a key; fotsgure_aes_unwrap and
  * fotsgure_aes_unwrap_padded leave zeros if they return REFUSED; and the latter sets *key_length to 0. What a call returns
- * depends on lengths and positions alone, never on the bytes of a key or of data, except REFUSED: a wrapped key, a tag or
- * a message was not right.
+ * depends on lengths and positions alone, never on the bytes of a key or of data. REFUSED is the exception: a wrapped key,
+ * a tag or a message was not right.
  *
- * Proved: what calls return and write, that they return, and that the calls that are given a key wipe the schedule that
+ * Proved: that calls return, what they return and write, and that the calls with an argument `key` wipe the schedule that
  * they keep. Reviewed by hand and measured: that these calls keep no other copy of the schedule, that no call allocates,
  * that the stack suffices, and what calls read of an unwritten struct.
  *
- * Copies and threads: a struct fotsgure_aes may be copied and moved as bytes; every copy is as secret as the key and has
- * to be wiped too. Any number of threads may use one struct at the same time by the calls whose parameter is const.
+ * Copies and threads: a struct fotsgure_aes may be copied and moved as bytes. Every copy is as secret as the key and has
+ * to be wiped too. Any number of threads may use one struct at the same time, in calls that have it as const.
  * A struct fotsgure_aes_ctr belongs to one thread at a time; a copy of it would give out the same keystream again.
  *
  * A block cipher alone protects no message, and counter mode doesn't show whether a message was changed. For
@@ -105,8 +105,8 @@ typedef uint32_t fotsgure_aes_word;
 #endif
 
 /* A key schedule, for both directions and for counter mode. Read and write it by the calls below alone. On 64-bit RISC-V
- * with vectors it is kept in the first 484 bytes, and the others are neither read nor written: these comments then speak
- * of the bytes that a build keeps. */
+ * with vectors it is kept in the first 484 bytes, and the others are neither read nor written. What these comments say of
+ * the struct holds there for these 484 bytes. */
 struct fotsgure_aes {
     fotsgure_aes_word key_length; /* in the lower 32 bits: 16, 24 or 32; 0: no key */
     fotsgure_aes_word round_keys[120];
@@ -169,16 +169,16 @@ FOTSGURE_AES_CHECK enum fotsgure_aes_status fotsgure_aes_add_keystream(const str
     struct fotsgure_aes_ctr *FOTSGURE_AES_ALONE ctr,
     uint8_t *FOTSGURE_AES_ALONE bytes, size_t count) FOTSGURE_AES_NOEXCEPT;
 
-/* The same from one buffer to another; counts are in bytes. UNEQUAL_COUNTS if they differ, else as above. */
+/* The same from one buffer to another; counts are in bytes. UNEQUAL_COUNTS if they differ; else as in place. */
 FOTSGURE_AES_CHECK enum fotsgure_aes_status fotsgure_aes_add_keystream_to(const struct fotsgure_aes *aes,
     struct fotsgure_aes_ctr *FOTSGURE_AES_ALONE ctr,
     const uint8_t *input, size_t input_count,
     uint8_t *FOTSGURE_AES_ALONE output, size_t output_count) FOTSGURE_AES_NOEXCEPT;
 
 /* Cipher block chaining in place (SP 800-38A, 6.2), on whole blocks: encrypts or decrypts the next `count` blocks of a
- * chain, and moves *cbc on to the last encrypted one. It makes no difference how blocks are cut into calls. It doesn't
- * show whether a message was changed, and a program that reveals whether padding was right reveals messages: check a
- * tag over the initialization vector and the encrypted blocks first. DONE, or NO_KEY. */
+ * chain, and moves *cbc on to the last encrypted one. It makes no difference how blocks are cut into calls. CBC doesn't
+ * show whether a message was changed. A program that reveals whether padding was right reveals messages. So first check
+ * a tag over the initialization vector and the encrypted blocks. DONE, or NO_KEY. */
 FOTSGURE_AES_CHECK enum fotsgure_aes_status fotsgure_aes_cbc_encrypt(const struct fotsgure_aes *aes,
     struct fotsgure_aes_cbc *FOTSGURE_AES_ALONE cbc,
     uint8_t *FOTSGURE_AES_ALONE blocks, size_t count) FOTSGURE_AES_NOEXCEPT;
@@ -187,10 +187,10 @@ FOTSGURE_AES_CHECK enum fotsgure_aes_status fotsgure_aes_cbc_decrypt(const struc
     uint8_t *FOTSGURE_AES_ALONE blocks, size_t count) FOTSGURE_AES_NOEXCEPT;
 
 /* Key wrap (KW, SP 800-38F, 6.2; RFC 3394) from one buffer to another: encrypts a key, and shows whether it was
- * changed. Counts are in semiblocks of 8 bytes. A key has two or more, and becomes one more. It needs no nonce: the
- * same key, wrapped twice, gives the same bytes. Use a key that wraps keys for nothing else.
- * NO_KEY; INVALID_COUNT if keys of so many semiblocks are not wrapped, or if the output isn't one semiblock longer, or
- * shorter to unwrap; fotsgure_aes_unwrap also REFUSED, and the output then is all zeros; else DONE. */
+ * changed. Counts are in semiblocks of 8 bytes. A key has two or more. A wrapped key has one more. Key wrap needs no
+ * nonce: the same key, wrapped twice, gives the same bytes. Use a key that wraps keys for nothing else.
+ * NO_KEY; INVALID_COUNT if keys of this length are not wrapped, or the output isn't one semiblock longer (to unwrap:
+ * shorter); fotsgure_aes_unwrap also REFUSED, and the output then is all zeros; else DONE. */
 FOTSGURE_AES_CHECK enum fotsgure_aes_status fotsgure_aes_wrap(const struct fotsgure_aes *aes,
     const uint8_t *input, size_t input_count,
     uint8_t *FOTSGURE_AES_ALONE output, size_t output_count) FOTSGURE_AES_NOEXCEPT;
@@ -199,40 +199,39 @@ FOTSGURE_AES_CHECK enum fotsgure_aes_status fotsgure_aes_unwrap(const struct fot
     uint8_t *FOTSGURE_AES_ALONE output, size_t output_count) FOTSGURE_AES_NOEXCEPT;
 
 /* Key wrap with padding (KWP, SP 800-38F, 6.3; RFC 5649) from one buffer to another, of keys of any number of bytes. The
- * key has input_length bytes, at least one and below 2^32; what is wrapped has one semiblock more than the key fills,
+ * key has input_length bytes, at least one and below 2^32. The wrapped key has one semiblock more than the key fills:
  * (input_length + 7) / 8 + 1.
  * NO_KEY; INVALID_COUNT if keys of this length are not wrapped, or the output has the wrong length; else DONE. */
 FOTSGURE_AES_CHECK enum fotsgure_aes_status fotsgure_aes_wrap_padded(const struct fotsgure_aes *aes,
     const uint8_t *input, size_t input_length,
     uint8_t *FOTSGURE_AES_ALONE output, size_t output_count) FOTSGURE_AES_NOEXCEPT;
-/* And back: both counts are in semiblocks, and the output has one less. Afterwards *key_length is how many bytes the key
- * has: the first ones of the output, which zeros follow.
- * NO_KEY; INVALID_COUNT if no key becomes so many semiblocks, or the output isn't one shorter; REFUSED, and the output then
- * is all zeros; else DONE. In all cases but DONE *key_length is 0. */
+/* Unwraps such a key: both counts are in semiblocks, and the output has one less. Afterwards *key_length is how many bytes
+ * the key has. They are the first ones of the output, and zeros follow them.
+ * NO_KEY; INVALID_COUNT if no wrapped key has this length, or the output isn't one semiblock shorter; REFUSED, and the
+ * output then is all zeros; else DONE. In all cases but DONE *key_length is 0. */
 FOTSGURE_AES_CHECK enum fotsgure_aes_status fotsgure_aes_unwrap_padded(const struct fotsgure_aes *aes,
     const uint8_t *input, size_t input_count,
     uint8_t *FOTSGURE_AES_ALONE output, size_t output_count,
     size_t *FOTSGURE_AES_ALONE key_length) FOTSGURE_AES_NOEXCEPT;
 
-/* CMAC (SP 800-38B, 6.2; RFC 4493): writes the tag of a message, which shows whether the message was changed; it
+/* CMAC (SP 800-38B, 6.2; RFC 4493): writes the tag of a message, which shows whether the message was changed. It
  * encrypts nothing. Use a key that makes tags for nothing else.
  * NO_KEY; else DONE. */
 FOTSGURE_AES_CHECK enum fotsgure_aes_status fotsgure_aes_cmac(const struct fotsgure_aes *aes,
     const uint8_t *message, size_t message_length,
     uint8_t tag[FOTSGURE_AES_BLOCK]) FOTSGURE_AES_NOEXCEPT;
 
-/* Compares a tag with that of a message, without an early exit (6.3). A tag of fewer than 16 bytes is compared with the
- * first ones of the whole tag; it has 4 or more. How many bytes all tags under the key have is fixed with the key: never
- * read `tag_length` from a message, or a forger chooses how few bytes have to be right. For fewer than 8 read
- * appendix A first.
+/* Compares a tag with that of a message, without an early exit (6.3). A tag of 4 to 15 bytes is compared with the first
+ * bytes of the whole tag. How many bytes all tags under the key have is fixed with the key. Never read `tag_length` from
+ * a message: a forger would choose how few bytes have to be right. For fewer than 8 bytes read appendix A first.
  * NO_KEY; TAG_LENGTH if the tag has fewer than 4 bytes, or more than 16; REFUSED; else DONE. */
 FOTSGURE_AES_CHECK enum fotsgure_aes_status fotsgure_aes_cmac_verify(const struct fotsgure_aes *aes,
     const uint8_t *message, size_t message_length,
     const uint8_t *tag, size_t tag_length) FOTSGURE_AES_NOEXCEPT;
 
-/* CCM (SP 800-38C, 6.1; RFC 3610): encrypts `text_length` bytes in place under a nonce that is never used twice under
- * one key, and writes a tag, which shows whether the text or the additional data was changed. The additional data isn't
- * encrypted, nor is it part of the text. A nonce has 7 to 13 bytes, a text fewer than 2^(8 * (15 - nonce_length)): with
+/* CCM (SP 800-38C, 6.1; RFC 3610): encrypts `text_length` bytes in place, and writes a tag, which shows whether the text
+ * or the additional data was changed. Never use a nonce twice under one key. The additional data isn't encrypted, nor is
+ * it part of the text. A nonce has 7 to 13 bytes. A text has fewer than 2^(8 * (15 - nonce_length)) bytes: with a nonce of
  * 13 bytes at most 65535. A tag has 4, 6, 8, 10, 12, 14 or 16 bytes; for fewer than 8 read appendix B first. Both lengths
  * are fixed with the key: never read `tag_length` from a message. Use a key of CCM for nothing else.
  * NO_KEY, TAG_LENGTH, NONCE_LENGTH or TOO_LONG, the first of them that applies; else DONE. */
@@ -243,8 +242,8 @@ FOTSGURE_AES_CHECK enum fotsgure_aes_status fotsgure_aes_ccm_seal(const struct f
     uint8_t *FOTSGURE_AES_ALONE tag, size_t tag_length) FOTSGURE_AES_NOEXCEPT;
 
 /* Decrypts `text_length` bytes in place if the tag is right (6.2). The tag can be compared only once the text is
- * decrypted, so a text that is refused is encrypted again: it is, when the call returns, as it was. Until then the text
- * holds what nobody has authenticated.
+ * decrypted. So a refused text is encrypted again, and is unchanged when the call returns. Until then the text holds what
+ * nobody has authenticated.
  * NO_KEY, TAG_LENGTH, NONCE_LENGTH, TOO_LONG or REFUSED, the first of them that applies; else DONE. */
 FOTSGURE_AES_CHECK enum fotsgure_aes_status fotsgure_aes_ccm_open(const struct fotsgure_aes *aes,
     const uint8_t *nonce, size_t nonce_length,
@@ -269,8 +268,8 @@ void fotsgure_aes_equiv_inv_cipher_round_par(uint8_t blocks[FOTSGURE_AES_EIGHT_B
 void fotsgure_aes_mix_columns(uint8_t block[FOTSGURE_AES_BLOCK]) FOTSGURE_AES_NOEXCEPT;
 void fotsgure_aes_inv_mix_columns(uint8_t block[FOTSGURE_AES_BLOCK]) FOTSGURE_AES_NOEXCEPT;
 
-/* The same work under a key that is given: each call expands it, and wipes the round keys that it keeps before it
- * returns. KEY_LENGTH if key_length isn't 16, 24 or 32, else as above. */
+/* The same work under a key of 16, 24 or 32 bytes: each call expands it, and wipes the round keys that it keeps before it
+ * returns. KEY_LENGTH if the key has another length; else as for the calls with a struct. */
 FOTSGURE_AES_CHECK enum fotsgure_aes_status fotsgure_aes_encrypt_blocks_with(const uint8_t *key, size_t key_length,
     uint8_t *FOTSGURE_AES_ALONE blocks, size_t count) FOTSGURE_AES_NOEXCEPT;
 FOTSGURE_AES_CHECK enum fotsgure_aes_status fotsgure_aes_decrypt_blocks_with(const uint8_t *key, size_t key_length,

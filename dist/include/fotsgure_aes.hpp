@@ -1,6 +1,6 @@
 // AES for C++17 over fotsgure_aes.h: a key that wipes itself, counter mode, CBC and key wrap. The classes meet the header's
-// conditions, except those that stay with their caller: valid pointers, no overlap of buffers, no data race, enough
-// stack, a processor that fits, and no initial counter block used twice under a key.
+// conditions, except those that their caller has to meet. These are valid pointers, no overlap of buffers, no data race,
+// enough stack, a processor that fits, and no initial counter block used twice under a key.
 #ifndef FOTSGURE_AES_HPP
 #define FOTSGURE_AES_HPP
 

@@ -5,44 +5,44 @@
  * checks a call from C.
  *
  * For every call, the caller must ensure:
- *  - In GCM no nonce is used twice under one key, over all messages, programs and machines: a second use reveals the
+ *  - In GCM no nonce is used twice under one key, over all messages, programs and machines. A second use reveals the
  *    key of the tags and the sum of two messages. fotsgure_gcm_seal_next counts nonces up. Random nonces have 12 bytes
  *    or more. At most 2^32 messages are allowed under a key if any of its nonces is random, or doesn't have 12 bytes
- *    (8.2.2, 8.3). In AES-GCM-SIV, the calls fotsgure_gcm_siv_.., a nonce that is used twice only shows whether the two
+ *    (8.2.2, 8.3). In AES-GCM-SIV (the calls fotsgure_gcm_siv_..) a nonce that is used twice only shows whether the two
  *    messages, with their additional data, are the same.
- *  - Valid pointers. A pointer to a struct points to a whole one, aligned as C aligns it; every other pointer points to
- *    as many bytes as the length beside it says, or as its array has. Bytes need no alignment. What a call reads has
+ *  - Valid pointers. A pointer to a struct points to a whole one, aligned as C aligns it. Every other pointer points to
+ *    as many bytes as the length after it says, or as its array has. Bytes need no alignment. What a call reads has
  *    been initialized.
  *  - No object of more than PTRDIFF_MAX bytes.
- *  - No overlap: what a call writes overlaps nothing else that it is given, not even in full. To work in place, use the
- *    calls with one buffer. What a call only reads may overlap.
+ *  - No overlap: what a call writes overlaps nothing else that it is given, and isn't the same buffer either. To work in
+ *    place, use the calls with one buffer. What a call only reads may overlap.
  *  - A struct fotsgure_gcm that fotsgure_gcm_set_key, fotsgure_gcm_set_key_of or fotsgure_gcm_wipe wrote last, or a copy
- *    of such a struct, or one whose bytes are all 0; likewise a struct fotsgure_gcm_siv, by fotsgure_gcm_siv_set_key and
- *    fotsgure_gcm_siv_wipe, and a struct fotsgure_aes, as fotsgure_aes.h asks. A struct fotsgure_gcm_message may hold
- *    anything but uninitialized bytes; for fotsgure_gcm_begin and fotsgure_gcm_wipe_message it may be uninitialized too.
- *    What calls promise about a message holds if all its calls had the same key, the first was fotsgure_gcm_begin, and
- *    nothing else wrote the struct.
+ *    of such a struct, or one whose bytes are all 0. The same holds for a struct fotsgure_gcm_siv, with the calls
+ *    fotsgure_gcm_siv_set_key and fotsgure_gcm_siv_wipe. A struct fotsgure_aes is one that fotsgure_aes.h allows.
+ *  - A struct fotsgure_gcm_message may hold anything but uninitialized bytes. For fotsgure_gcm_begin and
+ *    fotsgure_gcm_wipe_message it may be uninitialized too. What calls promise about a message holds if all its calls
+ *    had the same key, the first was fotsgure_gcm_begin, and nothing else wrote the struct.
  *  - No data race: during the call no other thread writes what it reads, or reads or writes what it writes.
  *  - FOTSGURE_GCM_STACK bytes of stack, and a processor with little-endian words: any on x86-64, 64-bit ARM and RISC-V; on
  *    32-bit ARM an ARMv7 or later, or a Cortex-M. On microcontrollers docs/MICROCONTROLLERS.md says how much stack a call
  *    needs.
  *
- * NULL is allowed for every pointer to bytes that has a length beside it, if that is 0.
+ * NULL is allowed for a pointer to bytes if a length follows it and is 0.
  *
  * In return, every call returns, and writes only what its comment says. No call allocates, prints, aborts, blocks,
  * or keeps a pointer. The library has no state of its own, except one word on x86-64: a library that holds several builds
  * keeps there which of them the processor runs. Proved: what calls return and write, and that they return. Reviewed by
- * hand and measured: the rest. fotsgure_gcm_siv_seal_random is C around a proved call, and tested: it asks the system for
- * randomness, waits for it while the system starts, and may write errno.
+ * hand and measured: the rest. fotsgure_gcm_siv_seal_random is C around a proved call, and is tested. It asks the system
+ * for randomness, waits for it while the system starts, and may write errno.
  *
  * A call that doesn't return FOTSGURE_GCM_DONE has changed nothing. There are two kinds of exceptions: calls that set a
  * key leave a struct without a key, and fotsgure_gcm_open_to and fotsgure_gcm_siv_open_to leave zeros if they return
  * REFUSED. If several statuses apply, a call returns the first of them in the order of its comment. A status depends on
  * the bytes of keys and of messages only by whether a tag is right.
  *
- * Copies and threads: a struct fotsgure_gcm or fotsgure_gcm_siv may be copied and moved as bytes; every copy is as
- * secret as the key and has to be wiped too. Any number of threads may use one struct at the same time by the calls
- * whose parameter is const. A struct fotsgure_gcm_counter belongs to one thread at a time: a copy of it would give out
+ * Copies and threads: a struct fotsgure_gcm or fotsgure_gcm_siv may be copied and moved as bytes. Every copy is as
+ * secret as the key and has to be wiped too. Any number of threads may use one struct at the same time, in calls that
+ * have it as const. A struct fotsgure_gcm_counter belongs to one thread at a time: a copy of it would give out
  * the same nonces again. A struct fotsgure_gcm_message also belongs to one thread at a time: a copy of it would encrypt
  * another text under the same nonce. */
 #ifndef FOTSGURE_GCM_H
@@ -61,13 +61,13 @@
 #define FOTSGURE_GCM_VERSION_TEXT "0.4.0"
 #define FOTSGURE_GCM_VERSION 400 /* 10000 * 0 + 100 * 4 + 0 */
 
-#define FOTSGURE_GCM_NONCE 12                             /* bytes of a counted nonce; use this length if you can */
-#define FOTSGURE_GCM_TAG 16                               /* bytes of a tag */
-#define FOTSGURE_GCM_MOST ((UINT64_C(1) << 36) - 32)      /* the most bytes of a text (5.2.1.1) */
+#define FOTSGURE_GCM_NONCE 12                                  /* bytes of a counted nonce; use this length if you can */
+#define FOTSGURE_GCM_TAG 16                                    /* bytes of a tag */
+#define FOTSGURE_GCM_MOST ((UINT64_C(1) << 36) - 32)           /* the most bytes of a text (5.2.1.1) */
 #define FOTSGURE_GCM_MOST_ADDITIONAL ((UINT64_C(1) << 61) - 1) /* the most bytes of additional data */
-#define FOTSGURE_GCM_SIV_NONCE 12                         /* bytes of a nonce of AES-GCM-SIV */
-#define FOTSGURE_GCM_SIV_MOST (UINT64_C(1) << 36)         /* its most bytes of a text, and of additional data (RFC 8452, 4) */
-#define FOTSGURE_GCM_STACK 16384                          /* bytes of stack that are enough for every call */
+#define FOTSGURE_GCM_SIV_NONCE 12                              /* bytes of a nonce of AES-GCM-SIV */
+#define FOTSGURE_GCM_SIV_MOST (UINT64_C(1) << 36)              /* its most bytes of a text, and of additional data (RFC 8452, 4) */
+#define FOTSGURE_GCM_STACK 16384                               /* bytes of stack that are enough for every call */
 
 #ifdef __cplusplus
 #define FOTSGURE_GCM_ALONE __restrict
@@ -104,7 +104,7 @@ enum fotsgure_gcm_status {
     FOTSGURE_GCM_REFUSED = 6,      /* the tag isn't that of this key, nonce, additional data and text */
     FOTSGURE_GCM_NONCES_END = 7,   /* the counter of nonces has no number left */
     FOTSGURE_GCM_OUT_OF_TURN = 8,  /* the calls for a message came in the wrong order */
-    FOTSGURE_GCM_NO_RANDOMNESS = 9,  /* the system gave no randomness for a nonce */
+    FOTSGURE_GCM_NO_RANDOMNESS = 9, /* the system gave no randomness for a nonce */
     FOTSGURE_GCM_UNEQUAL_LENGTHS = 10 /* input and output differ in length */
 };
 
@@ -133,8 +133,8 @@ struct fotsgure_gcm {
 };
 
 /* The next nonce of a key: 12 bytes, one number, highest byte first. Begin with zeros. If several senders share a key,
- * give each a different number in the first four bytes, and zeros in the other eight: no call sees where the range of a
- * sender ends. After each call, and before the message is sent, store `next`: after a restart, begin with what was
+ * give each a different number in the first four bytes, and zeros in the other eight. No call sees where the range of a
+ * sender ends. After each call, and before the message is sent, store `next`. After a restart, begin with what was
  * stored. fork() copies a counter too: afterwards only one of the two processes may use it. The last number of 12 bytes
  * is never used. */
 struct fotsgure_gcm_counter {
@@ -154,7 +154,7 @@ struct fotsgure_gcm_message {
 };
 
 /* A key of AES-GCM-SIV. Read and write it by the calls below alone. Builds with a byte shuffle keep the key in the first
- * 244 bytes, and neither read nor write the others: these comments then speak of these 244. */
+ * 244 bytes, and neither read nor write the others. What these comments say of the struct holds there for these 244. */
 struct fotsgure_gcm_siv {
     fotsgure_gcm_word key_length; /* 16 or 32; 0: no key */
     fotsgure_gcm_word round_keys[120];
@@ -214,8 +214,8 @@ FOTSGURE_GCM_CHECK enum fotsgure_gcm_status fotsgure_gcm_seal_next(const struct 
     uint8_t *FOTSGURE_GCM_ALONE text, size_t text_length,
     uint8_t tag[FOTSGURE_GCM_TAG]) FOTSGURE_GCM_NOEXCEPT;
 
-/* Decrypts `text_length` bytes in place if the tag is right (7.2). It is proved that a text that is refused is, when the
- * call returns, as it was. That the tag is compared before anything is decrypted was reviewed by hand, and isn't proved.
+/* Decrypts `text_length` bytes in place if the tag is right (7.2). A refused text is unchanged when the call returns: that
+ * is proved. That the tag is compared before anything is decrypted was reviewed by hand, and isn't proved.
  * TAG_LENGTH, NONCE_LENGTH, TOO_LONG, NO_KEY or REFUSED; else DONE. */
 FOTSGURE_GCM_CHECK enum fotsgure_gcm_status fotsgure_gcm_open(const struct fotsgure_gcm *gcm,
     const uint8_t *nonce, size_t nonce_length,
@@ -224,7 +224,7 @@ FOTSGURE_GCM_CHECK enum fotsgure_gcm_status fotsgure_gcm_open(const struct fotsg
     const uint8_t *tag, size_t tag_length) FOTSGURE_GCM_NOEXCEPT;
 
 /* The same from one buffer to another of the same length: decrypts `input` to `output`. After REFUSED the output is all
- * zeros; after another status but DONE it is as it was.
+ * zeros. After a status other than REFUSED and DONE it is unchanged.
  * UNEQUAL_LENGTHS, TAG_LENGTH, NONCE_LENGTH, TOO_LONG, NO_KEY or REFUSED; else DONE. */
 FOTSGURE_GCM_CHECK enum fotsgure_gcm_status fotsgure_gcm_open_to(const struct fotsgure_gcm *gcm,
     const uint8_t *nonce, size_t nonce_length,
@@ -238,9 +238,9 @@ FOTSGURE_GCM_CHECK enum fotsgure_gcm_status fotsgure_gcm_open_to(const struct fo
  *   to encrypt: begin, additional .., encrypt .., finish
  *   to decrypt: begin, additional .., verify .., accept, and then decrypt .., with the same cipher text once more
  *
- * A call in the wrong order is refused and changes nothing, and so is one that would make the message longer than the
- * standard allows. fotsgure_gcm_decrypt decrypts only after a call has found the tag right;
- * fotsgure_gcm_decrypt_unverified doesn't wait for it. A message may be abandoned at any time; wipe it when you are done.
+ * A call in the wrong order is refused and changes nothing. So is a call that would make the message longer than the
+ * standard allows. fotsgure_gcm_decrypt decrypts only after a call has found the tag right.
+ * fotsgure_gcm_decrypt_unverified doesn't wait for it. A message may be abandoned at any time. Wipe it when you are done.
  * Once some of its text was encrypted, its nonce is used, even if the message was never finished: begin again, with a new
  * nonce. */
 
@@ -259,7 +259,7 @@ FOTSGURE_GCM_CHECK enum fotsgure_gcm_status fotsgure_gcm_begin_next(const struct
     struct fotsgure_gcm_message *FOTSGURE_GCM_ALONE message, struct fotsgure_gcm_counter *FOTSGURE_GCM_ALONE counter,
     uint8_t nonce[FOTSGURE_GCM_NONCE]) FOTSGURE_GCM_NOEXCEPT;
 
-/* Takes a piece of the additional data, all of which comes before the text.
+/* Takes a piece of the additional data. All of it comes before the text.
  * NO_KEY, OUT_OF_TURN or TOO_LONG; else DONE. */
 FOTSGURE_GCM_CHECK enum fotsgure_gcm_status fotsgure_gcm_additional(const struct fotsgure_gcm *gcm,
     struct fotsgure_gcm_message *FOTSGURE_GCM_ALONE message,
@@ -276,8 +276,8 @@ FOTSGURE_GCM_CHECK enum fotsgure_gcm_status fotsgure_gcm_encrypt(const struct fo
 FOTSGURE_GCM_CHECK enum fotsgure_gcm_status fotsgure_gcm_finish(const struct fotsgure_gcm *gcm,
     struct fotsgure_gcm_message *FOTSGURE_GCM_ALONE message, uint8_t tag[FOTSGURE_GCM_TAG]) FOTSGURE_GCM_NOEXCEPT;
 
-/* Takes a piece of an encrypted text whose tag is to be compared, and writes nothing to it. DONE doesn't say that the
- * text is authentic: only fotsgure_gcm_accept says so, of all of it.
+/* Takes a piece of an encrypted text, and writes nothing to it. Its tag is compared later: DONE doesn't say that the text
+ * is authentic. Only fotsgure_gcm_accept says so, of the whole text.
  * NO_KEY, OUT_OF_TURN or TOO_LONG; else DONE. */
 FOTSGURE_GCM_CHECK enum fotsgure_gcm_status fotsgure_gcm_verify(const struct fotsgure_gcm *gcm,
     struct fotsgure_gcm_message *FOTSGURE_GCM_ALONE message,
@@ -290,18 +290,18 @@ FOTSGURE_GCM_CHECK enum fotsgure_gcm_status fotsgure_gcm_accept(const struct fot
     struct fotsgure_gcm_message *FOTSGURE_GCM_ALONE message,
     const uint8_t *tag, size_t tag_length) FOTSGURE_GCM_NOEXCEPT;
 
-/* Compares a tag of fewer than 16 bytes in the place of fotsgure_gcm_accept: of 4, 8 or 12 to 15 (5.2.1.2). `fixed_length`
- * is how many bytes all tags under the key have. It is fixed with the key: never read it from a message, since a
- * forger would choose how few bytes have to be right. For 4 and 8 bytes read appendix C first.
- * TAG_LENGTH if fixed_length is another number, or tag_length another than fixed_length; then as fotsgure_gcm_accept. */
+/* Compares a tag of 4, 8 or 12 to 15 bytes (5.2.1.2). Call it instead of fotsgure_gcm_accept. `fixed_length` is how many
+ * bytes all tags under the key have. It is fixed with the key. Never read it from a message: a forger would choose how
+ * few bytes have to be right. For 4 and 8 bytes read appendix C first.
+ * TAG_LENGTH if fixed_length is none of these numbers, or tag_length isn't fixed_length; else as fotsgure_gcm_accept. */
 FOTSGURE_GCM_CHECK enum fotsgure_gcm_status fotsgure_gcm_accept_short(const struct fotsgure_gcm *gcm,
     struct fotsgure_gcm_message *FOTSGURE_GCM_ALONE message, size_t fixed_length,
     const uint8_t *tag, size_t tag_length) FOTSGURE_GCM_NOEXCEPT;
 
-/* Decrypts a piece in place of the encrypted text whose tag was right: give the same text once more, from its beginning
+/* Decrypts in place a piece of the encrypted text whose tag was right. Give the same text once more, from its beginning
  * on. More than was verified is TOO_LONG. The library can't tell whether it is the same text, nor whether all of it has
- * come: what was changed since fotsgure_gcm_accept is decrypted too. So nobody may write the text in between; and compare
- * the numbers of bytes of both passes.
+ * come. What was changed since fotsgure_gcm_accept is decrypted too. So nobody may write the text in between. Compare the
+ * numbers of bytes of both passes.
  * NO_KEY, OUT_OF_TURN or TOO_LONG; else DONE. */
 FOTSGURE_GCM_CHECK enum fotsgure_gcm_status fotsgure_gcm_decrypt(const struct fotsgure_gcm *gcm,
     struct fotsgure_gcm_message *FOTSGURE_GCM_ALONE message,
@@ -328,8 +328,8 @@ void fotsgure_gcm_wipe_message(struct fotsgure_gcm_message *message) FOTSGURE_GC
 FOTSGURE_GCM_CHECK enum fotsgure_gcm_status fotsgure_gcm_siv_set_key(struct fotsgure_gcm_siv *FOTSGURE_GCM_ALONE siv,
     const uint8_t *key, size_t key_length) FOTSGURE_GCM_NOEXCEPT;
 
-/* Encrypts `text_length` bytes in place under a nonce that the caller brings, and writes the tag, which shows whether
- * the text or the additional data was changed (RFC 8452, 4). The additional data isn't encrypted, nor is it part of the
+/* Encrypts `text_length` bytes in place under a nonce of the caller's choice, and writes the tag (RFC 8452, 4). The tag
+ * shows whether the text or the additional data was changed. The additional data isn't encrypted, nor is it part of the
  * text.
  * TOO_LONG or NO_KEY; else DONE. */
 FOTSGURE_GCM_CHECK enum fotsgure_gcm_status fotsgure_gcm_siv_seal(const struct fotsgure_gcm_siv *siv,
@@ -357,8 +357,8 @@ FOTSGURE_GCM_CHECK enum fotsgure_gcm_status fotsgure_gcm_siv_seal_random(const s
     uint8_t tag[FOTSGURE_GCM_TAG]) FOTSGURE_GCM_NOEXCEPT;
 
 /* Decrypts `text_length` bytes in place if the tag is right (RFC 8452, 5). The tag can be compared only once the text is
- * decrypted, so a text that is refused is encrypted again: it is proved that it is, when the call returns, as it was.
- * Until then the text holds what nobody has authenticated.
+ * decrypted. So a refused text is encrypted again, and is unchanged when the call returns: that is proved. Until then the
+ * text holds what nobody has authenticated.
  * TOO_LONG, NO_KEY or REFUSED; else DONE. */
 FOTSGURE_GCM_CHECK enum fotsgure_gcm_status fotsgure_gcm_siv_open(const struct fotsgure_gcm_siv *siv,
     const uint8_t nonce[FOTSGURE_GCM_SIV_NONCE],
@@ -367,8 +367,8 @@ FOTSGURE_GCM_CHECK enum fotsgure_gcm_status fotsgure_gcm_siv_open(const struct f
     const uint8_t tag[FOTSGURE_GCM_TAG]) FOTSGURE_GCM_NOEXCEPT;
 
 /* The same from one buffer to another of the same length: decrypts `input` to `output`. After REFUSED the output is all
- * zeros; after another status but DONE it is as it was. Until the call returns, the output holds what nobody has
- * authenticated.
+ * zeros. After a status other than REFUSED and DONE it is unchanged. Until the call returns, the output holds what nobody
+ * has authenticated.
  * UNEQUAL_LENGTHS, TOO_LONG, NO_KEY or REFUSED; else DONE. */
 FOTSGURE_GCM_CHECK enum fotsgure_gcm_status fotsgure_gcm_siv_open_to(const struct fotsgure_gcm_siv *siv,
     const uint8_t nonce[FOTSGURE_GCM_SIV_NONCE],
@@ -400,7 +400,7 @@ static inline const char *fotsgure_gcm_status_text(enum fotsgure_gcm_status stat
     return "this header doesn't know the status";
 }
 
-/* Overwrites bytes of yours with zeros, for example a key, by writes that the compiler doesn't leave out. */
+/* Overwrites the caller's bytes with zeros, for example a key, by writes that the compiler doesn't leave out. */
 static inline void fotsgure_gcm_wipe_bytes(void *bytes, size_t count) FOTSGURE_GCM_NOEXCEPT
 {
     volatile uint8_t *byte = FOTSGURE_GCM_CAST(static_cast, volatile uint8_t *, bytes);

@@ -1,6 +1,6 @@
 // AES-GCM-SIV and AES-GCM for C++17 over fotsgure_gcm.h: keys that wipe themselves, and a counter that can't be copied.
-// The classes meet the header's conditions, except those that stay with their caller: no nonce twice under a key of GCM,
-// valid bytes, no overlap, no data race, enough stack, and a processor that fits.
+// The classes meet the header's conditions, except those that their caller has to meet. These are no nonce twice under a
+// key of GCM, valid bytes, no overlap, no data race, enough stack, and a processor that fits.
 #ifndef FOTSGURE_GCM_HPP
 #define FOTSGURE_GCM_HPP
 
@@ -113,7 +113,7 @@ private:
     fotsgure_gcm_counter counter{};
 };
 
-// A message in pieces of any size, which Gcm::begin and begin_next make; the key has to stay where it is meanwhile. Calls in
+// A message in pieces of any size, which Gcm::begin and begin_next make. Meanwhile the key has to stay where it is. Calls in
 // the wrong order throw std::logic_error and change nothing. It is as secret as the key, and the destructor wipes it. It can't
 // be copied: a copy would encrypt another text under the same nonce.
 class Message {
@@ -123,7 +123,7 @@ public:
     Message &operator=(const Message &) = delete;
     Message(Message &&from) noexcept : gcm(from.gcm), message(from.message) { fotsgure_gcm_wipe_message(&from.message); }
 
-    // A piece of the additional data, all of which comes before the text.
+    // Takes a piece of the additional data. All of it comes before the text.
     void additional(Bytes data) { detail::check(fotsgure_gcm_additional(gcm, &message, data.data(), data.size())); }
     // Encrypts a piece of the text in place.
     void encrypt(MutableBytes text) { detail::check(fotsgure_gcm_encrypt(gcm, &message, text.data(), text.size())); }
@@ -133,7 +133,7 @@ public:
         detail::check(fotsgure_gcm_finish(gcm, &message, tag.data()));
         return tag;
     }
-    // A piece of an encrypted text, whose tag is to be compared.
+    // Takes a piece of an encrypted text, whose tag `accept` compares later.
     void verify(Bytes text) { detail::check(fotsgure_gcm_verify(gcm, &message, text.data(), text.size())); }
     // Throws Refused, and wipes the message, if the tag isn't that of what has come.
     void accept(Bytes tag) { accepted(fotsgure_gcm_accept(gcm, &message, tag.data(), tag.size())); }
@@ -141,7 +141,7 @@ public:
     void accept_short(std::size_t fixed_length, Bytes tag) {
         accepted(fotsgure_gcm_accept_short(gcm, &message, fixed_length, tag.data(), tag.size()));
     }
-    // Decrypts a piece in place of the text whose tag was right: the same text once more, from its beginning on.
+    // Decrypts in place a piece of the text whose tag was right: the same text once more, from its beginning on.
     void decrypt(MutableBytes text) { detail::check(fotsgure_gcm_decrypt(gcm, &message, text.data(), text.size())); }
     // Adds a piece as `verify` does and decrypts it at once. NOBODY HAS AUTHENTICATED IT: use nothing of it before `accept` has
     // returned, and discard it if that throws.

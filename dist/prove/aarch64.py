@@ -1,6 +1,6 @@
-"""64-bit ARM on symbolic bytes: each instruction that occurs on the paths of the libraries, as the processor's manual defines it (Arm
-Architecture Reference Manual, C6.2 and C7.2). What both machines share is in machine.py. objdump names instructions without aliases:
-`mov x0, x1` is `orr x0, xzr, x1`, and `cmp x0, #1` is `subs xzr, x0, #1`."""
+"""Defines 64-bit ARM on symbolic bytes: each instruction that occurs on the paths of the libraries. The meanings are those of the
+processor's manual (Arm Architecture Reference Manual, C6.2 and C7.2). machine.py has what all machines share. objdump prints no aliases
+here: `mov x0, x1` is `orr x0, xzr, x1`, and `cmp x0, #1` is `subs xzr, x0, #1`."""
 import functools
 import re
 from collections import namedtuple
@@ -9,30 +9,34 @@ from bits import LOST, Undefined, Unproved
 from borders import apart
 from linear import Linear
 from machine import Machine
-from operands import (RETURN_ADDRESS, SECRET, Instruction, Memory, Register, Scaled, Table, Vector, constant, contrary, form, interleaved,
-                      is_int, joined, lanes)
+from operands import (CODE, RETURN_ADDRESS, SECRET, Instruction, Memory, Pointer, Register, Scaled, Table, Vector, concatenated, constant,
+                      contrary, form, interleaved, is_int, lanes)
 
 Shifted = namedtuple("Shifted", "operand how count")
 LANES = {"b": 1, "h": 2, "s": 4, "d": 8, "q": 16}
 X = ["x%d" % n for n in range(31)]
 REGISTERS = {n: Register(n, 8) for n in X + ["sp", "xzr"]}
 REGISTERS.update({"w" + n[1:]: Register(n, 4) for n in X + ["xzr"]})
-CONDITIONS = "eq ne cs cc mi pl vs vc hi ls ge lt gt le".split()  # the second of two is the contrary of the first
+CONDITIONS = "eq ne cs cc mi pl vs vc hi ls ge lt gt le".split()  # in pairs: the second is the contrary of the first
 WITH_TARGET = "b", "bl", "cbz", "cbnz", "tbz", "tbnz", "adrp"
 
 
 class Aarch64(Machine):
-    """With the AAPCS64, in which the stack is aligned to 16 bytes and nothing below the stack pointer may be used."""
+    """Describes 64-bit ARM with the AAPCS64. There the stack is aligned to 16 bytes, and nothing below the stack pointer may be used."""
     tools, objdump, later = "aarch64-linux-gnu-", ("-M", "no-aliases"), None
     compiler, linker = (tools + "gcc",), (tools + "ld",)
     registers, stack_pointer, stack_step = X + ["sp"], "sp", 16
     vector_count, vector_size = 32, 16
     arguments, result = X[:8], "x0"
     kept, kept_vectors = X[18:30] + ["sp"], dict.fromkeys(range(8, 16), 8)
-    scratch, reserved = X[:18], ("x18",)  # the system's on some
+    scratch, reserved = X[:18], ("x18",)  # some systems use x18 themselves
     red_zone, mark, comment = 0, r"hint\s#0x22", "//"
     jumps = r"b(?:\.\w+)?|cbn?z|tbn?z"
     conditional, padding = r"b\.|cbn?z|tbn?z|adcs?\s|sbcs?\s|csinc\s.*, c[cs]\b", "nop|udf"
+    sets_flags = "adds|subs|ands|bics|adcs|sbcs|ccmp|ccmn"
+    without_result, stores = r"b$|b\.|bl|br|ret|cb|tb|ccmp|hint|prfm", "st"
+    only_writes, moves, cancels = "(?!movk|bfm|ins|usra)", "ldu?r|stu?r|ldp|stp", "eor|sub"
+    two_results, affine = "ldp", "(add|sub)s?"
     choosing = r"csel|csinc\s(?!.*, c[cs]\b)|csinv|ccmp"
 
     def enter(self, arguments):
@@ -67,11 +71,11 @@ class Aarch64(Machine):
 
     def lost_bytes(self, count):
         b = self.domain.opaque(LOST)
-        self.lost.add(b)
+        self.secret.lost.add(b)
         return (b,) * count
 
     def condition(self, code):
-        """By the manual's flags n, z, c and v; n and v are s and o here."""
+        """Says whether a condition holds, by the manual's flags n, z, c and v. Here n and v are s and o."""
         flag, number = lambda name: self.decide(self.flags[name]), CONDITIONS.index(code)
         if code in ("hi", "ls"):
             holds = not self.at_most(contrary(self.flags["c"]), self.flags["z"])
@@ -80,9 +84,9 @@ class Aarch64(Machine):
         else:
             holds = flag("zcso"[number // 2])
         if code in ("cs", "cc", "hi", "ls"):
-            self.meets_carry(code in ("hi", "ls"))
+            self.note_border_of_carry(code in ("hi", "ls"))
         elif code in ("mi", "pl", "ge", "lt", "gt", "le"):
-            self.meets_sign(code in ("gt", "le"))
+            self.note_border_of_sign(code in ("gt", "le"))
         return int(holds != number % 2)
 
 
@@ -124,8 +128,8 @@ def operand(text):
 
 
 def parse(text, with_target):
-    """The operands in a line. A shift, or the byte that is taken, belongs to the operand before it, and a number after memory says how the
-    base register is moved."""
+    """Reads the operands of a line. A shift belongs to the operand before it, and so does `uxtb`. A number after memory says how far the
+    base register moves then."""
     tokens, out = TOKEN.findall(text), []
     target = [int(tokens.pop(), 16)] if with_target else []
     for one in map(operand, tokens):
@@ -137,9 +141,9 @@ def parse(text, with_target):
     return out + target
 
 
-# Instructions: their meanings by their names. Each takes the machine, its own name, and its operands.
+# The meanings of instructions, by their names. Each is called with the machine, its own name and its operands.
 def is_zero(m, a):
-    return m.decide(m.compared(m.get(a), 0, a.size).get("z"))
+    return m.decide(m.flags_of_difference(m.get(a), 0, a.size).get("z"))
 
 
 def is_set(m, a, n):
@@ -157,7 +161,7 @@ TABLE = Table({
     "tbnz": lambda m, name, a, n, to: m.go_to(to if is_set(m, a, n) else m.next_address),
     "movz": lambda m, name, to, value: m.put(to, m.get(value)),
     "movn": lambda m, name, to, value: m.put(to, ~m.get(value) & (1 << 8 * to.size) - 1),
-    "adrp": lambda m, name, to, page: m.put(to, page),
+    "adrp": lambda m, name, to, page: m.put(to, Pointer(CODE, page)),
     "umulh": lambda m, name, to, a, b: m.put(to, m.high_product(m.get(a), m.get(b))),
     **dict.fromkeys(("lslv", "lsrv"), lambda m, name, to, a, n: m.put(to, m.shift(name[:3], m.get(a), constant(
         "a count", m.get(n)) % (8 * to.size), to.size))),
@@ -169,13 +173,13 @@ for _code in CONDITIONS:
 
 @TABLE.of("bl", "blr")
 def call(m, name, to):
-    to, m.general["x30"] = m.get(to), m.next_address
+    to, m.general["x30"] = m.get(to), Pointer(CODE, m.next_address)
     m.go_to(to)
 
 
 @TABLE.of("hint")
 def hint(m, name, number):
-    """BTI: where an indirect call may arrive."""
+    """Runs BTI, which marks where an indirect call may arrive."""
     if number != 0x22:
         raise Unproved("a hint that isn't BTI")
 
@@ -200,12 +204,12 @@ def select(m, name, to, a, b, code):
 # Numbers.
 @TABLE.of("add", "adds")
 def add(m, name, to, a, b):
-    """A sum that isn't needed may have carries of which nothing is known. Nothing may be computed with it."""
+    """Adds. Of some sums the carries aren't known. Then the bytes of the result are lost: nothing may be computed with them."""
     if isinstance(to, Vector):
-        return of_bytes(lambda m, a, b: list(map(m.add_byte, a, b)))(m, name, to, a, b)
+        return of_single_bytes(lambda m, a, b: list(map(m.add_byte, a, b)))(m, name, to, a, b)
     x, y = m.get(a), m.get(b)
     if to.name == "xzr" and type(x) is tuple and is_int(y):
-        return m.set_flags(**m.compared(x, -y, to.size))  # z is set if x is -y
+        return m.set_flags(**m.flags_of_difference(x, -y, to.size))  # z is set if x is -y
     try:
         r, flags = m.plus(x, y, 0, to.size)
     except Unproved as e:
@@ -221,7 +225,7 @@ def add(m, name, to, a, b):
 @TABLE.of("sub", "subs")
 def sub(m, name, to, a, b):
     x, y = m.get(a), m.get(b)
-    r, flags = (None, m.compared(x, y, to.size)) if to.name == "xzr" else m.minus(x, y, to.size)
+    r, flags = (None, m.flags_of_difference(x, y, to.size)) if to.name == "xzr" else m.minus(x, y, to.size)
     if name == "subs":
         m.set_flags(**flags)
         m.apart = apart(x, y, to.size)
@@ -232,7 +236,7 @@ def sub(m, name, to, a, b):
 def ccmp(m, name, a, b, flags, code):
     if m.chosen(m.condition(code)):
         x, y = m.get(a), m.get(b)
-        m.set_flags(**m.compared(x, y, a.size))
+        m.set_flags(**m.flags_of_difference(x, y, a.size))
         m.apart = apart(x, y, a.size)
     else:
         m.set_flags(s=flags >> 3 & 1, z=flags >> 2 & 1, c=flags >> 1 & 1, o=flags & 1)
@@ -258,14 +262,14 @@ def logic(m, name, to, a, b):
     elif name == "orr" and a == b:
         m.write(to, m.read(a))
     elif name == "bic":
-        m.write(to, [without(m, x, y) for x, y in zip(m.read(a), m.read(b))])
+        m.write(to, [and_not(m, x, y) for x, y in zip(m.read(a), m.read(b))])
     else:
         m.write(to, m.bytewise(LOGIC[name], m.read(a), m.read(b)))
 
 
-def without(m, x, y):
-    """x and not y, where y may be the result of a comparison."""
-    known = m.equalities.get(y)
+def and_not(m, x, y):
+    """Computes `x and not y` of bytes, where y may be the result of a comparison."""
+    known = m.secret.equalities.get(y)
     if known and x < 256:
         return m.equality(known[0], x & ~known[1], x & ~known[2])
     return m.bytewise("and not", [x], [y])[0]
@@ -273,7 +277,7 @@ def without(m, x, y):
 
 @TABLE.of("ubfm", "sbfm", "bfm")
 def bitfield(m, name, to, a, r, s):
-    """The bits r to s go down to bit 0 if r <= s, else the bits 0 to s go up to bit size - r."""
+    """Moves a field of bits. If r <= s, the bits r to s go down to bit 0. Else the bits 0 to s go up to bit size - r."""
     right, number = s == 8 * to.size - 1, isinstance(m.get(a), (Linear, Scaled))
     if name == "ubfm" and right and (number or r % 8 == 0):  # a shift to the right
         return m.put(to, m.shift("lsr", m.get(a), r, to.size))
@@ -290,7 +294,7 @@ def bitfield(m, name, to, a, r, s):
     m.put(to, m.unbits(out))
 
 
-# Memory. What a pair of registers has lies side by side.
+# Memory. The values of a pair of registers lie side by side.
 @TABLE.of("ldr", "ldur", "ldp", "ldrb", "ldurb", "ldar", "ldaxr", "ld1")
 def load(m, name, *operands):
     *registers, source = operands
@@ -314,63 +318,64 @@ def store(m, name, *operands):
 
 @TABLE.of("stlxr")
 def store_exclusive(m, name, failed, source, to):
-    """It succeeds. It may fail, and stores nothing then; the code tries again, and does then what it does here."""
+    """Stores, and succeeds. A processor may also fail and store nothing. Then the code tries again, until it succeeds as here."""
     m.store(m.address(to), m.read(source), source.size)
     m.put(failed, 0)
 
 
-# Vectors. A row makes the result from the bytes of the sources, for a register that has lanes.
-def made(f):
+# Vectors. The result is in a register that has lanes.
+def from_sources(f):
+    """Makes the meaning of an instruction from a function of the bytes of its sources."""
     return lambda m, name, to, *sources: m.write(to, f(m, to.lane, *[m.read(o) if isinstance(o, Vector) else m.get(o) for o in sources]))
 
 
-def of_bytes(f):
-    """`made` for lanes of one byte. Others are refused: in them carries, or what is 0, would be those of larger numbers."""
+def of_single_bytes(f):
+    """Does what `from_sources` does, for lanes of one byte. Refuses larger lanes: carries and zeros would be those of larger numbers."""
     def run(m, name, to, *sources):
         if to.lane != 1:
             raise Unproved("instruction not covered: %s of larger lanes than bytes" % name)
-        made(lambda m, lane, *values: f(m, *values))(m, name, to, *sources)
+        from_sources(lambda m, lane, *values: f(m, *values))(m, name, to, *sources)
     return run
 
 
-def some(m, byte):
-    """Ones if a byte isn't 0."""
+def ones_unless_zero(m, byte):
+    """Gives a byte of ones if a byte isn't 0, else 0."""
     bit = functools.reduce(m.domain.or_, m.domain.bits(byte))
     return m.domain.pack([bit] * 8)
 
 
-def in_each(to, b):
+def in_each_lane(to, b):
     return b[:to.lane] * (to.size // to.lane)
 
 
 TABLE.update({
-    "neg": of_bytes(lambda m, a: [m.add_byte(0, m.domain.xor_byte(x, 255), 1) for x in a]),
-    "not": made(lambda m, lane, a: [without(m, 255, x) for x in a]),
-    "cmlt": of_bytes(lambda m, a, zero: list(map(m.signs, a))),
-    "cmtst": of_bytes(lambda m, a, b: [some(m, m.domain.and_byte(x, y)) for x, y in zip(a, b)]),
-    "cmeq": of_bytes(lambda m, a, b: [m.equality(m.domain.xor_byte(x, y), 255, 0) for x, y in zip(a, b or [0] * 16)]),
-    "shl": made(lambda m, lane, a, n: m.shift_lanes("lsl", a, lane, n)),
-    "ushr": made(lambda m, lane, a, n: m.shift_lanes("lsr", a, lane, n)),
-    "ushll": made(lambda m, lane, a, n: m.shift_lanes("lsl", interleaved(a, [0] * 16, lane // 2), lane, n)),
-    "ushll2": made(lambda m, lane, a, n: m.shift_lanes("lsl", interleaved(a[8:], [0] * 8, lane // 2), lane, n)),
-    "ext": made(lambda m, lane, a, b, n: (a + b)[n:n + len(a)]),
-    "xtn": made(lambda m, lane, a: joined(lanes(a, lane)[::2])),
-    "uzp1": made(lambda m, lane, a, b: joined(lanes(a + b, lane)[::2])),
-    "trn1": made(lambda m, lane, a, b: joined(x + y for x, y in list(zip(lanes(a, lane), lanes(b, lane)))[::2])),
-    "zip1": made(lambda m, lane, a, b: interleaved(a, b, lane)[:len(a)]),
-    "zip2": made(lambda m, lane, a, b: interleaved(a, b, lane)[len(a):]),
+    "neg": of_single_bytes(lambda m, a: [m.add_byte(0, m.domain.xor_byte(x, 255), 1) for x in a]),
+    "not": from_sources(lambda m, lane, a: [and_not(m, 255, x) for x in a]),
+    "cmlt": of_single_bytes(lambda m, a, zero: list(map(m.signs, a))),
+    "cmtst": of_single_bytes(lambda m, a, b: [ones_unless_zero(m, m.domain.and_byte(x, y)) for x, y in zip(a, b)]),
+    "cmeq": of_single_bytes(lambda m, a, b: [m.equality(m.domain.xor_byte(x, y), 255, 0) for x, y in zip(a, b or [0] * 16)]),
+    "shl": from_sources(lambda m, lane, a, n: m.shift_lanes("lsl", a, lane, n)),
+    "ushr": from_sources(lambda m, lane, a, n: m.shift_lanes("lsr", a, lane, n)),
+    "ushll": from_sources(lambda m, lane, a, n: m.shift_lanes("lsl", interleaved(a, [0] * 16, lane // 2), lane, n)),
+    "ushll2": from_sources(lambda m, lane, a, n: m.shift_lanes("lsl", interleaved(a[8:], [0] * 8, lane // 2), lane, n)),
+    "ext": from_sources(lambda m, lane, a, b, n: (a + b)[n:n + len(a)]),
+    "xtn": from_sources(lambda m, lane, a: concatenated(lanes(a, lane)[::2])),
+    "uzp1": from_sources(lambda m, lane, a, b: concatenated(lanes(a + b, lane)[::2])),
+    "trn1": from_sources(lambda m, lane, a, b: concatenated(x + y for x, y in list(zip(lanes(a, lane), lanes(b, lane)))[::2])),
+    "zip1": from_sources(lambda m, lane, a, b: interleaved(a, b, lane)[:len(a)]),
+    "zip2": from_sources(lambda m, lane, a, b: interleaved(a, b, lane)[len(a):]),
     **dict.fromkeys(("fmov", "umov"), lambda m, name, to, a: m.write(to, m.read(a) + [0] * (to.size - a.size))),
-    "ld1r": lambda m, name, to, source: m.write(to[0], in_each(to[0], m.load(m.address(source), to[0].lane))),
+    "ld1r": lambda m, name, to, source: m.write(to[0], in_each_lane(to[0], m.load(m.address(source), to[0].lane))),
     "ins": lambda m, name, to, a: m.write(to, m.read(a)[:to.lane]),
-    "dup": lambda m, name, to, a: m.write(to, in_each(to, m.read(a))),
-    "movi": lambda m, name, to, value: m.write(to, in_each(to, m.to_bytes(m.get(value), 8))),
-    "mvni": lambda m, name, to, value: m.write(to, in_each(to, m.to_bytes(~m.get(value), 8))),
+    "dup": lambda m, name, to, a: m.write(to, in_each_lane(to, m.read(a))),
+    "movi": lambda m, name, to, value: m.write(to, in_each_lane(to, m.to_bytes(m.get(value), 8))),
+    "mvni": lambda m, name, to, value: m.write(to, in_each_lane(to, m.to_bytes(~m.get(value), 8))),
 })
 
 
 @TABLE.of("ushl")
 def ushl(m, name, to, a, counts):
-    """The lowest byte of a lane of `counts` is a number with a sign: positive ones shift to the left."""
+    """Shifts each lane by the lowest byte of a lane of `counts`. That is a number with a sign: a positive one shifts to the left."""
     out = []
     for b, count in zip(lanes(m.read(a), to.lane), lanes(m.read(counts), to.lane)):
         n = constant("the count of a shift", m.from_bytes(count)) & 255
@@ -380,15 +385,15 @@ def ushl(m, name, to, a, counts):
 
 @TABLE.of("usra")
 def usra(m, name, to, a, n):
-    """A shift to the right, added."""
-    of_bytes(lambda m, a, n: list(map(m.add_byte, m.read(to), m.shift_lanes("lsr", a, 1, n))))(m, name, to, a, n)
+    """Shifts to the right, and adds the result."""
+    of_single_bytes(lambda m, a, n: list(map(m.add_byte, m.read(to), m.shift_lanes("lsr", a, 1, n))))(m, name, to, a, n)
 
 
 @TABLE.of("umaxv")
 def umaxv(m, name, to, a):
-    """The largest of bytes. Each of them may be 0 if two bytes are equal, else 255: then it is 0 only if all are equal."""
+    """Gives the largest of bytes. Each may be 0 if two other bytes are equal, else 255. Then the result is 0 only if all are equal."""
     b = [x for x in m.read(a) if x] or [0]
-    known = [m.equalities.get(x) for x in b]
+    known = [m.secret.equalities.get(x) for x in b]
     if a.lane == 1 and (255 in b or max(b) < 256):
         return m.write(to, [255 if 255 in b else max(b)])
     if a.lane != 1 or None in known or {k[1:] for k in known} != {(0, 255)}:
@@ -398,9 +403,9 @@ def umaxv(m, name, to, a):
 
 @TABLE.of("addv")
 def addv(m, name, to, a):
-    """The sum of lanes that are 0 if bytes are equal: if it can't be too large, it is 0 only if all are equal."""
+    """Adds lanes that are 0 if two bytes are equal. If the sum can't be too large, it is 0 only if all are equal."""
     b = m.read(a)
-    known = [m.equalities.get(x) for x in b]
+    known = [m.secret.equalities.get(x) for x in b]
     if max(b) < 256:
         return m.write(to, m.to_bytes(sum(m.from_bytes(x) for x in lanes(b, a.lane)), a.lane))
     if None in known or any(equal for _, equal, _ in known) or a.lane != 2 or any(
@@ -419,12 +424,12 @@ def index_of_16(bits):
 
 @TABLE.of("tbl")
 def tbl(m, name, to, registers, indices):
-    """An index past the table's end gives 0."""
-    table = tuple(joined(map(m.read, registers)))
-    m.write(to, m.looked_up(table, m.read(indices), whole_index if len(table) > 16 else index_of_16))
+    """Looks bytes up in a table. An index past the table's end gives 0."""
+    table = tuple(concatenated(map(m.read, registers)))
+    m.write(to, m.look_up(table, m.read(indices), whole_index if len(table) > 16 else index_of_16))
 
 
 @TABLE.of("rev", "rev32", "rev64")
 def reverse(m, name, to, a):
     size, lane = int(name[3:] or 8 * to.size) // 8, to.lane if isinstance(to, Vector) else 1
-    m.write(to, joined(joined(lanes(b, lane)[::-1]) for b in lanes(m.read(a), size)))
+    m.write(to, concatenated(concatenated(lanes(b, lane)[::-1]) for b in lanes(m.read(a), size)))

@@ -1,10 +1,9 @@
-"""Operands and memory: which accesses are allowed, and what they read and write."""
+"""Reads and writes operands and memory, and refuses accesses that aren't allowed."""
 from bits import Pause, Unproved
 from linear import Linear, is_number
-from operands import HEAD, Memory, Number, Pointer, Register, Vector, is_int, is_pointer
+from operands import CODE, HEAD, Memory, Number, Pointer, Register, Vector, in_code, is_int, is_pointer
 from regions import Window
 
-PAGE = 4096  # the smallest page of memory
 UNALIGNED = "an aligned access of %s, of which the alignment isn't known"
 
 
@@ -16,7 +15,7 @@ class Access:
         return o if isinstance(o, int) else self.from_bytes(self.load(self.address(o), o.size, o.align))
 
     def put(self, o, v):
-        """A write of 4 bytes clears the rest of the register, one of 1 or 2 leaves it."""
+        """Writes an operand. A write of 4 bytes clears the rest of the register. One of 1 or 2 bytes leaves the rest."""
         if isinstance(o, Memory):
             self.store(self.address(o), self.to_bytes(v, o.size), o.align)
         elif o.name in self.reserved:
@@ -28,7 +27,7 @@ class Access:
             self.general[o.name] = self.from_bytes(old[:o.at] + self.to_bytes(v, o.size) + old[o.at + o.size:])
 
     def read(self, o):
-        """The bytes of an operand."""
+        """Gives the bytes of an operand."""
         if isinstance(o, Vector):
             return self.vectors[o.number][o.at:o.at + o.size]
         return self.load(self.address(o), o.size, o.align) if isinstance(o, Memory) else self.to_bytes(self.get(o), o.size)
@@ -43,7 +42,7 @@ class Access:
             self.put(o, self.from_bytes(b))
 
     def address(self, o):
-        """The address of an access. The base register is moved before it here, and after it by `load` and `store` of ARM."""
+        """Gives the address of an access, and moves the base register before it. ARM's `load` and `store` move it after the access."""
         self.move(o.base, o.before)
         a = o.offset
         for name, scale in ((o.base, 1), (o.index, o.scale)):
@@ -61,7 +60,8 @@ class Access:
             self.general[register] = self.offset(self.general[register], by)
 
     def prepare(self, instruction, middle):
-        """For an instruction by itself: addresses that it may access, in the midst of the buffer or of the stack, or jump to."""
+        """Prepares an instruction that runs alone. Its registers get addresses to which it may jump, or that lie in the middle of a
+        region."""
         for o in instruction.operands:
             if isinstance(o, Memory) and instruction.name != "lea":
                 if o.index:
@@ -72,10 +72,14 @@ class Access:
                     self.general[o.base] = Pointer(place, middle + back // step * step)
             elif isinstance(o, Register) and instruction.name in ("jmp", "call", "blr", "br"):
                 self.general[o.name] = self.program.symbols["start"]
+            elif instruction.name == "sub" and instruction.operands[0] == Register(self.stack_pointer, self.word) != o and isinstance(
+                    o, Register):
+                self.general[o.name] = 2 * self.word  # the stack pointer stays aligned
 
     # Memory.
     def place(self, address, size, write, align=1):
-        """The list of bytes that an access means, and where in it; or Unproved, if the access isn't allowed."""
+        """Gives the list of bytes that an access means, and the place in it. Refuses an access that isn't allowed."""
+        address = in_code(address)
         if isinstance(address, int) and not write and address % align == 0:
             for start, content in self.program.constants:
                 if start <= address and address + size <= start + len(content):
@@ -87,7 +91,7 @@ class Access:
         return place(region, *address, size, write, align)
 
     def place_in_window(self, window, base, offset, size, write, align):
-        """What `place` gives of a buffer of any length."""
+        """Does what `place` does, for a buffer of any length."""
         if window.waits:
             raise Pause("accesses %s while the key is expanded" % base)
         if not self.implied(offset) or not self.implied(window.whole - offset - size):
@@ -104,30 +108,20 @@ class Access:
         return self.place_in_region(window, base, window.reached(self, offset, size), size, write, align)
 
     def place_in_region(self, region, base, offset, size, write, align):
-        """What `place` gives of a region whose bytes are all there."""
+        """Does what `place` does, for a region whose bytes are all there."""
         if offset < 0 or offset + size > len(region.content):
             raise Unproved("%s %d bytes at %d of %s, which has %d" % (
                 "writes" if write else "reads", size, offset, base, len(region.content)))
         if write and not region.writable:
             raise Unproved("writes to %s" % base)
         if base == "stack":
-            self.reach_in_stack(offset, size, write)
+            self.stack.reach(offset, size, write, self.general[self.stack_pointer].offset - self.red_zone)
         if region.align % align or offset % align:
             raise Unproved(UNALIGNED % base)
         return region.content, offset
 
-    def reach_in_stack(self, offset, size, write):
-        """Refuses an access of the stack outside of what a function may use of it, and notes how deep it is."""
-        if write and offset + size > self.top:
-            raise Unproved("writes above its stack frame")
-        if offset < self.general[self.stack_pointer].offset - self.red_zone:
-            raise Unproved("accesses the stack below the red zone")
-        if offset < self.lowest - PAGE:  # where there may be no page yet, or that of something else
-            raise Unproved("accesses the stack %d bytes below all that was accessed" % (self.lowest - offset))
-        self.lowest = min(self.lowest, offset)
-
     def in_head(self, address, size):
-        """How many bytes of an access lie in the head of a buffer, if others lie behind it."""
+        """Counts the bytes of an access in the head of a buffer, if other bytes lie after the head. Else the count is 0."""
         region = self.regions.get(address.base) if is_pointer(address) else None
         head = region.head if isinstance(region, Window) and is_int(address.offset) else 0
         return head - address.offset if head and address.offset < head < address.offset + size else 0
@@ -137,9 +131,19 @@ class Access:
         if inside:
             return self.load(address, inside, align) + self.load(self.offset(address, inside), size - inside)
         content, o = self.place(address, size, False, align)
-        if self.stale and content is self.regions["stack"].content and not self.stale.isdisjoint(range(o, o + size)):
+        if content is self.program.addresses:
+            return self.addresses_at(content[o:o + size])
+        if not is_pointer(in_code(address)):
+            self.program.noted.looked_up.add((self.last, in_code(address)))
+        if self.stack.stale and content is self.regions["stack"].content and self.stack.is_stale(o, size):
             raise Unproved("reads what may have been overwritten below the stack pointer")
         return list(content[o:o + size])
+
+    def addresses_at(self, content):
+        """Gives an address that the linker put into its table."""
+        if len(content) != self.word:
+            raise Unproved("reads a part of an address")
+        return self.to_bytes(Pointer(CODE, int.from_bytes(content, "little")), self.word)
 
     def store(self, address, b, align=1):
         inside = self.in_head(address, len(b))
@@ -149,7 +153,7 @@ class Access:
         content, o = self.place(address, len(b), True, align)
         content[o:o + len(b)] = b
         if address.base != "stack":
-            self.wrote.setdefault(address.base, set()).update(b)
-        if self.stale and content is self.regions["stack"].content:
-            self.stale.difference_update(range(o, o + len(b)))
-        self.written = content, o
+            self.ever_written.setdefault(address.base, set()).update(b)
+        if self.stack.stale and content is self.regions["stack"].content:
+            self.stack.mark_written(o, len(b))
+        self.last_written = content, o

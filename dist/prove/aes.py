@@ -1,5 +1,5 @@
-"""The statements for blocks, counter mode and CBC of fotsgure_aes.h, beside the sentence of the header that each proves (.. is where some
-of it is left out). Those for its other calls are in key_wrap.py, cmac_ccm.py and single_rounds.py."""
+"""States the calls of fotsgure_aes.h for blocks, counter mode and CBC. Each statement quotes the sentence of the header that it proves
+(keyed.py says how). The statements for the other calls are in key_wrap.py, cmac_ccm.py and single_rounds.py."""
 import itertools
 
 from bits import DATA, LOST, PUBLIC, Unproved
@@ -15,7 +15,7 @@ from standards import number
 
 
 class KeyedAes(SingleRounds, CmacCcm, KeyWrap, Keyed):
-    """All calls of fotsgure_aes.h; here those on blocks, counter mode and CBC."""
+    """Has the statements for all calls of fotsgure_aes.h. Those for blocks, counter mode and CBC are here."""
 
     # Blocks.
     def data_blocks(self, count):
@@ -31,13 +31,13 @@ class KeyedAes(SingleRounds, CmacCcm, KeyWrap, Keyed):
         return self.call_in_each_way("aes_%s_blocks" % direction, way, [], "blocks", content, results, count,
                                      plain=content if direction == "encrypt" else results)
 
-    # Calls of every length (lengths.py): step * n + `rest` blocks or bytes, for every n of which the buffer isn't larger than PTRDIFF_MAX.
+    # Calls of every length (lengths.py): step * n + `rest` blocks or bytes. The facts say that the buffer isn't larger than PTRDIFF_MAX.
     def in_last_block(self, pattern, count):
-        """The bytes of a pattern in the last block."""
+        """Gives a function of the machine: the bytes of a pattern in the last block."""
         return lambda m: [self.domain.moved(b, m.known(count) - 1 - m.first_block) for b in pattern]
 
     def call_of_any_count(self, name, state, content, want, count, size, plain, way="", choose=None, facts=(), **more):
-        """A call on data of every length: `content` and `want` are their pattern before it and after it."""
+        """States a call on data of every length. `content` is the pattern of the data before the call, and `want` the one after it."""
         facts, key = {unknown("n"), self.most // 2 - size, *facts}, [self.schedule()]
         if way == "_with":
             key, more["later"] = [Buffer("key", self.key), self.key_size], lambda m: self.go_on(m, {})
@@ -50,11 +50,12 @@ class KeyedAes(SingleRounds, CmacCcm, KeyWrap, Keyed):
                                       content if direction == "encrypt" else want, way)
 
     def any_low_keystream(self, skip, rest, way=""):
-        """Counter mode of every length where the low half doesn't carry, which has far fewer ways through the code."""
+        """States counter mode of every length where the low half doesn't carry. Then there are far fewer ways through the code."""
         return self.any_keystream(skip, rest, way, NEVER)
 
     def any_keystream(self, skip, rest, way="", wrap=unknown("wrap"), step=128):
-        """At every position 16 k + `skip`, for any initial counter block: the low half carries at any place, or nowhere."""
+        """States counter mode at every position 16 k + `skip`, for any initial counter block. The low half carries at any place, or
+        nowhere."""
         before, d, count = unknown("before"), self.domain, unknown("n") * step + rest
         name, end, places = "counter low, any count", before * 16 + skip + count, range(skip, skip + 16)
         low, streams, data = self.counter_blocks()
@@ -81,10 +82,10 @@ class KeyedAes(SingleRounds, CmacCcm, KeyWrap, Keyed):
         between = self.pattern(self.ciphers["decrypt"])
         want = self.aes.xor(between, previous)
         cbc = Buffer("cbc", previous, self.in_last_block(content, count))
-        return self.call_of_any_count("aes_cbc_decrypt", [cbc], content, want, count, count * 16, want, between=self.in_all_blocks(between))
+        return self.call_of_any_count("aes_cbc_decrypt", [cbc], content, want, count, count * 16, want + between)
 
     def any_cbc_encrypt(self):
-        """A plain block has the number of the encrypted one before it."""
+        """States CBC encryption of every length. A plain block has the number of the encrypted block before it."""
         (chain, chained), count, d = self.chain(), unknown("n"), self.domain
         content, want = self.pattern(self.block_bytes, -1), self.pattern(chain)
 
@@ -96,28 +97,30 @@ class KeyedAes(SingleRounds, CmacCcm, KeyWrap, Keyed):
                                       may_stay={"plain": 16} if self.program.machine.relaxed else None)
 
     def call_in_each_way(self, name, way, state, data_name, data, results, count, **more):
-        """A call that changes data under the key of *aes or, with _with, under a key; or, with _to, that writes to another buffer. `state`
-        is what it takes between the key and the data."""
+        """States a call that changes data under the key of *aes. With _with the call gets a key instead. With _to it writes to another
+        buffer. `state` has the arguments between the key and the data."""
         if way == "_with":
             arguments = [Buffer("key", self.key), self.key_size, *state,
                          Buffer(data_name, self.not_yet(data_name, len(data)), results), count]
             more["later"] = lambda m: self.go_on(m, {data_name: data})
         else:
-            arguments = [self.schedule(), *state, *self.changed(way, data_name, data, results, count)]
+            arguments = [self.schedule(), *state, *self.data_arguments(way, data_name, data, results, count)]
         return Call(name + way, arguments, DONE, **more)
 
-    # A call that expands a key begins in the key's domain. When it first computes with what isn't in it, what was made of the key becomes
-    # what it is for any round keys.
+    # A call that expands a key begins in the key's domain. The data aren't in that domain: of their bytes only the names are known. When
+    # the call first computes with such a byte, each byte that was made from the key becomes what it is for any round keys.
     def not_yet(self, name, count):
         return [self.key_domain.opaque((name, k)) for k in range(count)]
 
     def go_on(self, m, contents):
+        """Moves a machine from the key's domain to that of any round keys. `contents` has the bytes of buffers by the names of these. A
+        byte that isn't a sum of bits of a round key is lost."""
         d, e = self.key_domain, self.domain
         if m.domain is not d:
             raise Unproved("computes with bytes that it isn't given")
 
         def convert(b):
-            name = d.opaque_of.get(b)
+            name = d.name_of_opaque.get(b)
             if b < 256 or name and isinstance(name[0], Linear):
                 return b if b < 256 else e.opaque(name)
             if d.bits_of[b] is None and not isinstance(name[0], Verdict):
@@ -126,7 +129,7 @@ class KeyedAes(SingleRounds, CmacCcm, KeyWrap, Keyed):
                 return self.byte_for_any(b)
             except Unproved:
                 lost = e.opaque(LOST)
-                m.lost.add(lost)
+                m.secret.lost.add(lost)
                 return lost
         pairs = [pair for x, y in zip(self.key_words, self.round_key_words) for pair in zip(x, y)]
         pairs += [(d.opaque((name, k)), b) for name, content in contents.items() for k, b in enumerate(content)]
@@ -134,12 +137,16 @@ class KeyedAes(SingleRounds, CmacCcm, KeyWrap, Keyed):
         for window in (r for r in m.regions.values() if isinstance(r, Window)):
             window.waits = False
 
-    # Counter mode (SP 800-38A, 6.5). The counter is a number of 128 bits that the caller chooses: its parts are words of unknown value. The
-    # lowest one wraps around from block `wrap` on, or not within the call; then `full` words above it have all bits set, and become 0, and
-    # the next one, which is "counter high", is another unknown word.
+    # Counter mode (SP 800-38A, 6.5). The caller chooses the counter, a number of 128 bits. Its parts are words of unknown value. The lowest
+    # word wraps around from block `wrap` on, or not within the call. When it wraps, the `full` words above it have all bits set and become
+    # 0. The next word above these, "counter high", becomes another unknown word.
     def counter_blocks(self, full=0):
+        """Gives the bytes of the lowest word, Cipher of a counter block before and after that word wraps around, and the bytes of a data
+        block. Also tells the domain which of these bytes belong to which word of unknown value."""
         d, size = self.domain, self.address
-        word = lambda at, *of_block: [d.fresh("counter byte %d" % i, PUBLIC, *of_block) for i in range(at, at + size)]
+
+        def word(at, *of_block):
+            return [d.fresh("counter byte %d" % i, PUBLIC, *of_block) for i in range(at, at + size)]
 
         def make():
             places = range(0, 16 - size * (full + 2), size)
@@ -147,30 +154,31 @@ class KeyedAes(SingleRounds, CmacCcm, KeyWrap, Keyed):
             names = self.higher_words(full)
             parts = [(Pointer(names[-1], carry), bytes_) for carry, bytes_ in enumerate(next_)]
             parts += [(Pointer(base, 0), bytes_) for base, bytes_ in zip(names, fixed)] + [(None, low)]
-            d.of_words.update((d.cell_of(b)[0], (name, size - 1 - i)) for name, bytes_ in parts for i, b in enumerate(bytes_))
-            d.words[names[-1]] = lambda offset, k: d.bits(next_[offset][size - 1 - k]) if offset in (0, 1) else None
+            d.word_of_cell.update((d.cell_of(b)[0], (name, size - 1 - i)) for name, bytes_ in parts for i, b in enumerate(bytes_))
+            d.bits_of_word[names[-1]] = lambda offset, k: d.bits(next_[offset][size - 1 - k]) if offset in (0, 1) else None
             for base, bytes_ in zip(names, fixed):
-                d.words[base] = lambda offset, k, bytes_=bytes_: None if offset else d.bits(bytes_[size - 1 - k])
+                d.bits_of_word[base] = lambda offset, k, bytes_=bytes_: None if offset else d.bits(bytes_[size - 1 - k])
             high = [sum(fixed, []) + next_[carry] + [0 if carry else 255] * size * full for carry in range(2)]
             streams = [self.aes.cipher(h + low, self.round_key_words) for h in high]
             return low, streams, [d.fresh("data byte %d" % i, DATA, True) for i in range(16)]
         return self.made_once(("counter", full), make)
 
     def higher_words(self, full=0):
-        """The names of the words above those that are full, the highest first."""
+        """Names the words above the full ones, the highest first."""
         places = range(0, 16 - self.address * (full + 2), self.address)
         return [name + ", %d full" % full * bool(full) for name in (*("counter from byte %d" % at for at in places), "counter high")]
 
     def counter_words(self, domain, first, full=0):
-        """The bytes of an `iv` of unknown value, highest first, and the name of its lowest word."""
+        """Gives the bytes of an `iv` of unknown value, the highest first, and the name of its lowest word."""
         d, size, low = self.domain, self.address, self.counter_blocks(full)[0]
         name = "counter low, from %d" % first + ", %d full" % full * bool(full)
-        d.words[name] = lambda offset, k: d.bits(d.byte_in_block(low[size - 1 - k], offset - first + 1))
+        d.bits_of_word[name] = lambda offset, k: d.bits(d.byte_in_block(low[size - 1 - k], offset - first + 1))
         words = [[domain.opaque((Pointer(base, 0), k)) for k in range(size)][::-1] for base in (*self.higher_words(full), name)]
         return sum(words[:-1], []) + [255] * size * full + words[-1], name
 
     def keystream(self, position, count, wrap, full):
-        """The data and what becomes of them: byte i of the keystream is byte i % 16 of Cipher of the block (iv + i / 16)."""
+        """Gives the data before and after the call, and the keystream. Byte i of that is byte i % 16 of Cipher of the block (iv + i /
+        16)."""
         first = position // 16
         _, streams, data_bytes = self.counter_blocks(full)
         places = range(position, position + count)
@@ -201,10 +209,10 @@ class KeyedAes(SingleRounds, CmacCcm, KeyWrap, Keyed):
         between = self.result_blocks("decrypt", count)
         want = self.aes.xor(between, chain)
         return Call("aes_cbc_decrypt", [self.schedule(), Buffer("cbc", previous, chain[-16:]), Buffer("blocks", content, want), count],
-                    DONE, plain=want, between=between)
+                    DONE, plain=want + between)  # (what the cipher gives reveals the text)
 
     def chain(self):
-        """Any value before a block of a chain, and Cipher of its sum with the block."""
+        """Gives any value before a block of a chain, and Cipher of the sum of the value and the block."""
         value = self.made_once("chain", lambda: [self.domain.fresh("chain byte %d" % i, DATA, True) for i in range(16)])
         return value, self.cipher_of(self.aes.xor(self.block_bytes, value))
 
@@ -223,17 +231,18 @@ class KeyedAes(SingleRounds, CmacCcm, KeyWrap, Keyed):
                     may_stay={"plain": 16} if self.program.machine.relaxed else None)
 
     def cipher_of(self, block, direction="encrypt"):
-        """Cipher, or InvCipher, of a block of bytes of block 0 and constants."""
+        """Gives Cipher or InvCipher of a block of constants and of bytes of block 0."""
         if block == self.block_bytes:
             return self.ciphers[direction]
         cipher = self.aes.cipher if direction == "encrypt" else self.aes.inv_cipher
         return self.made_once((direction, *block), lambda: cipher(block, self.round_key_words))
 
     def at_link(self, m, bytes_, k):
-        """Block k, and the value before it, have the number of the block before them, so that none is left of what no pass needs."""
+        """Moves bytes to link k of a chain. Block k and the value before it have number k - 1, so no pass keeps bytes that it doesn't
+        need."""
         return self.at_block(m, bytes_, k - 1)
 
-    # Calls that are refused, for all their arguments: nothing but the status changes, and buffers aren't read, so they have no bytes here.
+    # Calls that are refused, for all their arguments. Only the status changes. Buffers aren't read, so they have no bytes here.
     def refused(self):
         """NO_KEY .. UNEQUAL_COUNTS if they differ .. KEYSTREAM_END if the position would pass 2^64 - 1 .. INVALID_COUNT if keys of so many
         semiblocks are not wrapped, or the output isn't one longer or one shorter"""
@@ -260,12 +269,12 @@ class KeyedAes(SingleRounds, CmacCcm, KeyWrap, Keyed):
         yield from self.ccm_refused()
 
     def ctr(self, position):
-        """A counter at a position that isn't known."""
+        """Makes a counter at a position that isn't known."""
         return Buffer("ctr", *2 * [self.data_blocks(1) + self.unknown_number(position)], align=8)
 
     def keystream_refused(self, key, none, sizes):
-        n, k, (position, any_) = unknown("n"), unknown("k"), self.number_of_words("position")
-        ctr, sizes, bytes_ = self.ctr(position), sizes | any_, nothing("bytes")
+        n, k, (position, position_facts) = unknown("n"), unknown("k"), self.number_of_words("position")
+        ctr, sizes, bytes_ = self.ctr(position), sizes | position_facts, nothing("bytes")
         to = lambda aes, n, k: [aes, ctr, nothing("input", False), n, nothing("output"), k]
         passes, stays = {position + n - WORD - 1}, {WORD - position - n}
         for aes, facts, status in ((none, stays, NO_KEY), (none, passes, KEYSTREAM_END), (key, passes, KEYSTREAM_END)):

@@ -1,16 +1,16 @@
-"""How near to its border a comparison of public numbers was tried. Whether x is less than y changes between x - y = -1 and x - y = 0,
-and no number lies between these. So where runs had both, the code was tried on both sides of it.
+"""Notes how near to its border each comparison of public numbers was tried. Whether x is less than y changes between x - y = -1 and
+x - y = 0, and no number lies between these. So if runs had both, the code was tried on both sides of the border.
 
-The numbers of a call of every length have all values that the facts allow. If integers fulfil these and lie next to the border, the run is
-proved for them too: of each question that comes later both answers are proved. A general state (lengths.py) may have more values than
-occur. Then the code is proved from there on for those too. What was noted after a wrong guess of such a state is forgotten."""
+In a call of every length, numbers have all values that the facts allow. Integers that fulfil the facts may lie next to the border. Then the
+run is proved for them too, as both answers to each later question are proved. A general state (lengths.py) may have more values than occur.
+Then the code is proved for those too, from there on. What was noted after a wrong guess of such a state is forgotten."""
 from linear import fulfilled, is_number, wrapped
 from operands import contrary, is_int, is_pointer
 
 
 def apart(x, y, size, carry=0, plus=False):
-    """{flag: a number that is below 0 where it says that x is less than y, or that the sum is more than a word has}, for known numbers, or
-    addresses in one buffer."""
+    """Gives {flag: a number}, for known numbers or for addresses in one buffer. The number is below 0 if the flag says that x is less than
+    y, or that the sum is too large for a word."""
     most = (1 << 8 * size) - 1
     if is_int(x, y):
         x, y = x & most, y & most
@@ -23,38 +23,39 @@ def apart(x, y, size, carry=0, plus=False):
 
 
 class Borders:
-    def meets_carry(self, or_equal=False):
-        """Notes what an unsigned comparison was decided by; `or_equal`: one that asks whether x is less than y or equal."""
+    def note_border_of_carry(self, or_equal=False):
+        """Notes the difference that decided an unsigned comparison. `or_equal`: it asks whether x is less than y or equal."""
         flag = self.flags["c"]
         flag = contrary(flag) if isinstance(flag, tuple) and flag[0] == "not" else flag
         below = isinstance(flag, tuple) and is_number(*flag[:2]) and flag[2:] == ("below",)
         by = flag[0] - flag[1] if below else self.apart.get("c")
         if by is not None:
-            self.meets(by - or_equal)
+            self.note_distance(by - or_equal)
 
-    def meets_sign(self, or_equal=False):
-        """Notes what a comparison by the sign of a difference was decided by. (If that doesn't fit into a word, the numbers are far
-        apart.)"""
+    def note_border_of_sign(self, or_equal=False):
+        """Notes the difference whose sign decided a comparison. (If it doesn't fit into a word, the numbers are far apart.)"""
         if "s" in self.apart and self.flags["o"] == 0:
-            self.meets(self.apart["s"] - or_equal)
+            self.note_distance(self.apart["s"] - or_equal)
 
-    def meets_numbers(self, x, y):
-        """Notes what a comparison without flags was decided by, if its answer is known."""
+    def note_border_of_numbers(self, x, y):
+        """Notes the difference that decided a comparison without flags, if the answer is known."""
         if is_number(x, y):
             x, y = self.ranged(x), self.ranged(y)
             if self.is_below(x, y) is not None:
-                self.meets(x - y)
+                self.note_distance(x - y)
 
-    def meets(self, by):
-        """Notes how far from its border it was decided whether a number is below 0."""
+    def note_distance(self, by):
+        """Notes how far a number was from the border when it was decided whether it is below 0."""
         below = by < 0 if is_int(by) else self.implied(-by - 1)
         far, place = -by - 1 if below else by, (self.last, below)
-        nearest = self.program.nearest.get(place, (self.most + 1,))[0]
+        known = self.program.noted.nearest
+        nearest = known.get(place, (self.most + 1,))[0]
         if not is_int(far):
             far = self.most if nearest and not fulfilled(self.facts | {far, -far}) else 0
         if far < nearest:
-            self.program.nearest[place] = far, self.generals
+            known[place] = far, self.generals
 
     def forget_nearest(self, general):
-        """What was noted after a general state with this name, of which a guess was wrong."""
-        self.program.nearest = {place: near for place, near in self.program.nearest.items() if general not in near[1]}
+        """Forgets what was noted after a general state with this name, since a guess of that state was wrong."""
+        noted = self.program.noted
+        noted.nearest = {place: near for place, near in noted.nearest.items() if general not in near[1]}

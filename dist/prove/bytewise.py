@@ -1,4 +1,4 @@
-"""What instructions of all machines do with single bytes: `and`, `or`, shifts, look-ups, and comparisons of secrets."""
+"""Does what instructions of all machines do with single bytes: `and`, `or`, shifts, look-ups, and comparisons of secrets."""
 from bits import Pause, Undefined, Unproved
 from linear import Linear, step_of
 from operands import Scaled, Shifted, Verdict, constant, is_int, is_pointer, lanes, number_of_entry
@@ -6,16 +6,16 @@ from operands import Scaled, Shifted, Verdict, constant, is_int, is_pointer, lan
 
 class Bytewise:
     def some_of(self, x, y):
-        """A byte that is 0 only if both are."""
-        both = sorted({*self.any_of.get(x, [x]), *self.any_of.get(y, [y])})
+        """Makes a byte that is 0 only if both are."""
+        both = sorted({*self.secret.any_of.get(x, [x]), *self.secret.any_of.get(y, [y])})
         b = self.domain.opaque("0 if these are: %s" % both)
-        self.any_of[b] = both
-        self.lost.add(b)
+        self.secret.any_of[b] = both
+        self.secret.lost.add(b)
         return b
 
-    # A comparison of secrets byte by byte: nothing but whether all are equal may be asked, where a call may reveal it.
+    # Comparisons of secrets, byte by byte. Only whether all are equal may be asked, and only where a call may reveal it.
     def equality(self, difference, equal, unequal):
-        """A byte that is `equal` if the difference is 0, else `unequal`."""
+        """Makes a byte that is `equal` if the difference is 0, else `unequal`."""
         if difference < 256 or 1 in self.domain.bits(difference) or equal == unequal:
             return unequal if difference else equal
         unknown = [x for x in self.domain.bits(difference) if x]
@@ -23,17 +23,18 @@ class Bytewise:
             bit = {(0, 0): 0, (0, 1): unknown[0], (1, 0): unknown[0] ^ 1, (1, 1): 1}
             return self.domain.pack([bit[equal >> j & 1, unequal >> j & 1] for j in range(8)])
         b = self.domain.opaque("%d if %d is 0, else %d" % (equal, difference, unequal))
-        self.equalities[b] = difference, equal, unequal
-        self.lost.add(b)
+        self.secret.equalities[b] = difference, equal, unequal
+        self.secret.lost.add(b)
         return b
 
     def verdict(self, right, differences, size, wrong=None):
+        """Makes a value that says whether all these differences are 0: then it is `right`."""
         value = Verdict(right, tuple(differences), size, wrong)
-        self.lost.update(self.to_bytes(value, size))
+        self.secret.lost.update(self.to_bytes(value, size))
         return value
 
     def with_verdict(self, name, x, y, size):
-        """`and`, `or` and `xor` of a verdict and another value, where the result is a verdict."""
+        """Computes `and`, `or` or `xor` of a verdict and another value. Refuses those whose result is no verdict."""
         if name == "or" and x.right == 0:  # 0 if both are
             also = y.differences if isinstance(y, Verdict) and y.right == 0 else self.to_bytes(y, size)
             return self.verdict(0, [*x.differences, *also], size)
@@ -43,9 +44,9 @@ class Bytewise:
             return x
         raise Unproved("computes with whether bytes are equal")
 
-    # What instructions of both machines do.
+    # What instructions of all machines do.
     def bytewise(self, name, a, b):
-        """`and`, `or`, `xor`, or `and` and `or` with the complement of b, of bytes."""
+        """Computes `and`, `or` or `xor` of bytes; or `and` or `or` of a and the complement of b."""
         d = self.domain
         if name == "xor":
             try:
@@ -54,11 +55,11 @@ class Bytewise:
                 return list(map(d.xor_byte, a, b))
         if name.endswith("not"):
             b = [d.xor_byte(y, 255) for y in b]
-        return list(map(d.and_byte if name[0] == "a" else self.either, a, b))
+        return list(map(d.and_byte if name[0] == "a" else self.or_byte, a, b))
 
-    def either(self, x, y):
-        """A byte with "or"; where that can't be done, nothing is kept but whether both are 0."""
-        if (x in self.any_of or y in self.any_of) and x and y:
+    def or_byte(self, x, y):
+        """Computes `or` of two bytes. If that can't be done, the result says only whether both are 0."""
+        if (x in self.secret.any_of or y in self.secret.any_of) and x and y:
             return self.some_of(x, y)
         try:
             return self.domain.or_byte(x, y)
@@ -68,7 +69,7 @@ class Bytewise:
             return self.some_of(x, y)
 
     def logic(self, name, x, y, size):
-        """What `bytewise` does, of two values."""
+        """Does what `bytewise` does, with two values."""
         if type(x) is type(y) is tuple and x != y:
             return self.from_bytes(self.bytewise(name, x[:size], y[:size]))
         if is_int(x, y):
@@ -97,23 +98,23 @@ class Bytewise:
         return self.domain.pack(self.full_adder(self.domain.bits(x), self.domain.bits(y), carry)[0])
 
     def signs(self, x):
-        """A byte of ones if the highest bit of x is set, else 0."""
+        """Gives a byte of ones if the highest bit of x is set, else 0."""
         return self.domain.pack([self.domain.bits(x)[7]] * 8)
 
     def shift(self, how, v, count, size):
-        """A value shifted to the left ("lsl"), or to the right with zeros ("lsr") or copies of the highest bit ("asr")."""
+        """Shifts a value to the left ("lsl"), or to the right with zeros ("lsr") or copies of the highest bit ("asr")."""
         if is_int(v) and how == "lsl":
             return v << count & (1 << 8 * size) - 1
         if isinstance(v, Linear) and size == self.word and how == "lsl" and (count < 32 or not self.fits(v)):  # else its lowest bits count
             return self.offset(v * (1 << count), 0)
-        divides = isinstance(v, Linear) and (not self.any_length or step_of(v) >> count)
+        divides = isinstance(v, Linear) and (not self.allowed.any_length or step_of(v) >> count)
         if divides and size == self.word and how == "lsr" and self.fits(self.ranged(v)):
             return self.quotient(self.ranged(v), 1 << count)
         if isinstance(v, Linear) and size == 8 and how == "lsr" and self.fits(v):
             return Shifted(v, count)
         if isinstance(v, Scaled) and how == "lsr":
             return self.quotient_by_product(v, count)
-        if count % 8 == 0 and how != "asr":  # so bytes of which only the name is known may be moved
+        if count % 8 == 0 and how != "asr":  # whole bytes: so opaque bytes may be moved too
             b, empty = self.to_bytes(v, size), [0] * (count // 8)
             return self.from_bytes((empty + b)[:size] if how == "lsl" else (b + empty)[-size:])
         b = self.bits(v, size)
@@ -126,7 +127,7 @@ class Bytewise:
         return [x for lane in lanes(b, width) for x in self.shifted_lane(how, lane, width, count)]
 
     def shifted_lane(self, how, lane, width, count):
-        """One lane of these. It is kept if it is bytes: how a number that isn't known is shifted follows from facts, which may change."""
+        """Shifts one lane. The result is kept if the lane is bytes. How an unknown number is shifted depends on facts, which may change."""
         shifted, key = self.domain.shifted, (how, count, *lane)
         if key not in shifted:
             value = self.from_bytes(lane)
@@ -136,8 +137,8 @@ class Bytewise:
             shifted[key] = out
         return shifted[key]
 
-    def looked_up(self, table, indices, significant):
-        """The bytes of a table, a tuple, at these indices, of whose bits `significant` gives those that count."""
+    def look_up(self, table, indices, significant):
+        """Gives the bytes of a table, a tuple, at these indices. `significant` gives the bits of an index that count."""
         if max(indices) < 256:
             numbers = [number_of_entry(x, significant) for x in indices]
             return [table[at] if at < len(table) else 0 for at in numbers]
@@ -150,7 +151,7 @@ class Bytewise:
         return [memo[x] for x in indices]
 
     def entry(self, table, index):
-        """The byte of a table at an index of these bits; 0 past its end."""
+        """Gives the byte of a table at an index of these bits, or 0 past its end."""
         if max(index) < 2:
             at = sum(bit << k for k, bit in enumerate(index))
             return table[at] if at < len(table) else 0

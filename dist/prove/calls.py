@@ -1,32 +1,34 @@
-"""How one call is proved: what it is given, and what it has to leave. What else may be left of it is in left.py.
+"""Proves one call: it is given some bytes, and has to leave others. left_behind.py says what else may be left of it.
 
-A statement is a Call, written like the call in C: its arguments are numbers and Buffers, and each Buffer says what it has to hold when the
-call returns. A Buffer that says nothing may only be read. So "writes nothing but what it says" is part of each statement. What a machine
-`m` keeps is said where it is made (machine.Machine)."""
+A statement is a Call, written like the call in C. Its arguments are numbers and Buffers. Each Buffer says what it has to hold when the call
+returns. A Buffer that says nothing may only be read. So "writes nothing but what it says" is part of each statement. machine.Machine says
+what a machine `m` keeps."""
 import functools
 
 import lengths
 from bits import ONES, Pause, Unproved
-from left import cells_of_bit, left, no_secret_in_buffers, nothing_secret
-from linear import implied, refuted, terms, unknown
+from left_behind import cells_of_bit, no_secret_in_buffers, nothing_secret, what_is_left
+from linear import implied, is_number, refuted, terms, unknown
+from machine import Allowed
 from native import Native
-from operands import HEAD, Pointer, Question, Verdict
+from operands import HEAD, Pointer, Question, Verdict, lanes
 from regions import Region, Window
 from steps import step_by_step
 
 STACK = 16384  # FOTSGURE_AES_STACK and FOTSGURE_GCM_STACK
-MANY = 80000   # sums of products, which take some KB each
-ANY = "any"    # for a Buffer of which something else is asked than bytes
+# How many sums of products are kept from one call to the next. Each needs some KB, so together they need some hundred MB.
+MOST_SUMS_OF_PRODUCTS = 80000
+ANY = "any"  # what a Buffer has to hold that isn't compared byte by byte
 
 
 class Buffer:
-    """An argument that points to bytes: what they are, and what they have to be after the call."""
+    """Describes an argument that points to bytes: what they are, and what they have to be after the call."""
 
     head = None
 
     def __init__(self, name, content, after=None, secret=(), align=1):
-        """`secret`: which of left.MAY_NOT_COME may come there, as what it holds is as secret as the key. `align`: of the struct that it
-        is."""
+        """Makes a Buffer. `secret` has the kinds of left_behind.MAY_NOT_COME that may come there, as what it holds is as secret as the key.
+        `align` is the alignment of a struct."""
         self.name, self.content, self.after, self.secret, self.align = name, content, after, secret, align
 
     def region(self, machine):
@@ -34,10 +36,11 @@ class Buffer:
 
 
 class Stream(Buffer):
-    """A buffer of any length. `size` is its length, a number that isn't known. `content` and `after` are patterns: what the block with
-    number LEAD is, and what it has to be after the call. With `choose`, `after` is a list of patterns, and choose(machine, number) says for
-    each byte of the block with that number which of them it has, or None if that isn't known. `head` has the content and the `after` of
-    bytes in front of the blocks. `backwards`: the last block counts as the first one (regions.Window)."""
+    """Describes a buffer of any length. `size` is its length, a number that isn't known. `content` and `after` are patterns: the block with
+    number LEAD before the call, and what it has to be after it. `choose` is for blocks that may have several patterns, and `after` is then
+    a list of these. choose(machine, number) says for each byte of the block with that number which pattern it has. It says None for a byte
+    if that isn't known. `head` has the content and the `after` of bytes before the blocks. With `backwards` the last block counts as the
+    first one (regions.Window)."""
 
     def __init__(self, name, size, content, after=None, choose=None, head=None, backwards=False):
         super().__init__(name, content, after)
@@ -50,18 +53,19 @@ class Stream(Buffer):
         return Window(self.size, self.content, self.want if self.choose else self.after, head, self.backwards)
 
     def want(self, m, number):
+        """Gives the block with this number, as it has to be after the call. A byte is None if its pattern isn't known."""
         return [None if k is None else self.after[k][i] for i, k in enumerate(self.choose(m, number))]
 
 
 class Call:
-    """A statement of one call.
+    """States one call.
 
         name, arguments         as in C, without fotsgure_
         status, size            what it returns (None: anything), and in how many bytes
         steps                   for a call in which each step depends on the last one: see steps.py
         reveals                 bytes that are all zero exactly if a wrapped key or a tag is right
         refused, refused_after  what it returns if they aren't, and by names what Buffers then hold; the others hold what they held before
-        undone                  when it is refused it may write to a Buffer that stays as it was, since it undoes what it did
+        undone                  a refused call may write to a Buffer that has to stay as it was, since it undoes its writes
         assumes                 bytes of public data that are not all zero
         later                   for a call that expands a key: turns bytes of the key's own domain into those of any round keys (aes.py)
         counter                 a word of unknown value (keyed.CounterWord)
@@ -85,24 +89,25 @@ class Call:
         self.any_length = any_length or bool(self.streams)
 
     def written(self, m):
-        """What was written to buffers, also if it was written over since, with the Buffer. In a loop of any length a byte that differs from
-        pass to pass counts as part of the key, so what came to structs isn't looked at there."""
-        return [(b, x) for b in self.buffers if b.after is not ANY and not (b.secret and self.streams) for x in m.wrote.get(b.name, ())]
+        """Gives each byte that was written to a buffer, with the Buffer. Bytes that were overwritten since count too. In a loop of any
+        length a byte that differs from pass to pass counts as part of the key. So structs are left out there."""
+        judged = [b for b in self.buffers if b.after is not ANY and not (b.secret and self.streams)]
+        return [(b, x) for b in judged for x in m.ever_written.get(b.name, ())]
 
 
 def prove(domain, program, call, seed=None):
-    """Proves a call for all answers to the questions that its branches ask: how far its buffers are apart, and whether a wrapped key or a
-    tag is right. With a seed, for one key and data, on the processor too. The result is a machine after the call."""
-    if len(domain.products) > MANY:
+    """Proves a call for all answers to the questions that its branches ask. They ask how far buffers are apart, and whether a wrapped key
+    or a tag is right. With a seed, the call also runs on the processor, with one key and data. Gives a machine after the call."""
+    if len(domain.products) > MOST_SUMS_OF_PRODUCTS:
         domain.forget_products()
-    m, known = before(domain, program, call), lengths.Known()
+    m, known = machine_before(domain, program, call), lengths.GeneralStates()
     watches = [step_by_step(call.steps if call.any_length else call.steps())] if call.steps else []
     if call.any_length:
         watches.append(functools.partial(lengths.watch, known))
     if call.paths is not None:
         watches.append(lambda m: m.path.append(m.last))
     if seed is None:
-        return to_all_ends(m, call, watches, known)
+        return run_to_all_ends(m, call, watches, known)
     m.native = Native(m, seed, call.counter)
     try:
         run(m, call, [m.native.watch] + watches)
@@ -113,29 +118,37 @@ def prove(domain, program, call, seed=None):
     return m
 
 
-def before(domain, program, call):
-    """A machine at the first instruction of a call."""
+def machine_before(domain, program, call):
+    """Makes a machine at the first instruction of a call."""
     regions = {b.name: b.region(program.machine) for b in call.buffers}
     regions["stack"] = Region([domain.undefined] * (STACK - program.machine.word * len(program.machine.pushed)), align=16)
     arguments = [Pointer(a.name, 0) if isinstance(a, Buffer) else a for a in call.arguments]
     m = program.machine(domain, program, regions, program.exports["fotsgure_" + call.name], arguments)
-    m.may_reveal, m.assumed = call.reveals is not None, call.assumes
-    m.counter, m.facts, m.any_length = call.counter, call.facts, call.any_length
+    m.allowed = Allowed(call.reveals is not None, call.assumes, call.any_length)
+    m.counter, m.facts = call.counter, call.facts
+    m.passed = (m.stack.top, tuple(numbers_of(m, call))),
     for window in (r for r in regions.values() if isinstance(r, Window)):
         window.waits = call.later is not None
     streams = call.streams if call.later is None else []  # (else their bytes are of another domain)
     cells = [c for b in streams for c in {c for x in b.content for c in domain.cells(x)}]
     if len(cells) > len({*cells}):
-        raise Unproved("is about two buffers of the same bytes")
+        raise Unproved("two buffers share bytes")
     if refuted(call.facts):
-        raise Unproved("is about no arguments")
+        raise Unproved("no arguments meet its facts")
     names = {unknown(name) for fact in call.facts for name in terms(fact)}
     if not all(implied(call.facts, x) for n in names & domain.sizes.keys() for x in (n, (1 << domain.sizes[n]) - 1 - n)):
-        raise Unproved("is about numbers that have more bits than their bytes")
+        raise Unproved("its numbers have more bits than their bytes")
     return m
 
 
-def to_all_ends(m, call, watches, known):
+def numbers_of(m, call):
+    """Gives the numbers that a call is given: its arguments, and words of structs."""
+    structs = [b.content for b in call.buffers if b.align == 8]
+    yield from {v: None for v in (*call.arguments, *(m.from_bytes(word) for some in structs for word in lanes(some, m.word)))
+                if is_number(v)}
+
+
+def run_to_all_ends(m, call, watches, known):
     """Runs a call with each answer to each question, and checks each end."""
     waiting, ends = [m], []
     while waiting:
@@ -151,6 +164,7 @@ def to_all_ends(m, call, watches, known):
         except lengths.Wrong as wrong:
             general, guesses = wrong.args
             m.forget_nearest(general.name)
+            m.forget_results(general.name)
             waiting, ends = ([x for x in some if general.name not in x.generals] for some in (waiting, ends))
             waiting += [*known.forget(general), lengths.general_state(known, *general.made_of, general.wrong | guesses)]
         else:
@@ -163,6 +177,7 @@ def to_all_ends(m, call, watches, known):
 
 
 def run(m, call, watches):
+    """Runs a call to its end. A call that expands a key pauses once, and goes on in the domain of round keys."""
     try:
         m.run(watches)
     except Pause:
@@ -174,7 +189,7 @@ def run(m, call, watches):
     if isinstance(status, Verdict):
         flag = m.zero_flag(status.differences)
         if status.wrong is not None or m.answers.get(flag):  # (made without a branch: then the caller asks)
-            m.judged(status.differences, m.decide(flag))
+            m.settle_verdicts(status.differences, m.decide(flag))
 
 
 def check(m, call):
@@ -193,15 +208,15 @@ def check(m, call):
         stays, want = want == buffer.content, want(m) if callable(want) else want
         if isinstance(buffer, Stream):
             check_stream(m, buffer, want, right)
-        elif status and buffer.name in m.wrote and stays and not call.undone:
+        elif status and buffer.name in m.ever_written and stays and not call.undone:
             raise Unproved("writes to %s, which is to stay as it is" % buffer.name)
         else:
             check_buffer(m, buffer, want)
-    m.left = left(m, call)
+    m.left = what_is_left(m, call)
 
 
 def is_right(m, call):
-    """Whether a wrapped key or a tag is right, if a call compares one: then it may ask nothing else of secrets."""
+    """Whether a wrapped key or a tag is right. A call that compares one may ask nothing else of secrets."""
     if call.reveals is None:
         return True
     asked = m.asked_of_secrets()  # (a branch on a nonce alone reveals nothing)
@@ -221,8 +236,8 @@ def check_stream(m, stream, want, right):
 
 
 def check_buffer(m, buffer, want):
-    """Compares a Buffer with what it has to hold. Notes the bytes that the caller gets: those that are said, and others, which may be
-    anything."""
+    """Compares a Buffer with what it has to hold. Notes the bytes that the caller gets: those that the statement gives, and others, which
+    may be anything."""
     if want is ANY and m.answers:  # set_key looks at the content that one machine has
         raise Unproved("%s may have other bytes if buffers are otherwise apart" % buffer.name)
     if buffer.after is not None and want is not ANY:
@@ -234,8 +249,9 @@ def check_buffer(m, buffer, want):
 
 
 def asked_of(m, question):
-    """What a question asks: {a byte: None}, of bytes that are to be zero; of those that depend on one cell alone {that cell: for which of
-    its values some of them isn't zero}."""
+    """Says what a question asks of bytes that are to be zero. A byte that depends on several cells is given as {the byte: None}. The bytes
+    that depend on one cell alone are given as {the cell: a truth table}. It is 1 at the values of the cell at which one of them isn't
+    zero."""
     d, out = m.domain, {}
     for b in question[1:]:
         cells = {place for x in d.bits(b) for place in cells_of_bit(m, x)} if d.symbolic(b) else ()
@@ -249,9 +265,9 @@ def asked_of(m, question):
 
 
 def compare(domain, have, want, what):
-    """Refuses bytes that aren't what they have to be. Where that is None, they may be anything."""
+    """Refuses bytes that aren't what they have to be. Where `want` has None, a byte may be anything."""
     if len(have) != len(want):
         raise Unproved("%s has %d bytes and not %d" % (what, len(have), len(want)))
     for i, (x, y) in enumerate(zip(have, want)):
-        if y is not None and not domain.same(x, y):
+        if y is not None and not domain.is_same(x, y):
             raise Unproved("byte %d of %s is %s and not %s" % (i, what, domain.describe(x), domain.describe(y)))

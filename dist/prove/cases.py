@@ -1,29 +1,30 @@
-"""Which cases there are: a table of statements, their arguments, and who takes them. The page CASES.md is made of it (tools/pages)."""
+"""Lists the cases: a table of statements, their arguments, and the builds and keys that take them. tools/pages makes CASES.md of it."""
 import collections
 import itertools
 import re
 
 import aes
 import cmac_ccm
-import ends
 import gcm
 import siv
-from ends import DIRECTIONS
-from gcm import PHASES
+from gcm_header import ADDITIONAL, ENCRYPTING, MOST, MOST_ADDITIONAL, MOST_NONCE, PHASES, SHORT_TAGS, VERIFYING
 from headers import version
 from linking import takes_few
+from pre_counter import ANY_J_0_NONCE, CarryTo
+from remainders import AMONG_REMAINDERS, DIRECTIONS, EVERY, FEW, LENGTHS, LONGEST_CCM, PAIRS
 from riscv import Riscv
 
-# A statement (a method of KeyedAes, KeyedGcm or KeyedSiv), what its arguments are, and lists of these. The page says which builds and keys
-# take a list. The builds that take `most` are those that takes_few (linking.py) doesn't name, as these are compiled from what the others
-# are. Keys of 24 and 32 bytes take each call once, and the code that loops over round keys.
-Row = collections.namedtuple("Row", "name what each most first keys_24_32 all_", defaults=[(), (), (), (), ()])
+# A statement (a method of KeyedAes, KeyedGcm or KeyedSiv), a description of its arguments, and lists of these. The page says which builds
+# and keys take a list. All builds take `most` but those that takes_few (linking.py) names: these are compiled from the sources of the
+# others. Keys of 24 and 32 bytes take each call once, and the code that loops over round keys. Only the builds of FIRST take `remainders`
+# and `lengths_24_32`. These are other remainders of lengths, and each call at every length with keys of 24 and 32 bytes.
+Row = collections.namedtuple("Row", "name what each most first remainders keys_24_32 lengths_24_32 all_", defaults=[()] * 7)
 ONCE = [()]  # no arguments
-FIRST = "x86_64/aes", "x86_64/siv", "x86_64/gcm"  # the builds that take `first`
+FIRST = "x86_64/aes", "x86_64/siv", "x86_64/gcm"  # the builds that take `first` with PROVE=builds
 
 SINGLE_ROUNDS = [(name, way) for name in ("cipher_round", "equiv_inv_cipher_round") for way in ("", "_par")]
 COLUMNS = ["mix_columns", "inv_mix_columns"]
-NO_CARRY, BLOCK_BEHIND = aes.NEVER, 9  # a carry nowhere; before a block that a batch has behind the text
+NO_CARRY, BLOCK_AFTER_TEXT = aes.NEVER, 9  # no carry anywhere; a carry before a block that a batch has after the text
 ROUNDS = [Row("a_round", "a round, or eight (`_par`); they need no key", each=SINGLE_ROUNDS), Row("columns", "of a block", each=COLUMNS)]
 
 AES_ROWS = [
@@ -31,49 +32,57 @@ AES_ROWS = [
         each=[(way, 7, to) for way in DIRECTIONS for to in ("", "_to")] + [(way, 1, "_with") for way in DIRECTIONS],
         most=[(way, rest) for way in DIRECTIONS for rest in range(16) if rest != 7]
              + [(way, *more) for way in DIRECTIONS for more in ((1, "_to"), (7, "_with"))],
-        first=[(way, rest, "_to") for way in DIRECTIONS for rest in (0, 2, 14)]),
+        first=[(way, rest, "_to") for way in DIRECTIONS for rest in (0, 2, 14)],
+        lengths_24_32=[(way, 7, to) for way in DIRECTIONS for to in ("", "_to", "_with")]),
     Row("blocks", "the direction and the number of blocks", each=[("encrypt", 2), ("encrypt", 1, "_with")],
         most=[("encrypt", n) for n in (0, 16, 17)],
         first=[(way, n, to) for way in DIRECTIONS for to in ("_to", "_with") for n in (6, 7, 8, 14, 15)],
         keys_24_32=[(way, n, to) for way in DIRECTIONS for n, to in ((2, ""), (32, ""), (1, "_to"), (1, "_with"))]),
     Row("any_low_keystream", "at 16 k + s for every k, 128 n + r bytes for every n: s, r; for every initial counter block whose low half "
-        "doesn't carry", each=[(5, 122)], first=[(0, 0, "_with")]),
+        "doesn't carry", each=[(5, 122)], first=[(0, 0, "_with"), (5, 122, "_to")], remainders=EVERY["keystream"],
+        lengths_24_32=[(5, 122, way) for way in ("", "_to", "_with")]),
     Row("any_keystream", "the same where the low half carries anywhere or nowhere", most=[(0, 0)], all_=[(5, 122), (3, 45, "_to")]),
     Row("add_keystream", "the position, the number of bytes, and before which block the low half of the counter carries, if anywhere",
-        each=[(0, 33), (0, 5), (0, 15), (2 ** 64 - 21, 20), (5, 40, 2), (21, 40, 1), (21, 40, 2), (16, 64, 1), (0, 16, BLOCK_BEHIND),
-             (3, 33, NO_CARRY, "_to"), (3, 33, NO_CARRY, "_with")],
+        each=[(0, 33), (0, 5), (0, 15), (2 ** 64 - 21, 20), (5, 40, 2), (21, 40, 1), (21, 40, 2), (16, 64, 1), (0, 16, BLOCK_AFTER_TEXT),
+             (3, 33, NO_CARRY, "_to"), (3, 33, NO_CARRY, "_with"), *FEW["add_keystream"]],
         most=[(0, 1), (0, 16), (0, 64), (0, 130), (21, 3), (21, 8), (3, 130, NO_CARRY, "_with"), (3, 0, NO_CARRY, "_to"),
-              (3, 130, NO_CARRY, "_to"), (5, 40, BLOCK_BEHIND), (21, 11), (21, 11, 1), (21, 11, 1, "_to"), (21, 11, 1, "_with"),
+              (3, 130, NO_CARRY, "_to"), (5, 40, BLOCK_AFTER_TEXT), (21, 11), (21, 11, 1), (21, 11, 1, "_to"), (21, 11, 1, "_with"),
               *((16, 64, block) for block in range(2, 6)),
               # Positions, and numbers of blocks, that don't fit into 32 bits; and one that would be below 0 if it had a sign.
               (2 ** 32 - 20, 40), *((2 ** 63 + 2 ** 36, 64, NO_CARRY, way) for way in ("", "_with"))],
-        first=[(2 ** 64 - 21, 20, NO_CARRY, "_with"), *((0, n, NO_CARRY, "_to") for n in (*range(1, 9), 31, 32, 33)),
-               *((0, n) for n in range(1, 131)), *((5, n) for n in (*range(1, 41), 59, 60, *range(120, 141), *range(200, 206)))],
+        first=[*((2 ** 64 - 21, 20, NO_CARRY, way) for way in ("_to", "_with")),
+               *((0, n, NO_CARRY, "_to") for n in (*range(1, 9), 31, 32, 33)), *((0, n) for n in range(1, 131)),
+               *((5, n) for n in (*range(1, 41), 59, 60, *range(120, 141), *range(200, 206)))],
         all_=[(0, 33, 5)], keys_24_32=[(0, 33), (3, 33, NO_CARRY, "_to"), (3, 33, NO_CARRY, "_with")]),
-    Row("any_cbc_encrypt", "every number of blocks", each=ONCE),
-    Row("any_cbc_decrypt", "64 n + r blocks for every n: r", most=[9], all_=[0]),
+    Row("any_cbc_encrypt", "every number of blocks", each=ONCE, lengths_24_32=ONCE),
+    Row("any_cbc_decrypt", "64 n + r blocks for every n: r", most=[9], remainders=[r * 9 % 64 for r in range(8) if r != 1],
+        lengths_24_32=[9], all_=[0]),
     Row("cbc_encrypt", "the number of blocks", most=[1, 2], keys_24_32=[1]),
     Row("cbc_decrypt", "the number of blocks", each=[9], most=[0, 1, 3, 4, 8, 17, 47], first=[7, 63, 64, 65, 71, 72], keys_24_32=[1]),
-    Row("any_wrap", "a key of every number of semiblocks", most=ONCE),
-    Row("any_unwrap", "a key of every number of semiblocks, also of what is refused", most=ONCE),
-    Row("any_wrap_padded", "a key of 16 n + r bytes for every n: r", most=[3], first=[7, 9, 15, 16]),
-    Row("any_unwrap_padded", "a key of 8 n + r bytes for every n, also of what is refused: r", most=[3], first=[1, 8]),
+    Row("any_wrap", "a key of every number of semiblocks", most=ONCE, lengths_24_32=ONCE),
+    Row("any_unwrap", "a key of every number of semiblocks, also of what is refused", most=ONCE, lengths_24_32=ONCE),
+    Row("any_wrap_padded", "a key of 16 n + r bytes for every n: r", most=[3], first=[7, 9, 15, 16],
+        remainders=[rest for rest in range(1, 15) if rest not in (3, 7, 9)], lengths_24_32=[3]),
+    Row("any_unwrap_padded", "a key of 8 n + r bytes for every n, also of what is refused: r", most=[3], first=[1, 2, *range(4, 9)],
+        lengths_24_32=[3]),
     Row("wrap", "the number of semiblocks", each=[2], keys_24_32=[2]),
     Row("unwrap", "the number of semiblocks, also of what is refused", each=[3], keys_24_32=[3]),
     Row("wrap_padded", "the number of bytes", each=[7, 8, 9, 15], keys_24_32=[1]),
     Row("unwrap_padded", "the number of bytes, also of what is refused", each=[9], keys_24_32=[1]),
-    Row("unwrap_padded_refused", "a wrong length, of a key of so many semiblocks: any byte of the three higher ones; one more, one less, "
-        "2^k and 2^k - 1 for every so many k", most=[(1, 8)], first=[(2, 16)], all_=[(1, 1)]),
-    Row("any_cmac", "16 n + r bytes for every n: r", each=[1], most=[16], first=[12, 15]),
-    Row("any_cmac_verify", "the same, also of what is refused: r and the tag's length", each=[(1, 16)], first=[(1, 11)]),
+    Row("unwrap_padded_refused", "a wrong length of a key of n semiblocks: one of the three higher bytes has any value; one more, one "
+        "less, 2^k and 2^k - 1 for every s-th k: n, s", most=[(1, 8)], first=[(2, 16)], all_=[(1, 1)]),
+    Row("any_cmac", "16 n + r bytes for every n: r", each=[1, 16], first=range(2, 16), lengths_24_32=[1, 16]),
+    Row("any_cmac_verify", "the same, also of what is refused: r and the tag's length", each=[(1, 16)],
+        first=[*((1, tag) for tag in cmac_ccm.CMAC_TAGS[:-1]), *((rest, 16) for rest in range(2, 17))], lengths_24_32=[(1, 16)]),
     Row("cmac", "the number of bytes", most=[0, 1, 16, 23], keys_24_32=[1]),
-    Row("cmac_verify", "the number of bytes and the tag's length, also of what is refused",
+    Row("cmac_verify", "the number of bytes and the tag's length, also of what is refused", each=FEW["cmac_verify"],
         most=[(n, tag) for n in (0, 17) for tag in cmac_ccm.CMAC_TAGS], keys_24_32=[(0, 4)]),
     *(Row(call, "16 a + b bytes of additional data, none if b is 0, and 256 n + r of text for every a and n: the lengths of nonce, b, r, "
-          "tag; the encoded length of additional data takes 2 bytes, or 6 or 10 if it says so", most=most, first=first,
+          "tag; the encoded length of additional data has 2 bytes, or 6 or 10 if the case names that", most=[*most, (13, 15, 255, 8)],
+          first=[*first, *LONGEST_CCM], remainders=EVERY[call], lengths_24_32=[(12, 15, 33, 8)],
           all_=[(13, 0, 16, 16), (9, 15, 255, 4, 6), (11, 9, 0, 6, 10)])
       for call, most, first in (("any_ccm_seal", (), [(8, 15, 33, 8), (8, 16, 33, 8, 6), (8, 16, 33, 8, 10)]),
-                                ("any_ccm_open", [(12, 15, 33, 8), (13, 15, 255, 8)], ()))),
+                                ("any_ccm_open", [(12, 15, 33, 8)], ()))),
     *(Row(call, "the lengths of nonce, additional data, text and tag", each=[(13, 8, 33, 8)],
           most=[(7, 0, 1, 4), (12, 14, 16, 16), (8, 15, 17, 6), (10, 33, 0, 14), (9, 0, 0, 10), (11, 0, 0, 12)],
           all_=[(nonce, 20, 40, tag) for nonce, tag in zip(cmac_ccm.NONCES, cmac_ccm.CCM_TAGS)],
@@ -83,134 +92,150 @@ AES_ROWS = [
 
 SIV_ON_RISCV = [Row(call, "as above", most=[(13, 161)]) for call in ("seal", "open")]
 
-NONCES = (8,), (1,), (60,), (16,), (32,)  # of other lengths than 12: so J_0 is any block
-FEW_COUNTERS = [None, gcm.CarryTo(3)]  # of `_next`; None: any without a carry
-CARRIES = [*map(gcm.CarryTo, (2, 1, 0)), 2 ** 96 - 2]
+NONCES = (8,), (1,), (60,), (16,), (32,)  # lengths other than 12, so that J_0 is any block
+FEW_COUNTERS = [None, CarryTo(3)]  # of `_next`; None: any without a carry
+CARRIES = [*map(CarryTo, (2, 1, 0)), 2 ** 96 - 2]
 MANY = 2 ** 35  # bytes, so that counts and positions don't fit into 32 bits
-SAME, AROUND = "the same, on both sides of borders of comparisons", (15, 16, 17, 31, 32, 33)
+SAYS_SAME, AROUND = "the same, on both sides of borders of comparisons", (15, 16, 17, 31, 32, 33)
 # Lengths of texts on both sides of the borders of comparisons: of words, blocks and batches.
 BORDERING = [*range(1, 6), *(n + by for n in (16, 32, 48, 64, 80, 112, 128, 144, 208, 256) for by in (-1, 0, 1))]
 # The lengths of additional data and text of AES-GCM-SIV; up to 160 bytes both are in one buffer.
 SHORT = [(*lengths, *way) for way in ((), ("_to",)) for lengths in ((0, 160), (0, 161), (160, 0), (161, 0), (1, 3), (1, 4))]
-ENDS = range(1, 16)  # of a block: how many bytes a message has behind whole ones
-WHOLE = "48 a + r bytes of additional data and 768 n + s of text for every a and n: r, s"
-NONCE = "; then the way, and r of a nonce of 48 k + r bytes for every k, in the place of one of 12 bytes"
+ENDS = range(1, 16)  # how many bytes a message may have after whole blocks
+SAYS_WHOLE = "48 a + r bytes of additional data and 768 n + s of text for every a and n: r, s"
+SAYS_NONCE = "; then the way, and r of a nonce of 48 k + r bytes for every k, instead of one of 12 bytes"
 OTHER_NONCES = (0, 129, "", 33), (13, 33, "_to", 0)
-PIECE = "%d n + r bytes for every n after 16 k + s for every k%s, and any J_0: s, r"
-STATE = "the phase, and how many bytes of additional data and of text came before"
-CAME = "the phase; after 16 k + s bytes of additional data and 16 m + t of text for every k and m, and any J_0: s, t"
+LONGEST = MOST_ADDITIONAL % 48, MOST % 768  # so that the longest allowed lengths are among them
+LONGEST_TOO = (*LONGEST, "_to"), *((*LONGEST, way, MOST_NONCE % 48) for way in ("", "_to"))
+SAYS_PIECE = "%d n + r bytes for every n after 16 k + s for every k%s, and any J_0: s, r"
+SAYS_STATE = "the phase, and how many bytes of additional data and of text came before"
+SAYS_CAME = "the phase; after 16 k + s bytes of additional data and 16 m + t of text for every k and m, and any J_0: s, t"
 
 GCM_ROWS = [
     Row("wipe_message", "", each=ONCE), Row("set_key_of", "", each=ONCE, keys_24_32=ONCE),
     Row("set_key_of_none", "", each=ONCE),
-    Row("any_seal", WHOLE + NONCE, each=[(13, 33)], most=[(0, 129)], first=[(13, 33, "", 8)],
-        all_=[(0, 0), (47, 767), (13, 33, "_to"), *OTHER_NONCES]),
-    Row("any_open", WHOLE + NONCE + "; also of what is refused", most=[(13, 33)], first=[(13, 33, "_to")],
-        all_=[(0, 0), (47, 767), (13, 33, "", 8), *OTHER_NONCES]),
-    Row("any_seal_next", WHOLE, first=[(13, 33)], all_=[(0, 129)]),
-    Row("any_begin", "a nonce of 48 k + r bytes for every k: r", most=[8], all_=[0, 12, 33, 47]),
-    *(Row("any_" + call, PIECE % (step, ", and 7 of additional data" * (call != "additional")), first=[(3, 46)], all_=[(15, 48)])
+    Row("any_seal", SAYS_WHOLE + SAYS_NONCE, each=[(13, 33)], most=[(0, 129), LONGEST], first=[(13, 33, "", 8), *LONGEST_TOO],
+        lengths_24_32=[(13, 33), (13, 33, "_to")], all_=[(0, 0), (47, 767), (13, 33, "_to"), *OTHER_NONCES]),
+    Row("any_open", SAYS_WHOLE + SAYS_NONCE + "; also of what is refused", most=[(13, 33), LONGEST], first=[(13, 33, "_to"), *LONGEST_TOO],
+        lengths_24_32=[(13, 33), (13, 33, "_to")], all_=[(0, 0), (47, 767), (13, 33, "", 8), *OTHER_NONCES]),
+    *(Row("any_" + call, "the same", remainders=EVERY["any_" + call]) for call in ("seal", "open")),
+    Row("any_seal_next", SAYS_WHOLE, first=[(13, 33), LONGEST], lengths_24_32=[(13, 33)], all_=[(0, 129)]),
+    Row("any_begin", "a nonce of 48 k + r bytes for every k: r", most=[8, LONGEST[0]],
+        remainders=[19 * k % 48 for k in range(16) if k not in (5, 8)], lengths_24_32=[8], all_=[0, 12, 33, 47]),
+    *(Row("any_" + call, SAYS_PIECE % (step, ", and 7 of additional data" * (call != "additional")), first=[(3, 46)],
+          lengths_24_32=[(3, 46)], all_=[(15, 48)])
       for call, step in (("additional", 48), ("verify", 48), ("encrypt", 768), ("decrypt", 768), ("decrypt_unverified", 768))),
     Row("seal", "the lengths of additional data and text, and a nonce of another length", each=[(13, 33), (13, 33, (), "_to")],
-        most=[(0, 0), (0, 5), (1, 1), (13, 0), (16, 16), (20, 64), (32, 32), (49, 1), (0, 449, gcm.UNKNOWN), (0, 0, (), "_to"),
+        most=[(0, 0), (0, 5), (1, 1), (13, 0), (16, 16), (20, 64), (32, 32), (49, 1), (0, 449, ANY_J_0_NONCE), (0, 0, (), "_to"),
               *((5, 20, nonce) for nonce in NONCES)],
         first=[*((n, 0) for n in (*AROUND, 47, 48, 49)), *((13, n, (), "_to") for n in (3, 4, 31, 32))],
         all_=[*((5, 40, nonce) for nonce in NONCES), *((5, n, (60,)) for n in (0, 129, 300))],
-        keys_24_32=[(13, 481, gcm.UNKNOWN), (0, 0, (), "_to")]),
-    Row("seal", SAME, first=[(13, n, gcm.UNKNOWN) for n in (*BORDERING, 131)]),
+        keys_24_32=[(13, 481, ANY_J_0_NONCE), (0, 0, (), "_to")]),
+    Row("seal", SAYS_SAME, first=[(13, n, ANY_J_0_NONCE) for n in (*BORDERING, 131)]),
+    *(Row(call, "at each remainder by 16, in one of both calls", each=FEW[call]) for call in ("seal", "open")),
     Row("open", "the same, also of what is refused", each=[(13, 33), (13, 33, (), "_to")],
-        most=[(0, 0), (13, 0), (20, 64), (0, 0, (), "_to"), (3, 20, gcm.UNKNOWN)],
+        most=[(0, 0), (13, 0), (20, 64), (0, 0, (), "_to"), (3, 20, ANY_J_0_NONCE)],
         first=[(13, n, (), "_to") for n in (3, 4, 31, 32)], all_=[(3, 20, nonce) for nonce in NONCES[1:]],
         keys_24_32=[(13, 33), (0, 0, (), "_to")]),
     Row("begin", "the nonce", each=[(), *((nonce,) for nonce in NONCES)], keys_24_32=[()]),
-    Row("seal_next", "the lengths of additional data and text, and the counter: if a carry comes to a byte, this one is any, those behind "
-        "it are 255, and those before it 0",
+    Row("seal_next", "the lengths of additional data and text, and the counter: if a carry comes to a byte, this byte has any value, those "
+        "after it are 255, and those before it are 0",
         each=[(3, 1, counter) for counter in FEW_COUNTERS], most=[(3, 1, counter) for counter in CARRIES],
         keys_24_32=[(3, 1, counter) for counter in FEW_COUNTERS]),
     Row("begin_next", "the counter, as above", each=FEW_COUNTERS, most=CARRIES, keys_24_32=FEW_COUNTERS),
     Row("additional", "how many bytes came before, and how many come: it also runs beside a processor", each=[(3, 13)],
         keys_24_32=[(3, 13)]),
     Row("any_then_additional", "after 16 k + s bytes for every k, and any J_0: s, and how many bytes come", each=[(3, 13)],
-        most=[(3, 5), (3, 100), (0, 0), (0, 5), (0, 48), (13, 13), (0, 7)],
-        first=[*((s, 1) for s in range(16)), (12, 13), *((3, n) for n in range(2, 50))],
+        most=[(3, 5), (3, 12), (3, 100), (0, 0), (0, 5), (0, 48), (13, 13), (0, 7)],
+        first=[*((s, 1) for s in range(16)), (12, 13), *((3, n) for n in range(2, 50) if n != 12)],
         all_=[(s, n) for s in range(16) for n in (0, 16, 32)]),
-    Row("any_then_piece", "the first piece: the call; " + CAME + ", and how many bytes come", each=[
-        (call, gcm.ADDITIONAL, 5, 0, 3) for call in PHASES],
-        most=[(call, gcm.ADDITIONAL, *numbers) for call in PHASES for numbers in ((0, 0, 16), (0, 0, 3), (5, 0, 0))],
-        all_=[(call, gcm.ADDITIONAL, s, 0, 1) for call in PHASES for s in range(16)],
-        keys_24_32=[(call, gcm.ADDITIONAL, 5, 0, 3) for call in PHASES]),
-    Row("any_then_piece", "another piece", each=[("encrypt", gcm.ENCRYPTING, 5, 0, n) for n in (64, 500)],
-        first=[("encrypt", gcm.ENCRYPTING, 5, 7, n) for n in (*range(1, 28), 57, 121)],
+    Row("any_then_piece", "the first piece: the call; " + SAYS_CAME + ", and how many bytes come", each=[
+        (call, ADDITIONAL, 5, 0, 3) for call in PHASES],
+        most=[(call, ADDITIONAL, *numbers) for call in PHASES for numbers in ((0, 0, 16), (0, 0, 3), (5, 0, 0))],
+        all_=[(call, ADDITIONAL, s, 0, 1) for call in PHASES for s in range(16)],
+        keys_24_32=[(call, ADDITIONAL, 5, 0, 3) for call in PHASES]),
+    Row("any_then_piece", "another piece", each=[("encrypt", ENCRYPTING, 5, 0, n) for n in (64, 500)],
+        first=[("encrypt", ENCRYPTING, 5, 7, n) for n in (*range(1, 28), 57, 121)],
         most=[(call, phase, 5, *numbers) for call, phase in PHASES.items() for numbers in ((4, 50), (7, 9), (4, 3))]),
     Row("any_then_piece", "the same", most=[
         *((call, phase, *numbers) for call, phase in PHASES.items() for numbers in ((5, 4, 300), (5, 11, 20), (0, 0, 0))),
-        ("encrypt", gcm.ENCRYPTING, 5, 5, 4), ("verify", gcm.VERIFYING, 0, 0, 9)],
+        ("encrypt", ENCRYPTING, 5, 5, 4), ("verify", VERIFYING, 0, 0, 9)],
         first=[(call, phase, 5, t, 1) for call, phase in PHASES.items() for t in range(16)],
         all_=[(call, phase, 5, t, n) for call, phase in PHASES.items() for t in range(16) for n in (0, 16, 32)]),
-    Row("any_then_decrypt", "after 16 m + t bytes for every m, of a text of any length, and any J_0: t, and how many bytes come",
-        each=[(7, 20)], most=[(7, 0), (5, 4), (0, 68), (11, 20)], first=[(t, 1) for t in range(16)],
+    Row("any_then_decrypt", "after 16 m + t bytes for every m, of a text of any length, 16 k + 3 bytes of additional data for every "
+        "k, and any J_0: t, and how many bytes come",
+        each=[(7, 20)], most=[(7, 0), (7, 9), (5, 4), (0, 68), (11, 20)], first=[(t, 1) for t in range(16)],
         all_=[(t, n) for t in range(16) for n in (0, 16, 32)], keys_24_32=[(7, 20)]),
-    *(Row("any_" + call, CAME + also,
-          each=[(phase, 0, 7), *each], most=[*((gcm.ADDITIONAL, n, 0) for n in (0, 5)), (phase, 5, 0), *most],
+    *(Row("any_" + call, SAYS_CAME + also,
+          each=[(phase, 0, 7), *each], most=[*((ADDITIONAL, n, 0) for n in (0, 5)), (phase, 5, 0), *most],
           keys_24_32=[(phase, 0, 7), *each, *((phase, 5, n) for n in ENDS)],
-          first=[*((gcm.ADDITIONAL, n, 0) for n in ENDS if n != 5), *((phase, 5, n) for n in ENDS)])
+          first=[*((ADDITIONAL, n, 0) for n in ENDS if n != 5), *((phase, 5, n) for n in ENDS)])
       for call, phase, also, each, most in (
-          ("finish", gcm.ENCRYPTING, "", (), ()),
-          ("accept", gcm.VERIFYING, "; also of what is refused, and of a shorter tag", [(gcm.VERIFYING, 0, 7, 12)],
-           [(gcm.ADDITIONAL, 5, 0, 12), *((gcm.VERIFYING, 0, 7, n) for n in gcm.SHORT_TAGS if n != 12)])))]
+          ("finish", ENCRYPTING, "", (), ()),
+          ("accept", VERIFYING, "; also of what is refused, and of a shorter tag",
+           [(VERIFYING, 0, 7, 12), *((ADDITIONAL, 5, 0, n) for n in SHORT_TAGS)],
+           [(VERIFYING, 0, 7, n) for n in SHORT_TAGS if n != 12])))]
 
-# Where calls of every length aren't proved (left_out).
+# Where calls of every length aren't proved (left_out). Some have one longer length.
+LONG = 2048  # bytes
 OF_SHORT_WORDS = {
     "aes": [
-        Row("blocks", "as above", each=[(way, n, "_to") for way in DIRECTIONS for n in (1, 2)]),
-        Row("cmac", "as above", each=[17]), Row("cmac_verify", "as above", each=[(17, 16)]),
-        Row("add_keystream", "as above, and how many words of 32 bits above the lowest one carry too", each=[(5, 40, 2, "", 1)],
+        Row("blocks", "as above", each=[(way, n, "_to") for way in DIRECTIONS for n in (1, 2)], most=[("encrypt", LONG // 16, "_to")]),
+        Row("ccm_seal", "as above", most=[(13, 8, LONG, 8)]), Row("cmac", "as above", each=[16, 17, LONG]),
+        Row("cmac_verify", "as above", each=[(17, 16)]),
+        Row("add_keystream", "as above, and how many words of 32 bits above the lowest one carry too", each=[(5, LONG), (5, 40, 2, "", 1)],
             most=[(5, 40, 2, "", 2)])],
     "gcm": [
+        Row("seal", "as above", most=[(13, LONG)]),
         Row("additional", "as above", most=[(3, 5), (3, 100), (0, 0), (0, 5), (32, 48), (2 ** 32 - 3, 13), (MANY, 7)]),
-        Row("piece", "the call; " + STATE + "; the number of bytes; and a nonce of another length",
-            each=[("encrypt", gcm.ENCRYPTING, 5, MANY, n, (12,)) for n in (64, 500)],
+        Row("piece", "the call; " + SAYS_STATE + "; the number of bytes; and a nonce of another length",
+            each=[("encrypt", ENCRYPTING, 5, MANY, n, (12,)) for n in (64, 500)],
             most=[(call, phase, 5, *numbers) for call, phase in PHASES.items() for numbers in ((20, 50), (7, 9), (4, 3))]),
         Row("piece", "the same", most=[
             *((call, phase, *numbers) for call, phase in PHASES.items() for numbers in ((5, 20, 300), (0, 0, 0))),
-            ("encrypt", gcm.ENCRYPTING, 5, 5, 4), ("verify", gcm.VERIFYING, MANY, MANY, 9, (12,))]),
+            ("encrypt", ENCRYPTING, 5, 5, 4), ("verify", VERIFYING, MANY, MANY, 9, (12,))]),
         Row("piece", "the same, across 2^32 bytes, and up to the longest text", most=[
-            (call, phase, 5, *numbers, (12,)) for call, phase in PHASES.items() for numbers in ((2 ** 32 - 5, 20), (gcm.MOST - 9, 9))]),
+            (call, phase, 5, *numbers, (12,)) for call, phase in PHASES.items() for numbers in ((2 ** 32 - 5, 20), (MOST - 9, 9))]),
         Row("decrypt", "the length of the text, how many bytes of it came before, and how many come", each=[(100, 7, 20)],
             most=[(100, 7, 0), (100, 5, 4), (100, 32, 68), (2 * MANY, MANY - 5, 20, (12,))], keys_24_32=[(100, 7, 20)])]}
 
 SIV_ROWS = [
-    Row("any_seal", WHOLE + "; both may have 2^36 bytes", most=[(33, 77), (16, 256)], first=[(13, 33, "_to")],
+    Row("any_seal", SAYS_WHOLE + "; both may have 2^36 bytes", most=[(33, 77), (16, 256)],
+        first=[(13, 33, "_to"), (16, 256, "_to")], remainders=EVERY["siv any_seal"], lengths_24_32=[(33, 77), (13, 33, "_to")],
         all_=[(0, 0), (47, 767)]),
-    Row("any_open", WHOLE + "; also of what is refused", most=[(13, 33, "_to"), (13, 225)],
+    Row("any_open", SAYS_WHOLE + "; also of what is refused", most=[(13, 33, "_to"), (13, 225)],
+        first=[(16, 256), (16, 256, "_to")], remainders=EVERY["siv any_open"], lengths_24_32=[(13, 33, "_to"), (13, 225)],
         all_=[(33, 48), (0, 0, "_to")]),
     Row("seal", "the lengths of additional data and text", each=[(13, 33), (13, 33, "_to")],
         most=[(13, 0), (1, 1), (13, 7), (0, 16), *SHORT],
         first=[(a, n) for n in (0, 161) for a in (1, *AROUND, 47, 48, 49)],
         keys_24_32=[(13, 33), (13, 33, "_to")]),
-    *(Row("seal", SAME, first=[(a, n) for n in (*BORDERING, 67, 68, 131, 132)]) for a in (13, 161)),
+    *(Row("seal", SAYS_SAME, first=[(a, n) for n in (*BORDERING, 67, 68, 131, 132)]) for a in (13, 161)),
     Row("open", "the same, also of what is refused", each=[(1, 1), (13, 33, "_to")], most=[(13, 0), (13, 7), (0, 16), *SHORT],
         keys_24_32=[(1, 1), (13, 33, "_to")])]
 
 
 def at_ends(library):
-    return Row("at_ends", "a call, at each remainder that its lengths may leave ([ends.py](ends.py))", first=[*ends.ENDS[library]])
+    names = [name for name in LENGTHS[library] if name not in AMONG_REMAINDERS]
+    return [Row("at_ends", "a call, at each remainder that its lengths may leave ([remainders.py](remainders.py))", first=names,
+                remainders=[name for name in LENGTHS[library] if name not in names]),
+            Row("at_pairs", "a call, at each pair of remainders by 16 that two of its lengths may leave", remainders=PAIRS[library])]
 
 
 def common_rows(library, version):
-    """Of each library: what AES-GCM-SIV has too comes first."""
+    """Gives the rows that libraries share. Those that AES-GCM-SIV has too come first."""
     rows = [Row("wipe", "", each=ONCE), Row("set_key_refused", "every length of a key that is refused", each=ONCE)]
     return rows if library == "siv" else [
         *rows, Row("key_length", "", each=ONCE, keys_24_32=ONCE), Row("key_length_of_none", "", each=ONCE),
         Row("version", "the number", each=[version])]
 
 
-LIBRARIES = {library: (keyed, [*rows, at_ends(library)]) for library, keyed, rows in (
+LIBRARIES = {library: (keyed, [*rows, *at_ends(library)]) for library, keyed, rows in (
     ("aes", aes.KeyedAes, AES_ROWS), ("gcm", gcm.KeyedGcm, GCM_ROWS), ("siv", siv.KeyedSiv, SIV_ROWS))}
 
 
 def rows_of(library, machine):
-    """On RISC-V without what the README says isn't proved."""
+    """Gives the rows of a library. On RISC-V they lack what the README names as not proved."""
     rows = LIBRARIES[library][1]
     if not issubclass(machine, Riscv):
         return rows
@@ -228,7 +253,7 @@ def as_tuple(entry):
 def left_out(library, word, name, values):
     """Whether a build for RISC-V leaves these arguments out."""
     if name in ("any_finish", "any_accept") or name.startswith("any_then_"):
-        return word == 4 and name.startswith("any_then_") and not (name == "any_then_piece" and values[1] == gcm.ADDITIONAL)
+        return word == 4 and name.startswith("any_then_") and not (name == "any_then_piece" and values[1] == ADDITIONAL)
     if name.startswith("any_") and library != "aes":
         return word == 4 or library == "siv" or name not in ("any_seal", "any_open", "any_seal_next", "any_begin")
     if word == 4 and library == "aes":
@@ -237,16 +262,18 @@ def left_out(library, word, name, values):
     return word == 4 and library == "gcm" and None in values and name.endswith("_next")
 
 
-def taken(row, build, key_size, level):
-    """The arguments with which a build takes a statement."""
-    is_late = takes_few(build)
+def arguments_taken(row, build, key_size, level):
+    """Gives the arguments with which a build takes a statement."""
+    is_late, is_first = takes_few(build), level and build in FIRST
     if key_size != 16:
         many = [*row.each, *row.most] if level == "all" and not is_late else []
-        return dict.fromkeys([*many, *(row.keys_24_32 if level == "all" or not is_late else ())])
+        once = row.keys_24_32 if level == "all" or not is_late else ()
+        return dict.fromkeys([*many, *once, *(row.lengths_24_32 if is_first else ())])
+    remainders = row.remainders if is_first else ()
     if level == "all":
-        return dict.fromkeys([*row.each, *row.most, *(() if is_late else [*row.first, *row.all_])])
-    is_first = level and build in FIRST
-    return dict.fromkeys([*row.each, *(() if takes_few(build, level) else row.most), *(row.first if is_first else ())])
+        return dict.fromkeys([*row.each, *row.most, *(() if is_late else [*row.first, *row.all_]), *remainders])
+    most = () if takes_few(build, level) else row.most
+    return dict.fromkeys([*row.each, *most, *(row.first if is_first else ()), *remainders])
 
 
 def name_of(row, values):
@@ -254,10 +281,10 @@ def name_of(row, values):
 
 
 def statements(keyed, options, part, parts):
-    """(what, Call) of this part of all; set_key was proved before."""
+    """Gives the cases of one part as (what, Call). set_key was proved before."""
     program, number, refusals = keyed.program, itertools.count(), collections.Counter()
     for row in [*common_rows(keyed.library, version(options.dist, keyed.library)), *rows_of(keyed.library, program.machine)]:
-        for values in taken(row, program.build, keyed.key_size, options.level):
+        for values in arguments_taken(row, program.build, keyed.key_size, options.level):
             values = as_tuple(values)
             what = name_of(row, values)
             if options.only in what and next(number) % parts == part:

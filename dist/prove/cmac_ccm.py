@@ -1,7 +1,9 @@
-"""The statements for CMAC (SP 800-38B) and CCM (SP 800-38C) of fotsgure_aes.h, beside the sentence of the header that each proves.
+"""States the calls of fotsgure_aes.h for CMAC (SP 800-38B) and CCM (SP 800-38C). Each statement quotes the sentence of the header that it
+proves.
 
-Both make a chain: each block is added to a value, and Cipher of the sum is the next value. When a value is what it should be, it becomes
-arbitrary bytes, as in CBC encryption. Value k comes before block k, and a byte of block k is a byte of block k of the domain."""
+Both modes make a chain: each block is added to a value, and Cipher of the sum is the next value. When the code has computed a value, and it
+is right, it becomes arbitrary bytes, as in CBC encryption. Value k comes before block k. A byte of block k is one of block k of the
+domain."""
 import itertools
 from collections import namedtuple
 
@@ -14,30 +16,33 @@ from standards import ZEROS, doubled, number, padded
 
 NONCES, CCM_TAGS, CMAC_TAGS = range(7, 14), range(4, 17, 2), range(4, 17)  # lengths
 
-# A message of CCM: the arguments before the text; the text as it is in the chain, and at which block of it that begins; the steps of the
-# chain; and the tag.
+# A message of CCM: the arguments before the text; the text as it is in the chain, and the block of the chain at which it starts; the steps
+# of the chain; and the tag.
 CcmMessage = namedtuple("CcmMessage", "arguments text start steps tag")
-# One of any length: also the size of the text, the patterns of a text and of keystream, the steps of the chain in its phases, how many
-# these are, and what else a call needs.
+# A message of any length. It also has the size of the text, the patterns of text and keystream, the number of phases of the chain, and what
+# else a call needs. `steps` are those of the chain in a phase.
 AnyCcmMessage = namedtuple("AnyCcmMessage", "arguments size text stream steps phases tag more")
 
 
 class CmacCcm:
-    """Calls of fotsgure_aes.h for CMAC and CCM."""
+    """Has the statements for CMAC and CCM of fotsgure_aes.h."""
 
     def __init__(self, program, key_size):
         super().__init__(program, key_size)
-        block = lambda name, depends, *of_block: [self.domain.fresh("%s byte %d" % (name, i), depends, *of_block) for i in range(16)]
+
+        def block(name, depends, *of_block):
+            return [self.domain.fresh("%s byte %d" % (name, i), depends, *of_block) for i in range(16)]
+
         self.sealed, self.tag = block("encrypted", DATA, True), block("tag", DATA)
         self.nonce, self.last_sum = block("nonce", PUBLIC), block("last sum", KEY | DATA)
 
     # Chains.
-    def filled(self, begin, count):
-        """The blocks of a string of `begin` and so many bytes more, each as it would be in block 0."""
+    def filled_blocks(self, begin, count):
+        """Gives the blocks of a string of `begin` and `count` more bytes, each as it would be in block 0."""
         return padded(begin + (self.block_bytes * (count // 16 + 2))[len(begin):len(begin) + count])
 
     def next_value(self, block, k):
-        """Cipher of the sum of a block, which is number k, and the value before it."""
+        """Gives Cipher of the sum of block k and the value before it."""
         value = self.chain()[0] if k else ZEROS
         return self.in_block(self.cipher_of(self.aes.xor(block, value)), k)
 
@@ -49,14 +54,15 @@ class CmacCcm:
             yield "block", self.next_value(block, k), self.value(k + 1)
 
     # CMAC.
-    def tagged(self, length):
-        """A message, the steps of the call, and the tag (6.2)."""
+    def message_and_tag(self, length):
+        """Gives a message, the steps of the call, and the tag (6.2)."""
         before = max(length - 1, 0) // 16
         rest = self.block_bytes[:length - 16 * before]
         first = doubled(self.domain, self.cipher_of(ZEROS))  # subkeys (6.1)
         subkey = first if len(rest) == 16 else doubled(self.domain, first)
         last = self.aes.xor(self.in_block((rest + [0x80] + ZEROS)[:16], before), subkey)
-        added = ZEROS if self.steps_appear_in == "vector" else self.value(before)  # what has been added to it before it is found
+        # What is already added to the last block when the step looks for it.
+        added = ZEROS if self.steps_appear_in == "vector" else self.value(before)
 
         def steps():
             yield from self.chain_steps([self.block_bytes] * before)
@@ -66,21 +72,21 @@ class CmacCcm:
 
     def cmac(self, length):
         """CMAC (SP 800-38B, 6.2; RFC 4493): writes the tag of a message .. DONE"""
-        message, steps, tag = self.tagged(length)
+        message, steps, tag = self.message_and_tag(length)
         return Call("aes_cmac", [self.schedule(), Buffer("message", message), length, Buffer("tag", self.undefined(16), tag)], DONE,
                     steps=steps, plain=message)
 
     def cmac_verify(self, length, tag_length):
-        """Compares a tag with that of a message, without an early exit (6.3). A tag of fewer than 16 bytes is compared with the first ones
+        """Compares a tag with that of a message, without an early exit (6.3). A tag of 4 to 15 bytes is compared with the first bytes
         of the whole tag .. REFUSED; else DONE"""
-        message, steps, right = self.tagged(length)
+        message, steps, right = self.message_and_tag(length)
         tag = self.tag[:tag_length]
         return Call("aes_cmac_verify", [self.schedule(), Buffer("message", message), length, Buffer("tag", tag), tag_length], DONE,
                     steps=steps, reveals=self.aes.xor(tag, right), refused=REFUSED, plain=message)
 
     # CMAC of 16 n + `rest` bytes for every n, where the last block has from 1 to 16 bytes.
     def any_link(self, m, k, first, block=None, after=None):
-        """The step from block k to the next one: before block 0 there is `first`. The last block and what comes after it may be others."""
+        """Gives the step from block k to the next one. `first` is the value before block 0. `block` and `after` are for a last block."""
         block = block or self.block_bytes
         if isinstance(k, int) and k == 0:
             want = self.at_link(m, self.cipher_of(self.aes.xor(block, first)), k)
@@ -90,9 +96,10 @@ class CmacCcm:
             return "nothing", (), ()
         return "block", want, after or self.at_link(m, self.chain()[0], k + 1)
 
-    def any_tagged(self, rest):
-        """The arguments that are a message, what a call of every length needs besides, and the tag."""
-        blocks, apart = unknown("n"), self.steps_appear_in == "vector"  # whether a value is added to the last block after that is found
+    def any_message_and_tag(self, rest):
+        """Gives the arguments for a message, the other arguments of a Call of every length, and the tag."""
+        blocks = unknown("n")
+        apart = self.steps_appear_in == "vector"  # whether the value is added only after the step has found the last block
         first = doubled(self.domain, self.cipher_of(ZEROS))
         subkey = first if rest == 16 else doubled(self.domain, first)
         last = self.aes.xor((self.block_bytes[:rest] + [0x80] + ZEROS)[:16], subkey)
@@ -115,38 +122,38 @@ class CmacCcm:
         return [Stream("message", size, message), size], more, tag
 
     def any_cmac(self, rest):
-        message, more, tag = self.any_tagged(rest)
+        message, more, tag = self.any_message_and_tag(rest)
         return Call("aes_cmac", [self.schedule(), *message, Buffer("tag", self.undefined(16), tag)], DONE, **more)
 
     def any_cmac_verify(self, rest, tag_length):
-        message, more, right = self.any_tagged(rest)
+        message, more, right = self.any_message_and_tag(rest)
         tag = self.tag[:tag_length]
         return Call("aes_cmac_verify", [self.schedule(), *message, Buffer("tag", tag), tag_length], DONE,
                     reveals=lambda m: self.aes.xor(tag, right(m)), refused=REFUSED, **more)
 
     # CCM.
     def counter_stream(self, nonce, i):
-        """Cipher of counter block i (A.3)."""
+        """Gives Cipher of counter block i (A.3)."""
         return self.cipher_of([14 - len(nonce), *nonce, *number(i, 15 - len(nonce))])
 
     def ccm_crypted(self, nonce, text):
-        """Keystream, which begins with counter block 1, added to a text (6.1, steps 6 to 8); and that keystream."""
+        """Adds keystream to a text (6.1, steps 6 to 8). The keystream begins with counter block 1. Gives the sum and the keystream."""
         end = len(text) // 16 + 2
-        for i in range(end, end + self.program.narrow // 2):  # a batch may have more blocks: their S-boxes have names then
+        for i in range(end, end + self.program.narrow // 2):  # a batch may have more blocks: so their S-boxes get names
             self.counter_stream(nonce, i)
         stream = [b for i in range(1, end) for b in self.counter_stream(nonce, i)]
         return self.aes.xor(text, stream), stream
 
-    def formatted(self, nonce, additional_length, text_length, tag_length):
-        """The blocks of additional data and a text (A.2), with how many of them come before the text."""
+    def formatted_blocks(self, nonce, additional_length, text_length, tag_length):
+        """Gives the blocks of additional data and a text (A.2), and the number of blocks before the text."""
         flags = 64 * (additional_length > 0) + 8 * ((tag_length - 2) // 2) + 14 - len(nonce)
         first = [flags, *nonce, *number(text_length, 15 - len(nonce))]
-        blocks = [first] + (self.filled(number(additional_length, 2), additional_length) if additional_length else [])
-        return blocks + self.filled([], text_length), len(blocks)
+        blocks = [first] + (self.filled_blocks(number(additional_length, 2), additional_length) if additional_length else [])
+        return blocks + self.filled_blocks([], text_length), len(blocks)
 
     def ccm_message(self, nonce_length, additional_length, text_length, tag_length):
         nonce = self.nonce[:nonce_length]
-        blocks, start = self.formatted(nonce, additional_length, text_length, tag_length)
+        blocks, start = self.formatted_blocks(nonce, additional_length, text_length, tag_length)
         additional = self.in_blocks(self.block_bytes, additional_length, 18)
         text = self.in_blocks(self.block_bytes, text_length, 16 * start)
         tag = self.aes.xor(self.value(len(blocks)), self.counter_stream(nonce, 0))[:tag_length]
@@ -154,7 +161,7 @@ class CmacCcm:
         return CcmMessage(arguments, text, start, lambda: self.chain_steps(blocks), tag)
 
     def ccm_seal(self, nonce_length, additional_length, text_length, tag_length):
-        """CCM (SP 800-38C, 6.1; RFC 3610): encrypts `text_length` bytes in place under a nonce .. and writes a tag .. DONE"""
+        """CCM (SP 800-38C, 6.1; RFC 3610): encrypts `text_length` bytes in place, and writes a tag .. DONE"""
         message = self.ccm_message(nonce_length, additional_length, text_length, tag_length)
         sealed, stream = self.ccm_crypted(self.nonce[:nonce_length], message.text)
         return Call("aes_ccm_seal", [*message.arguments, Buffer("text", message.text, sealed), text_length,
@@ -162,8 +169,8 @@ class CmacCcm:
                     steps=message.steps, keystream=stream, plain=message.text)
 
     def ccm_open(self, nonce_length, additional_length, text_length, tag_length):
-        """Decrypts `text_length` bytes in place if the tag is right (6.2). The tag can be compared only once the text is decrypted, so a
-        text that is refused is encrypted again: it is, when the call returns, as it was. .. REFUSED; else DONE"""
+        """Decrypts `text_length` bytes in place if the tag is right (6.2). The tag can be compared only once the text is decrypted. So
+        a refused text is encrypted again, and is unchanged when the call returns. .. REFUSED; else DONE"""
         message = self.ccm_message(nonce_length, additional_length, text_length, tag_length)
         nonce, text, tag = self.nonce[:nonce_length], message.text, self.tag[:tag_length]
         sealed = self.in_blocks(self.sealed, text_length, 16 * message.start)
@@ -173,18 +180,18 @@ class CmacCcm:
             if text:
                 yield "text", opened, text
             yield from message.steps()
-            if text:  # with the keystream once more it is what it was
+            if text:  # with the keystream added again it is what it was
                 yield "text", self.ccm_crypted(nonce, text)[0], sealed
         return Call("aes_ccm_open", [*message.arguments, Buffer("text", sealed, text), text_length, Buffer("tag", tag), tag_length], DONE,
                     steps=steps, reveals=self.aes.xor(tag, message.tag), refused=REFUSED, keystream=stream, plain=text, undone=True)
 
-    # CCM of texts of 256 n + `rest` bytes for every n: so each byte of the length is one of n, or known. The halves of a counter block are
-    # words of unknown value.
+    # CCM of texts of 256 n + `rest` bytes for every n. So each byte of the length is a byte of n, or known. The halves of a counter block
+    # are words of unknown value.
     def ccm_counters(self, nonce):
-        """Cipher of the counter block of any block of text. (A text has fewer blocks than bytes, so the number never fills its bytes.)"""
+        """Gives Cipher of the counter block of any block of text. (A text has fewer blocks than bytes, so the number always fits.)"""
         d, size = self.domain, 15 - len(nonce)
         low = nonce[7:] + [d.fresh("counter byte %d" % i, PUBLIC, True) for i in range(16 - size, 16)]
-        d.words["CCM high, %d" % size] = lambda offset, k: d.bits(([size - 1] + nonce[:7])[7 - k]) if offset == 0 else None
+        d.bits_of_word["CCM high, %d" % size] = lambda offset, k: d.bits(([size - 1] + nonce[:7])[7 - k]) if offset == 0 else None
         d.placed["CCM low, %d" % size] = lambda number, k: d.bits(d.byte_in_block(low[7 - k], number))
         return self.aes.cipher([14 - len(nonce)] + nonce[:7] + low, self.round_key_words)
 
@@ -194,8 +201,8 @@ class CmacCcm:
         return CounterWord("CCM low, %d" % of, 1, NEVER, size.divided(16)[0] + 2 + BATCH, words)
 
     def any_string(self, m, k, size, cells, first, last_value, begin=()):
-        """The step at block k of a string of this size, which may begin with other bytes than those cells. Before the string is the value
-        `first`, and behind it `last_value`."""
+        """Gives the step at block k of a string of this size. `begin` has its first bytes, if they aren't those cells. `first` is the value
+        before the string, and `last_value` the one after it."""
         whole, rest = divmod(size, 16) if isinstance(size, int) else size.divided(16)
         block = [*begin, *cells[len(begin):]] if isinstance(k, int) and k == 0 else cells
         if m.is_below(k, whole):
@@ -204,18 +211,19 @@ class CmacCcm:
             return self.any_link(m, k, first, block[:rest] + ZEROS[rest:], last_value)
         if k == whole:
             return "here", first if k == 0 else self.at_link(m, self.chain()[0], k), last_value
-        return "again" if k == whole + 1 else "nothing", (), ()
+        return "return" if k == whole + 1 else "nothing", (), ()
 
     def fresh_block(self, name, *of_block):
         depends = KEY * (not of_block) | DATA
         return self.made_once(name, lambda: [self.domain.fresh("%s, byte %d" % (name, i), depends, *of_block) for i in range(16)])
 
     def any_ccm(self, nonce_length, additional, rest, tag_length, encoded=2):
-        """There are no additional data, or 16 a + `additional` bytes for every a, whose length takes `encoded` bytes (A.2.2)."""
+        """Gives a message of any length. It has no additional data, or 16 a + `additional` bytes for every a, whose length is `encoded`
+        bytes long (A.2.2)."""
         nonce, size, length = self.nonce[:nonce_length], unknown("n") * 256 + rest, unknown("a") * 16 + additional
         stream = self.pattern(self.made_once(("CCM counters", nonce_length), lambda: self.ccm_counters(nonce)))
         text, cells = self.pattern(self.block_bytes, -1), self.fresh_block("additional data", True)
-        first, middle, last_value = (self.fresh_block(name) for name in ("first value", "value behind additional data", "last value"))
+        first, middle, last_value = (self.fresh_block(name) for name in ("first value", "value after additional data", "last value"))
         flags = 64 * (additional > 0) + 8 * ((tag_length - 2) // 2) + 14 - nonce_length
         begin = {2: [], 6: [255, 254], 10: [255, 255]}[encoded] + self.highest_first(length, encoded - 2 or 2)
         lengths = {2: between(length, 1, 0xfeff), 6: between(length, 0xff00, WORD >> 32), 10: between(length, 1 << 32, PTRDIFF_MAX)}
@@ -243,7 +251,8 @@ class CmacCcm:
                     plain=self.in_all_blocks(message.text), **message.more)
 
     def any_ccm_open(self, *lengths):
-        """When all of the text is decrypted, it becomes arbitrary bytes; with the keystream once more it is what it was."""
+        """States a call that decrypts. When all of the text is decrypted, it becomes arbitrary bytes. With the keystream added again it is
+        what it was."""
         message = self.any_ccm(*lengths)
         tag, sealed = self.tag[:len(message.tag)], self.pattern(self.sealed)
         opened, undone = (self.aes.xor(bytes_, message.stream) for bytes_ in (sealed, message.text))

@@ -1,21 +1,25 @@
-"""All that is done with symbolic bits and bytes: a domain has the cells of one proof."""
+"""Computes with symbolic bits and bytes. A domain has the cells of one proof."""
 import functools
 
-from bits import BLOCK, OF_PRODUCT, PRODUCT, Forms, Unproved, affine_columns, composed, linear_bits
-from names import Names
+from bits import BLOCK, OF_PRODUCT, PRODUCT, Forms, Unproved, affine_columns, composed_tables, linear_bits
 from products import Products
+from sum_names import Names
 
 
 class Domain(Forms, Products, Names):
+    """Has the cells of one proof, and all that is computed with them."""
+
     def __init__(self):
         Products.__init__(self)
         Names.__init__(self)
         Forms.__init__(self)
-        # Results that were computed once, by the operands (entries and shifted: in bytewise.py).
+        # Results by their operands, so that each is computed once. (bytewise.py uses `entries` and `shifted`.)
         self.ands, self.byte_xors, self.byte_ands, self.lookups, self.moves, self.entries, self.shifted = ({} for _ in range(7))
         self.repeats, self.in_planes = {}, {}  # see `alike`
 
     def and_(self, x, y):
+        """Multiplies two bits. Bits of factors give a sum of products. Any other two bits have to depend on one cell: then their truth
+        tables are multiplied."""
         if x < 2 or y < 2:
             return (x and y) if x < 2 else (y and x)
         if x == y:
@@ -35,15 +39,16 @@ class Domain(Forms, Products, Names):
     def or_(self, x, y):
         return self.and_(x ^ 1, y ^ 1) ^ 1
 
-    # A byte of a plane has the same function of each of eight blocks: then one bit says it, with the blocks.
+    # A byte of a plane may have the same function of each of eight blocks. Then one bit and the blocks describe it.
     def alike(self, a, b):
-        """For each of two bytes of planes the bit that says it, without its block; and the blocks, which are the same for
-        both. Or (None, None)."""
+        """Gives, for two bytes of planes, the bit that describes each, and the blocks, which are the same for both. If there are no such
+        bits, gives (None, None)."""
         x, p = self.repeated(a)
         y, q = self.repeated(b) if x is not None else (None, None)
         return ((x, y), p or q) if y is not None and (p == q or not p or not q) else (None, None)
 
     def repeated(self, byte):
+        """Gives the bit that a byte repeats in its blocks, and these blocks; or (None, None)."""
         if byte not in self.repeats:
             bits = self.bits(byte)
             first, blocks = bits[0] & ~BLOCK, ()
@@ -53,7 +58,7 @@ class Domain(Forms, Products, Names):
         return self.repeats[byte]
 
     def in_blocks(self, x, blocks):
-        """A byte that has this function of each of these blocks."""
+        """Makes a byte that has this function of each of these blocks."""
         blocks = blocks if x > 1 and self.has_block[x >> 9] else False
         key = x, blocks
         if key not in self.in_planes:
@@ -88,8 +93,8 @@ class Domain(Forms, Products, Names):
         return c
 
     def with_factors(self, a, b):
-        """Two bytes, with factors in the place of the bits of one of them, if they stand for all of these (name_factors). That one comes
-        first. (No bit of the other is 1, so a factor comes into products alone.)"""
+        """Gives two bytes, and puts factors instead of the bits of one of them, if each bit has a factor (name_factors). That byte comes
+        first. (No bit of the other byte is 1, so factors come into products only.)"""
         for x, y in ((a, b), (b, a)) if a > 255 and b > 255 else ():
             if 1 not in self.bits(y) and all(bit & ~1 in self.factor_of for bit in self.bits(x)):
                 return self.pack([self.factor_of[bit & ~1] | bit & 1 for bit in self.bits(x)]), y
@@ -101,7 +106,7 @@ class Domain(Forms, Products, Names):
         return self.xor_byte(self.and_byte(self.xor_byte(a, 255), self.xor_byte(b, 255)), 255)
 
     def lookup(self, table, index):
-        """table[index] for a constant table (a tuple of 2^k bytes) and the k bits of an index."""
+        """Gives table[index] for a constant table (a tuple of 2^k bytes) and the k bits of an index."""
         block = self.one_block(index)
         key = (table, tuple([b & ~BLOCK for b in index]))
         c = self.lookups.get(key)
@@ -109,11 +114,11 @@ class Domain(Forms, Products, Names):
             c = self.lookups[key] = self.affine(*key)
         if c is None:
             cell, tables = self.common(key[1])
-            c = self.lookups[key] = self.byte_of_cell(cell, 0, composed(table, tuple(tables)))
+            c = self.lookups[key] = self.byte_of_cell(cell, 0, composed_tables(table, tuple(tables)))
         return self.byte_in_block(c, block)
 
     def affine(self, table, index):
-        """What a table has at an index, if it is an affine map of those bits of the index that vary: then no cell is needed."""
+        """Gives table[index] if that is an affine map of the bits of the index that vary, else None. Such a look-up needs no cell."""
         constant = sum(b << i for i, b in enumerate(index) if b < 2)
         variable = tuple([i for i, b in enumerate(index) if b > 1])
         columns = affine_columns(table, constant, variable)
@@ -125,6 +130,7 @@ class Domain(Forms, Products, Names):
         return self.pack(bits)
 
     def byte_in_block(self, byte, block):
+        """Gives a byte as the same function of the cells of this block."""
         if not 0 <= block < PRODUCT:
             raise Unproved("a block whose number is too large")
         if not self.symbolic(byte):
@@ -135,7 +141,7 @@ class Domain(Forms, Products, Names):
         return self.pack([b & ~BLOCK | block << 1 if has_block[b >> 9] else b for b in bits])
 
     def moved(self, byte, by):
-        """A byte, as that function of the cells of other blocks, whose numbers are so much higher."""
+        """Gives a byte as the same function of the cells of other blocks, whose numbers are higher by `by`."""
         if not by or not self.symbolic(byte):
             return byte
         if (byte, by) not in self.moves:
@@ -153,14 +159,14 @@ class Domain(Forms, Products, Names):
         return self.moves[byte, by]
 
     def unknown_cells(self, byte):
-        """Those cells of a byte that are bytes of numbers that aren't known."""
-        if byte not in self.of_unknowns:
+        """Gives the cells of a byte that belong to numbers that aren't known."""
+        if byte not in self.unknown_cells_of:
             simple = self.symbolic(byte) and byte not in self.with_products
-            self.of_unknowns[byte] = self.cells(byte) & self.unknowns.keys() if simple else ()
-        return self.of_unknowns[byte]
+            self.unknown_cells_of[byte] = self.cells(byte) & self.number_of_cell.keys() if simple else ()
+        return self.unknown_cells_of[byte]
 
     def put_in(self, byte, others):
-        """A byte, as that function of other bytes in the place of cells, {a cell: a byte}."""
+        """Gives a byte as the same function of other bytes instead of cells. `others` is {a cell: a byte}."""
         bits = []
         for x in self.bits(byte):
             y = x & 1
@@ -171,13 +177,13 @@ class Domain(Forms, Products, Names):
         return self.pack(bits)
 
     def image(self, table, byte):
-        """The bit that a truth table of a cell gives of another byte."""
+        """Gives the bit that a truth table of a cell makes of another byte."""
         if byte < 256:
             return table >> byte & 1
         return functools.reduce(self.xor, (self.bits(byte)[j] for j in linear_bits(table)), 0)
 
     def substitute(self, byte, table, name):
-        """table[byte] for a table of 256 bytes; gives the byte a name if it has none."""
+        """Gives table[byte] for a table of 256 bytes. Names the byte if it is no function of one cell."""
         if byte < 256:
             return table[byte]
         try:

@@ -1,4 +1,4 @@
-"""The faults that controls.py plants in a text, each an edit of one place: (what, behind which label, what is looked for there, what it
+"""The faults that controls.py plants in a build, each an edit of one place: (what, behind which label, what is looked for there, what it
 becomes, the case of `make prove` that has to refuse it). What it becomes is a template, or a function of what was found. A place is found
 by what a function does, and not by the registers that the compiler took, where that can be."""
 
@@ -28,7 +28,7 @@ def low(register, size="d"):
 
 LANES = function("aes_permute::blocks::process_on_lanes")
 PLANES = function("aes_soft::soft::ciphers::planes::EncryptPlaneCipher::process_planes")
-BATCHES, IN_BATCHES = (function("aes_hybrid::batches::" + name) for name in ("process_on_planes", "process_in_batches"))
+BATCHES, IN_BATCHES = (function("aes_hybrid::batches::" + name) for name in ("process_on_planes", "process_batches_and_rest"))
 COUNTER, NEXT_COUNTER = (function("aes_ctr::add_in_batches::" + name) for name in ("add_keystream", "add_next"))
 UNWRAP, PADDED_DIFFERENCE, WRAP_PADDED = (function("key_wrap::" + name) for name in (
     "wrapping::unwrap", "padded::difference", "padded::wrap_padded"))
@@ -37,13 +37,13 @@ BLOCKS, BLOCKS_TO, BLOCKS_WITH, CBC, CBC_BACK, KEYSTREAM_TO = (exported("aes_" +
     "encrypt_blocks", "encrypt_blocks_to", "encrypt_blocks_with", "cbc_encrypt", "cbc_decrypt", "add_keystream_to"))
 ONE_PRODUCT, TWO_PRODUCTS = (function("gcm::multiples::Multiples::" + name) for name in ("block_product", "two_products"))
 COMPARE, GCTR = function("aes_cipher::blocks::difference"), function("gcm::gctr::add_gctr")
-FEW_BLOCKS, ROUNDS_ON_PLANES = (function("aes_narrow::blocks::" + name) for name in ("process_filled_up", "process_state"))
+ON_PLANES = function("aes_soft::soft::ciphers::planes::process_outlined")
 BIT_BY_BIT = function("gcm::bitwise::product_bitwise")
 ROUND, CMAC_TAG, CMAC_COMPARE, CCM_SEAL, CCM_OPEN = (function(path) for path in (
     "aes_c::single_rounds::round", "cmac::tags::tag", "cmac::tags::is_tag_start", "ccm::mode::encrypt", "ccm::mode::decrypt"))
 CCM_STREAM, MEMSET = call("aes_ctr::add_in_batches::add_keystream"), r"\tcallq\t\*memset.*\n"
 BEGIN, FINISH, ENCRYPT, OPEN = (exported("gcm_" + name) for name in ("begin", "finish", "encrypt", "open"))
-DERIVE, APPLY, SIV_OPEN = (function("gcm_siv::" + name) for name in ("keys::derive", "message::apply", "message::open"))
+DERIVE, APPLY, SIV_OPEN = (function("gcm_siv::" + name) for name in ("keys::derive", "message::process_text", "message::open"))
 WIPE_STACK, WIPE_WORDS, WIPED, WIPE_ELEMENTS = (call("aes_cipher::zeroize::" + name) for name in (
     "stack::wipe_stack", "zeroize_words", r"[\w.:]+", "elements::zeroize_elements"))
 NOTE = r'\t\.section\t"\.note\.gnu\.property".*\n'
@@ -71,6 +71,11 @@ def bit_by_bit(bits, r, other):
     ]
 
 
+def mask(register, rest):
+    """Sets rax to -1 where a register has a number that leaves `rest` by 16, and else to 0."""
+    return "\tmovq\t%%%s, %%rax\n\tandq\t$15, %%rax\n\txorq\t$%d, %%rax\n\tdecq\t%%rax\n\tsarq\t$63, %%rax\n" % (register, rest)
+
+
 def one_less(place, register, number):
     """What is looked for, and the same with a length that is one less where it is this number."""
     less = r"\txorl\t%%eax, %%eax\n\tcmpq\t$%d, %%%s\n\tsete\t%%al\n\tsubq\t%%rax, %%%s\n"
@@ -79,6 +84,9 @@ def one_less(place, register, number):
 
 FAULTS = {
     "x86_64/aes": [
+        ("what the inverse cipher gives left on the stack by CBC", exported("aes_cbc_decrypt"),
+         r"(\tmovups\t-16\(%rsi\), %xmm1\n)([\s\S]*?\tmovups\t\(%rcx,%rax\), %xmm1\n)",
+         r"\1\tmovups\t%xmm1, -32(%rsp)\n\2\tmovups\t%xmm1, -16(%rsp)\n", "cbc_decrypt 7"),
         ("a byte wrapped behind a key of 7 bytes", WRAP_PADDED, r"(\tsubq\t%rax, %rdx\n)\tcmpq\t\$8, %rdx\n", r"\1\tcmpq\t$7, %rdx\n",
          "wrap_padded 7"),
         ("a byte wrapped behind a key of 15 bytes", WRAP_PADDED, r"\tcmpq\t\$8, %r13\n", r"\tcmpq\t$7, %r13\n", "wrap_padded 15"),
@@ -108,19 +116,22 @@ FAULTS = {
         ("the stack pointer not restored", BLOCKS, r"\tpopq\t%\w+\n", "", "blocks encrypt 2"),
         ("an instruction not covered", BLOCKS, ENTRY, r"\1\tcpuid\n", "blocks encrypt 2"),
         ("code that runs before all calls", WIPE, ENTRY, "\\1\t.pushsection\t.init_array,\"aw\"\n\t.quad\t0\n\t.popsection\n", "wipe"),
-        ("the same in one shared library alone", WIPE, ENTRY,
+        ("code before all calls, in one shared library alone", WIPE, ENTRY,
          "\\1\t.ifndef\tchosen\n\t.ifndef\tin_rust\n\t.pushsection\t.init_array,\"aw\"\n"
          "\t.quad\t0\n\t.popsection\n\t.endif\n\t.endif\n", "wipe"),
-        ("the same in a Rust crate alone", WIPE, ENTRY,
+        ("code before all calls, in a Rust crate alone", WIPE, ENTRY,
          "\\1\t.ifdef\tin_rust\n\t.pushsection\t.init_array,\"aw\"\n\t.quad\t0\n\t.popsection\n\t.endif\n", "wipe"),
         ("room for a state of its own", WIPE, ENTRY, "\\1\t.data\n\t.quad\t0\n\t.previous\n", "wipe"),
         ("a stack that may be run", WIPE, ENTRY, "\\1\t.pushsection\t.note.GNU-stack,\"x\"\n\t.popsection\n", "wipe"),
+        ("a second section for a stack that may be run", WIPE, ENTRY,
+         "\\1\t.pushsection\t.note.GNU-stack,\"x\",@progbits,unique,7\n\t.popsection\n", "wipe"),
         ("a note that asks for other processors", WIPE, ENTRY,
          "\\1\t.pushsection\t.note.gnu.property,\"a\"\n\t.long\t4, 16, 5\n\t.asciz\t\"GNU\"\n\t.long\t0xc0008002, 4, 8, 0\n\t.popsection\n",
          "wipe"),
         ("a note without the marks of indirect calls", NOTE, "4, 3, 0", "4, 2, 0", "wipe"),
-        ("the same of a second section for it", WIPE, ENTRY,
-         "\\1\t.pushsection\t.note.GNU-stack,\"x\",@progbits,unique,7\n\t.popsection\n", "wipe"),
+        ("a second note without the marks of indirect calls", WIPE, ENTRY,
+         "\\1\t.pushsection\t.note.gnu.property,\"a\"\n\t.long\t4, 16, 5\n\t.asciz\t\"GNU\"\n\t.long\t0xc0000002, 4, 0, 0\n\t.popsection\n",
+         "wipe"),
         ("room in memory that is never used", WIPE, ENTRY, r"\1\t.lcomm\troom, 64\n", "wipe"),
         ("a section that a linker acts on, though it isn't loaded", WIPE, ENTRY, "\\1\t.pushsection\t.gnu.warning,\"\",@progbits\n"
          "\t.ascii\t\"beware\"\n\t.popsection\n", "wipe"),
@@ -133,9 +144,6 @@ FAULTS = {
          "\\1\t.ifnc\ta  b,a b\n\tmovb\t$1, (%rsi)\n\t.endif\n", "blocks encrypt 2"),
         ("a file of the machine that builds", WIPE, ENTRY, "\\1\t.pushsection\t.note.fotsgure,\"a\"\n\t.incbin\t\"/etc/os-release\"\n"
          "\t.popsection\n", "wipe"),
-        ("a second note without them", WIPE, ENTRY,
-         "\\1\t.pushsection\t.note.gnu.property,\"a\"\n\t.long\t4, 16, 5\n\t.asciz\t\"GNU\"\n\t.long\t0xc0000002, 4, 0, 0\n\t.popsection\n",
-         "wipe"),
         ("the struct read before it is written", WIPE, ENTRY, r"\1\tcmpb\t$0, 8(%rdi)\n\tje\t77f\n77:\n", "wipe"),
         ("statuses exchanged", BLOCKS_TO, r"movl\t\$3, %(\w+)", r"movl\t$2, %\1", "aes_encrypt_blocks_to refused 2"),
         ("a round key left among other blocks", BLOCKS, ENTRY, r"\1\tmovups\t4(%rdi), %xmm0\n" + LEFT, "blocks encrypt 17"),
@@ -161,6 +169,14 @@ FAULTS = {
          "blocks encrypt 2"),
         ("an address taken to fit into 32 bits", BLOCKS, ENTRY,
          r"\1\tleaq\t77f(%rip), %rax\n\tshrq\t$32, %rax\n\tje\t77f\n\tmovb\t$1, (%rdi)\n77:\n", "blocks encrypt 2"),
+        ("nothing wiped where the code's address has a byte", function("aes_cipher::zeroize::zeroize_words"), ENTRY,
+         r"\1\tleaq\t0(%rip), %rax\n"
+         r"\tshrq\t$36, %rax\n\tandl\t$255, %eax\n\tcmpl\t$0x55, %eax\n\tjne\t77f\n\tmovq\t$0, (%rdi)\n\tretq\n77:\n", "blocks encrypt 17"),
+        ("a number of blocks that depends on where a call returns to", BLOCKS, ENTRY,
+         r"\1\tcallq\t77f\n77:\tpopq\t%rax\n\tshrq\t$47, %rax\n\tsubq\t%rax, %rdx\n", "blocks encrypt 2"),
+        ("a number of blocks that depends on where the code lies", BLOCKS, ENTRY,
+         r"\1\tleaq\t0(%rip), %rax\n\tmovabsq\t$-0x123456700000, %r10\n\taddq\t%r10, %rax\n\tshrq\t$32, %rax\n\tsubq\t%rax, %rdx\n",
+         "blocks encrypt 2"),
         ("a function that another library may have", BLOCKS, ENTRY,
          r"\1\t.weak\thook\n\tmovq\thook@GOTPCREL(%rip), %rax\n\ttestq\t%rax, %rax\n\tje\t77f\n\tcallq\t*%rax\n77:\n", "blocks encrypt 2"),
         ("a function of its own that another library may have", BLOCKS, r'\tcallq\t(\S+)\n', r'\t.weak\t\1\n\tcallq\t\1\n',
@@ -237,8 +253,9 @@ FAULTS = {
          r"\tmovdqu\t4(%rdi), %xmm0\n\tmovdqu\t%xmm0, (%rsi)\n\tmovdqu\t%xmm1, (%rsi)\n77:\n", "blocks encrypt 2"),
         ("counts compared in 32 bits", BLOCKS_TO, r"cmpq\t%(r\w+), %(r\w+)",
          lambda found: "cmpl\t%%%s, %%%s" % (low(found[1]), low(found[2])), "aes_encrypt_blocks_to refused 2"),
-        ("the keystream's end only where it is hit exactly", exported("aes_add_keystream"), r"(\taddq\t%r\w+, %(r\w+)\n)\tjb\t(\S+)\n",
-         r"\1\tjae\t77f\n\ttestq\t%\2, %\2\n\tje\t\3\n77:\n", "aes_add_keystream refused 2"),
+        ("texts past the keystream's end refused only if they end at 2^64 exactly", exported("aes_add_keystream"),
+         r"(\taddq\t%r\w+, %(r\w+)\n)\tjb\t(\S+)\n", r"\1\tjae\t77f\n\ttestq\t%\2, %\2\n\tje\t\3\n77:\n",
+         "aes_add_keystream refused 2"),
         ("no carry into a block of a batch of four", COUNTER, r"(\taddq\t\$2, %r\w+\n(?:\tmovq\t.*\n)?)\tadcq\t\$0, %r\w+\n", r"\1",
          "add_keystream 16 64 3"),
         ("no carry into the first block of a batch of four", COUNTER,
@@ -337,9 +354,9 @@ FAULTS = {
          r"\tmovq\t16(%rsp), %r11\n\taddq\t$24, %rsp\n\3\ttestb\t$1, 4(%r11)\n\tmovl\t$0, %r11d\n\tretq\n", "seal_next 3 1 None"),
         ("a byte read of an empty piece", exported("gcm_decrypt"), r"# %arm\.4\.i\n",
          r"\g<0>\tcmpq\t$0, %rcx\n\tjne\t77f\n\tcmpb\t$0, (%rdx)\n77:\n", "any_then_decrypt 7 0"),
-        ("12 bytes hashed where 13 are left of a block", function("gcm::mode::BorrowedGcm::hash_what_came"), r"\tandl\t\$15, %r8d\n",
+        ("12 bytes hashed where 13 are left of a block", function("gcm::mode::BorrowedGcm::hash_so_far"), r"\tandl\t\$15, %r8d\n",
          r"\g<0>\txorl\t%ecx, %ecx\n\tcmpl\t$13, %r8d\n\tsete\t%cl\n\tsubl\t%ecx, %r8d\n", "any_finish 1 13 0"),
-        ("a piece refused that ends with the last byte of the longest text", function("gcm::mode::BorrowedGcm::turn_to"),
+        ("a piece refused that ends with the last byte of the longest text", function("gcm::mode::BorrowedGcm::enter_phase"),
          r"(cmpq\t%rcx, %r8\n)\tseta\t", r"\1\tsetae\t", "any_then_piece encrypt 2 5 7 9"),
         ("another bit in the tag of additional data without a text", function("gcm_c::whole::fotsgure_gcm_seal"),
          r"\tmovups\t56\(%rsp\), %xmm0\n",
@@ -348,9 +365,9 @@ FAULTS = {
          r"\txorb\t%al, 56(%rsp)\n\g<0>", "seal 13 0"),
         ("a short piece written over the bytes before it", function("gcm::hash_room::hash_piece"),
          r"(# %bb\.1: .*\n)\tleaq\t\((%r\w+),%r\w+\), %rdi\n", r"\1\tmovq\t\2, %rdi\n", "any_then_additional 3 5"),
-        ("16 bytes of additional data taken for a block that isn't whole", function("gcm::mode::BorrowedGcm::hash_what_came"),
+        ("16 bytes of additional data taken for a block that isn't whole", function("gcm::mode::BorrowedGcm::hash_so_far"),
          r"\tandl\t\$15, %r8d\n", r"\tshll\t$4, %eax\n\txorl\t$31, %eax\n\tandl\t%eax, %r8d\n", "any_finish 1 0 0"),
-        ("additional data hashed as text, of which none came", function("gcm::mode::BorrowedGcm::hash_what_came"),
+        ("additional data hashed as text, of which none came", function("gcm::mode::BorrowedGcm::hash_so_far"),
          r"\tcmpq\t\$1, 24\((%rsi)\)\n\tsetne\t%al\n", r"\tcmpq\t$1, 8(\1)\n\tsetae\t%al\n", "any_finish 2 5 0"),
         ("a piece that ends within its first block, which is taken for longer", GCTR,
          r"(# %bb\.8: .*\n\tmovq\t%r14, %rcx\n)\ttestq\t%rax, %rax\n\tje\t.*\n", r"\1", "any_then_piece encrypt 2 5 5 4"),
@@ -369,6 +386,9 @@ FAULTS = {
          r"\tandb\t%al, %dl\n\txorb\t%dl, 23(%rsp)\n", "at_ends open"),
         ("the last byte of a text of 48 n + 21 bytes left out of the tag", function("gcm::mode::BorrowedGcm::put_tag"),
          *one_less(r"# %bb\.12:[\s\S]*?\tmovq\t%r15, %rdx\n", "rdx", 5), "at_ends seal"),
+        ("a byte left out of additional data of 16 n + 11 bytes where the text has 16 m + 4", function("gcm_c::whole::fotsgure_gcm_seal"),
+         ENTRY, r"\1\tmovq\t8(%rsp), %r11\n" + mask("r11", 4) + r"\tmovq\t%rax, %r10\n" + mask("r8", 11)
+         + r"\tandq\t%r10, %rax\n\taddq\t%rax, %r8\n", "at_pairs seal"),
         ("a round key in a message for a while", FINISH,
          r"\tmovq\t%rsi, %r14\n(?:\tcallq\t.*\n){2}", r"\g<0>\tmovq\t(%rsp), %rdi\n\tmovups\t(%rdi), %xmm0\n\tmovups\t%xmm0, 64(%r14)\n",
          "any_finish 2 0 7"),
@@ -390,9 +410,11 @@ FAULTS = {
          "any_ccm_open 13 15 255 8"),
         ("the bit behind a message put elsewhere", CMAC_TAG, r"\tmovb\t\$-128, \(%rsp,%r15\)\n",
          r"\tmovl\t%r15d, %edx\n\tandl\t$9, %edx\n\tmovb\t$-128, (%rsp,%rdx)\n", "cmac 23"),
+        ("5 bytes compared of a tag of 6, by a mask", CMAC_COMPARE, r"(\tcallq\t\*memcpy.*\n)", mask("rdx", 6) + r"\taddq\t%rax, %rdx\n\1",
+         "cmac_verify 4 6"),
         ("a jump by a table to where no mark is", function("aes_narrow::word_room::expand_words"), "notrack jmpq", "jmpq", "set_key"),
-        ("a shift count of a transposition", FEW_BLOCKS, r"(sh[lr]l)\t\$2, ", r"\1\t$3, ", "blocks encrypt 2"),
-        ("a gate of the S-box's circuit", ROUNDS_ON_PLANES, r"\tandl\t", "\torl\t", "blocks encrypt 2"),
+        ("a shift count of a transposition", ON_PLANES, r"(sh[lr]l)\t\$2, ", r"\1\t$3, ", "blocks encrypt 2"),
+        ("a gate of the S-box's circuit", ON_PLANES, r"\tandl\t", "\torl\t", "blocks encrypt 2"),
         ("an instruction that the first processors lack", BLOCKS, ENTRY, r"\1\tpshufb\t%xmm0, %xmm0\n", "blocks encrypt 2"),
         ("planes of the round keys left on the stack", BLOCKS, ENTRY, r"\1\tmovups\t4(%rdi), %xmm0\n" + LEFT, "blocks encrypt 2"),
         ("the schedule of a call under a key not wiped", BLOCKS_WITH, WIPE_ELEMENTS, "", "blocks encrypt 1 _with"),
@@ -402,6 +424,8 @@ FAULTS = {
          r"\t{evex} vpsllvq\t", "seal 13 33"),
     ],
     "x86_64/gcm_v1": [
+        ("a byte left out of additional data of 16 n + 11 bytes", function("gcm_c::whole::fotsgure_gcm_seal"), ENTRY,
+         r"\1" + mask("r8", 11) + r"\taddq\t%rax, %r8\n", "seal 11 5"),
         ("GHASH: the sum of 127 multiples", BIT_BY_BIT, r"\$128, ", "$127, ", "seal 13 33"),
         ("GHASH: another bit of R", BIT_BY_BIT, r"\$-2233785415175766016, ", "$-2233785415175766015, ", "seal 13 33"),
         ("GHASH: a mask of the bit behind", BIT_BY_BIT, r"sarq\t\$63, ", "sarq\t$62, ", "seal 13 33"),
@@ -456,7 +480,7 @@ FAULTS = {
         ("an access that isn't aligned", BLOCKS, ENTRY, r"\1\tlw\tt0, 1(a0)\n", "blocks encrypt 2"),
         ("a store below the stack pointer", BLOCKS, ENTRY, r"\1\tsw\tzero, -16(sp)\n", "blocks encrypt 2"),
         ("an instruction not covered", BLOCKS, ENTRY, r"\1\tdivu\tt0, t0, t0\n", "blocks encrypt 2"),
-        ("another gate of the planes", ROUNDS_ON_PLANES, r"\txor\t", r"\tor\t", "blocks encrypt 2"),
+        ("another gate of the planes", ON_PLANES, r"\txor\t", r"\tor\t", "blocks encrypt 2"),
         ("another status for 4 blocks, after a number that wraps around there", BLOCKS_TO, ENTRY, r"\1\taddi\tt0, a2, -5\n"
          r"\tor\tt0, t0, a4\n\tli\tt1, 4\n\tbne\ta2, t1, 77f\n\tli\ta0, 1\n\tret\n77:\n", "aes_encrypt_blocks_to refused 2"),
     ],
@@ -480,6 +504,7 @@ FAULTS = {
     ],
 }
 
+
 def one_less_between(count, first, behind):
     """One less in a register from a number on and up to another, without a jump. No case of PROVE=builds has these numbers, so nothing but
     their borders tells of it."""
@@ -497,17 +522,20 @@ def one_less_at(count, length, how):
     return r"\g<0>\tcmpq\t$%d, %%%s\n%s\tsubq\t%%rax, %%%s\n" % (length, count, how, count)
 
 
-# Code that no case shows: only what ran is counted, which ways conditions went, and what was tried at its border. The last is a case that runs
-# the function, or several, of which refusals' ways don't count.
+def in_two_parts(register, joined="or"):
+    """A number taken apart into 16 n and what is left, which are put together again without one bit of the rest."""
+    return ENTRY, (r"\1\tmovq\t%%%s, %%rax\n\tshrq\t$4, %%rax\n\tshlq\t$4, %%rax\n\tandl\t$11, %%%s\n\t%sq\t%%rax, %%%s\n" % (
+        register, low(register), joined, register))
+
+
+# Code that no case shows: only what ran is noted, which ways conditions went, what was tried at its border, and which results were always
+# the same or followed a number. The last is a case that runs the function, or several, of which refusals' ways don't count.
 SEAL_TO_CASES = "; ".join(["seal 13 3 _to", *("gcm_seal_to refused %d" % n for n in (1, 5, 9, 10))])
 COPY_OF_TEXT = "(?=%s)" % call("gcm_c::whole_to::copy")
 UNREACHED = {
     "x86_64/aes": [
         ("a jump that never goes", WIPE, ENTRY, r"\1\txorl\t%eax, %eax\n\ttestl\t%eax, %eax\n\tjne\t77f\n77:\n", "wipe"),
         ("an instruction that never runs", WIPE, ENTRY, r"\1\tjmp\t77f\n\tmovb\t$1, (%rdi)\n77:\n", "wipe"),
-        ("nothing wiped where the code's address has a byte", function("aes_cipher::zeroize::zeroize_words"), ENTRY,
-         r"\1\tleaq\t0(%rip), %rax\n"
-         r"\tshrq\t$36, %rax\n\tandl\t$255, %eax\n\tcmpl\t$0x55, %eax\n\tjne\t77f\n\tmovq\t$0, (%rdi)\n\tretq\n77:\n", "blocks encrypt 17"),
         ("a carry that never comes", WIPE, ENTRY, r"\1\txorl\t%eax, %eax\n\tadcq\t$0, %rax\n", "wipe"),
         ("a condition that never holds", WIPE, ENTRY, r"\1\txorl\t%eax, %eax\n\ttestl\t%eax, %eax\n\tsetne\t%al\n", "wipe"),
         ("texts of 942 to 1017 bytes, of which the last one stays", exported("aes_add_keystream"), *one_less_between("rcx", 942, 1018),
@@ -515,13 +543,37 @@ UNREACHED = {
         ("a text of 4,100 bytes of which the last one stays", exported("aes_add_keystream"), ENTRY, one_less_at("rcx", 4100, BY_MOVE),
          "any_low_keystream 5 122"),
         ("messages of 52 to 59 bytes without the last one", exported("aes_cmac"), *one_less_between("rdx", 52, 60), "any_cmac 1"),
+        ("a message of 4,100 bytes refused, by a jump in the place of one that goes one way", exported("aes_cmac"),
+         r"\tcmpq\t\$32, %(r\w+)\n\tja\t", r"\tcmpq\t$4100, %rdx\n\tje\t", "any_cmac 1"),
+        ("messages of 16 n + 5 bytes without the last one, by a mask", exported("aes_cmac"), ENTRY,
+         r"\1\tmovq\t%rdx, %rax\n\tandl\t$15, %eax\n\txorl\t$5, %eax\n\tdecq\t%rax\n\tsarq\t$63, %rax\n\taddq\t%rax, %rdx\n",
+         "any_cmac 1; any_cmac 16; cmac 0; cmac 23"),
+        ("a table read at the length of a message", CMAC_TAG, ENTRY + r"([\s\S]*?(\.L\w+_CPI\d+_1)\(%rip\))",
+         r"\1\tmovl\t%ecx, %eax\n\tandl\t$15, %eax\n\tleaq\t\3(%rip), %r11\n\tmovzbl\t(%r11,%rax), %eax\n\2", "any_cmac 1; cmac 23"),
+        ("messages of 16 n + 5 bytes without four of them, put together of two parts", exported("aes_cmac"), *in_two_parts("rdx"),
+         "any_cmac 1; any_cmac 16; cmac 0"),
+        ("messages of 16 n + 5 bytes without four of them, as a sum of two parts", exported("aes_cmac"), *in_two_parts("rdx", "add"),
+         "any_cmac 1; any_cmac 16; cmac 0"),
+        ("messages of 16 n + 8 bytes without the low byte of their length, by a constant that is stored where the length says",
+         exported("aes_cmac"), ENTRY, r"\1\tmovq\t%rdx, -24(%rsp)\n\tmovl\t%edx, %eax\n\tandl\t$15, %eax\n\tmovb\t$0, -32(%rsp,%rax)\n"
+         r"\tmovq\t-24(%rsp), %rdx\n", "any_cmac 1; any_cmac 16"),
+        ("16 n + 4 blocks without four, put together of two parts, in a function that is given fewer than the call", IN_BATCHES,
+         *in_two_parts("rcx"), "any_blocks encrypt 1; any_blocks encrypt 9; blocks encrypt 16"),
         ("messages of 52 to 59 bytes compared without the last one", exported("aes_cmac_verify"), *one_less_between("rdx", 52, 60),
          "any_cmac_verify 1 16"),
     ],
     "x86_64/gcm": [
         ("a text of 2^20 bytes, of which the last one isn't sealed, by a jump", exported("gcm_seal_to"), COPY_OF_TEXT,
          one_less_at("rsi", 1 << 20, BY_JUMP), SEAL_TO_CASES),
-        ("one of 4,096 bytes, of which it isn't, without a jump", exported("gcm_seal_to"), COPY_OF_TEXT,
+        ("a text of 4,096 bytes, of which the last one isn't sealed, without a jump", exported("gcm_seal_to"), COPY_OF_TEXT,
          one_less_at("rsi", 4096, BY_SET), SEAL_TO_CASES),
+        ("100 bytes of additional data without the last one, by a mask", exported("gcm_additional"), ENTRY,
+         r"\1\tmovq\t%rcx, %rax\n\txorq\t$100, %rax\n\tdecq\t%rax\n\tsarq\t$63, %rax\n\taddq\t%rax, %rcx\n",
+         "any_then_additional 3 13; any_then_additional 0 5"),
+        ("additional data of 4 n + 2 bytes without two of them, by a mask", exported("gcm_additional"), ENTRY, r"\1\tandq\t$-3, %rcx\n",
+         "any_then_additional 3 13; any_then_additional 0 5"),
+        ("additional data of 256 n bytes without any, stored byte by byte", exported("gcm_additional"), ENTRY,
+         r"\1\tmovq\t$0, -16(%rsp)\n\tmovb\t%cl, -16(%rsp)\n\tmovq\t-16(%rsp), %rcx\n",
+         "any_then_additional 3 13; any_then_additional 0 5"),
     ],
 }

@@ -1,8 +1,8 @@
-"""The headers: the compiler compares what they say with what the statements have."""
+"""Lets the compiler compare what the headers say with what the statements have."""
 import re
 import subprocess
 
-import gcm
+import gcm_header
 import keyed
 import siv
 from calls import STACK
@@ -12,8 +12,9 @@ from x86_64 import X86_64
 
 
 def header_cases(dist, machine=X86_64):
+    """Gives for each header what was compared, and what the compiler said."""
     for statuses, structs, name in ((keyed.STATUSES, keyed.STRUCTS, "fotsgure_aes"),
-                                    (gcm.STATUSES, gcm.STRUCTS | siv.STRUCTS, "fotsgure_gcm")):
+                                    (gcm_header.STATUSES, gcm_header.STRUCTS | siv.STRUCTS, "fotsgure_gcm")):
         lines = ["#include <stddef.h>", "#include <%s.h>" % name]
         lines.append("_Static_assert(%s_STACK == %d, \"\");" % (name.upper(), STACK))
         lines += ["_Static_assert(%s_%s == %d, \"\");" % (name.upper(), s, n) for n, s in enumerate(statuses)]
@@ -26,12 +27,12 @@ def header_cases(dist, machine=X86_64):
 
 
 def riscv_header_cases(dist, builds):
-    """What the headers say of sizes and places for RISC-V."""
+    """Does the same with sizes and places for RISC-V."""
     for build in (build for build in builds if issubclass(BUILDS[build], Riscv) and "siv" not in build):
         machine, word, library = BUILDS[build], BUILDS[build].word, library_of(build)
-        size = {"aes": 121 * word, "gcm": 500 if word == 4 else 1784}[library]  # (of what is kept of the longer one 984 bytes are used)
+        size = {"aes": 121 * word, "gcm": 500 if word == 4 else 1784}[library]  # (of the 1,784 bytes 984 are used)
         structs = {"aes": {"fotsgure_aes_ctr": keyed.STRUCTS["fotsgure_aes_ctr"]}, "gcm": {
-            "fotsgure_gcm_message": gcm.STRUCTS["fotsgure_gcm_message"], "fotsgure_gcm_siv": (121 * word, {"round_keys": word})}}
+            "fotsgure_gcm_message": gcm_header.STRUCTS["fotsgure_gcm_message"], "fotsgure_gcm_siv": (121 * word, {"round_keys": word})}}
         structs = {"fotsgure_" + library: (size, {"key_length": 0, "round_keys": word}), **structs[library]}
         facts = ["sizeof(size_t) == %d" % word, *("sizeof(struct %s) == %d" % (struct, size) for struct, (size, _) in structs.items())]
         facts += ["offsetof(struct %s, %s) == %d" % (struct, f, at) for struct, (_, fields) in structs.items() for f, at in fields.items()]
@@ -43,6 +44,7 @@ def riscv_header_cases(dist, builds):
 
 
 def version(dist, library):
+    """Reads the version of a library in its header."""
     header = "aes" if library == "aes" else "gcm"
     text = open("%s/include/fotsgure_%s.h" % (dist, header)).read()
     return int(re.search(r"#define FOTSGURE_%s_VERSION (\d+)" % header.upper(), text)[1])

@@ -1,4 +1,5 @@
-"""The statements for key wrap of fotsgure_aes.h (SP 800-38F, 6.1 to 6.3), beside the sentence of the header that each proves."""
+"""States the calls of fotsgure_aes.h for key wrap (SP 800-38F, 6.1 to 6.3). Each statement quotes the sentence of the header that it
+proves."""
 from bits import DATA
 from calls import Buffer, Call, Stream
 from keyed import DONE, INVALID_COUNT, NO_KEY, REFUSED, between, nothing, unequal
@@ -7,12 +8,12 @@ from standards import ICV1, ICV2, ZEROS, number
 
 
 class KeyWrap:
-    """Calls of fotsgure_aes.h that wrap keys, without padding and with it."""
+    """Has the statements for calls of fotsgure_aes.h that wrap keys, with and without padding."""
 
-    # In step t, the block A ^ [t] or A, with a semiblock R, is named as bytes of block t - 1.
+    # In step t, the block is A or A ^ [t], and a semiblock R. Its bytes are named as those of block t - 1.
     def wrap_string(self, start, n, last):
-        """W (6.1, algorithm 1) on the semiblock `start` and n others, of which `last` is what the last has: its steps, the n, and what
-        becomes of all."""
+        """Gives W (6.1, algorithm 1) of the semiblock `start` and n others, where `last` has the bytes of the last one. Gives its steps,
+        the n semiblocks, and the result."""
         a, r = self.block_bytes[:8], self.block_bytes[8:]
         semiblocks = [x for i in range(n) for x in self.in_block(last if i == n - 1 else r, i)]
 
@@ -24,8 +25,8 @@ class KeyWrap:
         return steps, semiblocks, self.in_block(a, 6 * n) + [x for i in range(n) for x in self.in_block(r, 6 * n + i)]
 
     def unwrap_string(self, n, start=None):
-        """The inverse of W (6.1, algorithm 2) on n + 1 semiblocks: its steps, the semiblocks, and what becomes of them. With `start` those
-        alone whose first semiblock becomes that."""
+        """Gives the inverse of W (6.1, algorithm 2) of n + 1 semiblocks: its steps, the semiblocks, and the first one and the others of the
+        result. With `start`, it gives semiblocks whose first one becomes `start`."""
         a, r = self.block_bytes[:8], self.block_bytes[8:]
         wrapped = self.aes.xor(self.in_block(a, 0), number(6 * n, 8)) + [x for i in range(n) for x in self.in_block(r, n - 1 - i)]
         start = start or self.in_block(a, 6 * n)
@@ -39,7 +40,7 @@ class KeyWrap:
 
     def wrap(self, count):
         """Key wrap (KW, SP 800-38F, 6.2; RFC 3394) from one buffer to another .. Counts are in semiblocks of 8 bytes. A key has two or
-        more, and becomes one more. .. DONE"""
+        more. A wrapped key has one more. .. DONE"""
         steps, key, wrapped = self.wrap_string(ICV1, count, self.block_bytes[8:])
         output = Buffer("output", self.undefined(8 * count + 8), wrapped)
         return Call("aes_wrap", [self.schedule(), Buffer("input", key), count, output, count + 1], DONE, steps=steps, plain=key)
@@ -52,11 +53,11 @@ class KeyWrap:
         return Call("aes_unwrap", [self.schedule(), Buffer("input", wrapped), count, Buffer("output", self.undefined(8 * n), key), n],
                     DONE, steps=steps, reveals=self.aes.xor(start, ICV1), refused=REFUSED, refused_after={"output": [0] * 8 * n}, plain=key)
 
-    # Key wrap of every number of semiblocks. In each turn of W, semiblock i, and A before it, are bytes of one block, with the number of
-    # that before (at_link); the first semiblock is number 0, or backwards the last one. What the semiblock becomes are others, of block i.
-    # After a turn A becomes arbitrary bytes once more.
+    # Key wrap of every number of semiblocks. In each turn of W, semiblock i and the A before it are bytes of one block. That has the number
+    # of the block before (at_link). The first semiblock is number 0, or the last one is if W goes backwards. Each semiblock becomes other
+    # bytes, which are those of block i. After a turn A becomes arbitrary bytes again.
     def semiblocks(self):
-        """A and a semiblock before a step, the patterns of semiblocks before a turn and after it, and A after each turn."""
+        """Gives A and a semiblock before a step, the patterns of semiblocks before and after a turn, and A after each turn."""
         a, r, made = self.block_bytes[:8], self.block_bytes[8:], self.semiblock("semiblock", True)
         return a, r, self.pattern(r, -1), self.pattern(made), [self.semiblock("turn %d" % k) for k in range(1, 7)]
 
@@ -64,8 +65,9 @@ class KeyWrap:
         return self.made_once(name, lambda: [self.domain.fresh("%s, byte %d" % (name, i), DATA, *of_block) for i in range(8)])
 
     def any_turns(self, wraps, count, first, last, alone, start=0):
-        """The steps of W, or of its inverse, which begins with A ^ [6n], from phase `start` on; before that the semiblocks are put there.
-        `first` and `last` are A before and after all. Of one semiblock there is one step, without a number (6.3): from `alone`."""
+        """Gives the steps of W, or of its inverse, which begins with A ^ [6n]. They begin in phase `start`, when the semiblocks are in the
+        output. `first` and `last` are A before and after all steps. With one semiblock there is one step, which has no number and begins
+        with `alone` (6.3)."""
         a, r, before, after, turns = self.semiblocks()
         way = "encrypt" if wraps else "decrypt"
 
@@ -112,7 +114,7 @@ class KeyWrap:
                     reveals=reveals, steps=self.any_turns(False, n, a, last, before), refused=REFUSED, **refused)
 
     def any_wrap_padded(self, rest):
-        """Of 16 k + `rest` bytes, as the code fills up two semiblocks at once; `rest` is from 1 to 16."""
+        """States key wrap of 16 k + `rest` bytes, since the code fills up two semiblocks at once. `rest` is from 1 to 16."""
         k, (_, r, key, _, _) = unknown("k"), self.semiblocks()
         length, n, last = k * 16 + rest, k * 2 + (rest + 7) // 8, self.pattern(r[:(rest - 1) % 8 + 1], -1) + ZEROS
 
@@ -123,7 +125,7 @@ class KeyWrap:
                                  {k, (1 << 32) - 1 - length}, 1, after=[key, last[:8]], choose=choose)
 
     def any_unwrap_padded(self, rest):
-        """Of keys of 8 n - 8 + `rest` bytes, `rest` from 1 to 8."""
+        """States unwrapping of keys of 8 n - 8 + `rest` bytes. `rest` is from 1 to 8."""
         n, (_, _, _, key, turns) = unknown("n"), self.semiblocks()
         length, none = n * 8 - 8 + rest, [0] * self.address
         start = turns[5][:4] + self.highest_first(length, 4)
@@ -132,7 +134,7 @@ class KeyWrap:
             self.length_of_key(start[:3:-1] + [0] * 4), refused_after={"key_length": none})
 
     def wrap_padded(self, length):
-        """Key wrap with padding (KWP, SP 800-38F, 6.3; RFC 5649) .. what is wrapped has one semiblock more than the key fills,
+        """Key wrap with padding (KWP, SP 800-38F, 6.3; RFC 5649) .. The wrapped key has one semiblock more than the key fills:
         (input_length + 7) / 8 + 1. .. DONE"""
         n, r = -(-length // 8), self.block_bytes[8:]
         start, last = ICV2 + number(length, 4), r[:8 - 8 * n + length] + [0] * (8 * n - length)
@@ -144,13 +146,14 @@ class KeyWrap:
         return Call("aes_wrap_padded", [self.schedule(), Buffer("input", key[:length]), length, output, n + 1], DONE,
                     steps=steps, plain=key)
 
-    def unwrap_padded(self, length, said=None, paths=None, any_byte=None):
-        """And back: both counts are in semiblocks, and the output has one less. Afterwards *key_length is how many bytes the key has: the
-        first ones of the output, which zeros follow. .. REFUSED, and the output then is all zeros. .. In all cases but DONE *key_length
-        is 0. Whatever comes before the length, and after so many bytes, is judged by one branch. `said` is another length in its place,
-        with which everything is refused; or one byte of the length, `any_byte`, may have any value, and the same branch judges it."""
+    def unwrap_padded(self, length, wrong_length=None, paths=None, any_byte=None):
+        """Unwraps such a key: both counts are in semiblocks, and the output has one less. Afterwards *key_length is how many bytes the key
+        has. They are the first ones of the output, and zeros follow them. .. REFUSED, and the output then is all zeros. .. In all cases but
+        DONE *key_length is 0. One branch judges what comes before the length, and what follows the key. `wrong_length` is a wrong length
+        instead of the right one: then everything is refused. With `any_byte`, that byte of the length may have any value, and the same
+        branch judges it."""
         n, padding, r = -(-length // 8), -length % 8, self.block_bytes[8:]
-        start = self.in_block(self.block_bytes[:4], 6 * n) + number(length if said is None else said, 4)
+        start = self.in_block(self.block_bytes[:4], 6 * n) + number(length if wrong_length is None else wrong_length, 4)
         reveals = self.aes.xor(start[:4], ICV2)
         if any_byte is not None:
             start[4 + any_byte], = self.in_block(self.block_bytes[4 + any_byte:5 + any_byte], 6 * n)
@@ -164,7 +167,7 @@ class KeyWrap:
         nothing = {"output": none, "key_length": [0] * self.address}
         key_length = self.length_of_key(start[:3:-1] + [0] * 4)
         more = dict(status=DONE, reveals=reveals + key[8 * n - padding:], refused=REFUSED, refused_after=nothing)
-        if said is not None:
+        if wrong_length is not None:
             more = {"status": REFUSED}
             right.after, key_length.after = none, [0] * self.address
         return Call("aes_unwrap_padded", [self.schedule(), Buffer("input", wrapped), n + 1, right, n, key_length], steps=steps,
@@ -174,22 +177,24 @@ class KeyWrap:
         return Buffer("key_length", self.undefined(self.address), after[:self.address], align=self.address)
 
     def unwrap_padded_refused(self, n, every):
-        """A padded key whose length is wrong, as the number in its place isn't one of n semiblocks: each of its three higher bytes has any
-        value; and it is one more, one less, 2^k or 2^k - 1, for every so many k. Whether the length is wrong or the rest, the same
-        instructions run."""
+        """States the unwrapping of padded keys of n semiblocks whose length is wrong. One of its three higher bytes has any value. Or the
+        length is one more, one less, 2^k or 2^k - 1: each `every`-th k is tried. The same instructions run whether the length is wrong or
+        something else."""
         paths, powers = {}, [1 << k for k in range(0, 33, every)]
         yield self.unwrap_padded(8 * n - 3, paths=paths)
         for any_byte in range(3):
             yield self.unwrap_padded(8 * n - 3, paths=paths, any_byte=any_byte)
-        for said in {8 * n - 8, 8 * n + 1, *powers[:-1], *(power - 1 for power in powers)}.difference(range(8 * n - 7, 8 * n + 1)):
-            yield self.unwrap_padded(8 * n - 3, said, paths)
+        for wrong_length in {8 * n - 8, 8 * n + 1, *powers[:-1], *(power - 1 for power in powers)}.difference(range(8 * n - 7, 8 * n + 1)):
+            yield self.unwrap_padded(8 * n - 3, wrong_length, paths)
 
     # Calls that are refused, for all their arguments.
     def wrap_refused(self, key, none, sizes):
-        """A key has two semiblocks or more, and fewer than 2^54 (SP 800-38F, 5.3.1)."""
+        """States the refusals without padding. A key has two semiblocks or more, and fewer than 2^54 (SP 800-38F, 5.3.1)."""
         n, k = unknown("n"), unknown("k")
-        calls = lambda aes, n, k: (("aes_wrap", [aes, nothing("input", False), n, nothing("output"), k]),
-                                   ("aes_unwrap", [aes, nothing("input", False), k, nothing("output"), n]))
+
+        def calls(aes, n, k):
+            return (("aes_wrap", [aes, nothing("input", False), n, nothing("output"), k]),
+                    ("aes_unwrap", [aes, nothing("input", False), k, nothing("output"), n]))
         for name, arguments in calls(none, n, k):
             yield Call(name, arguments, NO_KEY, facts=sizes)
         counts = [(n, k, {n - k}), (n, k, {k - n - 2}), (0, 1, set()), (1, 2, set()), (n, n + 1, between(n, 1 << 54, self.most - 1))]
@@ -198,18 +203,24 @@ class KeyWrap:
                 yield Call(name, arguments, INVALID_COUNT, facts=(sizes if facts else set()) | facts)
 
     def wrap_padded_refused(self, key, none, sizes):
-        """A key has at least one byte and fewer than 2^32 (SP 800-38F, 5.3.1)."""
+        """States the refusals with padding. A key has at least one byte and fewer than 2^32 (SP 800-38F, 5.3.1)."""
         n, k = unknown("n"), unknown("k")
-        wrap = lambda aes, length: ("aes_wrap_padded", [aes, nothing("input", False), length, nothing("output"), k])
+
+        def wrap(aes, length):
+            return "aes_wrap_padded", [aes, nothing("input", False), length, nothing("output"), k]
+
         yield Call(*wrap(none, n), NO_KEY, facts=sizes)
         yield Call(*wrap(key, 0), INVALID_COUNT, facts=sizes)
         if self.most >> 32:
             yield Call(*wrap(key, n), INVALID_COUNT, facts=sizes | between(n, 1 << 32, self.most))
-        for rest in range(1, 9):  # of a key of n + 1 semiblocks
+        for rest in range(1, 9):  # bytes in the last of n + 1 semiblocks
             for facts in unequal(k, n + 2):
                 yield Call(*wrap(key, n * 8 + rest), INVALID_COUNT, facts=sizes | between(n, 0, (1 << 29) - 1) | facts)
         key_length = self.length_of_key([0] * 8)
-        unwrap = lambda aes, n, k: ("aes_unwrap_padded", [aes, nothing("input", False), n, nothing("output"), k, key_length])
+
+        def unwrap(aes, n, k):
+            return "aes_unwrap_padded", [aes, nothing("input", False), n, nothing("output"), k, key_length]
+
         yield Call(*unwrap(none, n, k), NO_KEY, facts=sizes)
         for n, k, facts in ((n, k, {k - n}), (n, k, {n - k - 2}), (1, 0, set()), (k + 1, k, between(k, (1 << 29) + 1, self.most - 1))):
             yield Call(*unwrap(key, n, k), INVALID_COUNT, facts=(sizes if facts else set()) | facts)

@@ -1,4 +1,5 @@
-"""Public numbers that aren't known, for lengths: constants plus multiples of unknown integers, and what follows of such numbers."""
+"""Computes with unknown public numbers, such as lengths, and decides what follows from facts about them. Such a number is a constant plus
+multiples of unknown integers."""
 import bisect
 import functools
 import math
@@ -10,12 +11,13 @@ WORD = (1 << 64) - 1
 
 
 def refuse(*_):
+    """Refuses an operation that has no meaning for unknown numbers."""
     raise Unproved("this can't be done with a number that isn't known")
 
 
 class Linear(namedtuple("Linear", "terms constant")):
-    """terms: ((unknown, coefficient), ..), at least one, in order; an unknown is a text. An integer, of which a machine has the lowest 64
-    bits. What isn't said here can't be done."""
+    """An integer, of which a machine has the lowest 64 bits. `terms` is ((unknown, coefficient), ..), sorted and not empty, and an unknown
+    is a string. Operations that this class doesn't define fail."""
     __slots__ = ()
 
     def __add__(self, other):
@@ -37,21 +39,23 @@ class Linear(namedtuple("Linear", "terms constant")):
         return -self + other
 
     def divided(self, k):
-        """The quotient by a constant and the remainder, if that is known."""
+        """Gives the quotient by a constant, and the remainder. Fails if the remainder isn't known."""
         if any(c % k for _, c in self.terms):
             refuse()
         return linear({name: c // k for name, c in self.terms}, self.constant // k), self.constant % k
 
     def byte(self, domain, k):
-        """The bits of byte k. With the power of two that all coefficients have in common, the lowest bits are known, and the others are
-        those of the quotient, which may be any; of one that has so many bits at most, the others are 0."""
+        """Gives the bits of byte k. A power of two may divide all coefficients: then the lowest bits are known, and the others are bits of
+        the quotient, which may be any. `domain.sizes` says how many bits some numbers have. Bits above these are 0."""
         power = step_of(self)
         if power == 1:
             byte = domain.fresh("byte %d of %s" % (k, self), PUBLIC)
-            domain.unknowns[domain.cell_of(byte)[0]] = self, k
+            domain.number_of_cell[domain.cell_of(byte)[0]] = self, k
             return tuple(bit if 8 * k + j < domain.sizes.get(self, 64) else 0 for j, bit in enumerate(domain.bits(byte)))
         known, (rest, low) = power.bit_length() - 1, self.divided(power)
-        bit = lambda j: low >> j & 1 if j < known else domain.bits(domain.opaque((rest, (j - known) // 8)))[(j - known) % 8]
+
+        def bit(j):
+            return low >> j & 1 if j < known else domain.bits(domain.opaque((rest, (j - known) // 8)))[(j - known) % 8]
         return tuple(map(bit, range(8 * k, 8 * k + 8)))
 
     def __str__(self):
@@ -62,41 +66,45 @@ class Linear(namedtuple("Linear", "terms constant")):
 
 
 def linear(terms, constant):
+    """Gives the number with these terms: a Linear, or an int if no term is left."""
     terms = tuple(sorted((name, k) for name, k in terms.items() if k))
     return Linear(terms, constant) if terms else constant
 
 
 def unknown(name):
+    """Gives the unknown number with this name."""
     return Linear(((name, 1),), 0)
 
 
 def wrapped(x, most=WORD):
-    """A number as a machine has it, of which `most` is the highest word: only so many bits count. Constants are as near to 0 as they can
-    be."""
+    """Gives a number modulo `most` + 1, where `most` is the highest word of the machine. Its constants are as near to 0 as they can be."""
     half = most + 1 >> 1
-    near = lambda k: (k + half & most) - half
+
+    def near(k):
+        return (k + half & most) - half
     return linear({name: near(k) for name, k in x.terms}, near(x.constant)) if isinstance(x, Linear) else near(x)
 
 
 def is_number(*values):
-    for v in values:  # (Not by `all`, as in is_int.)
+    for v in values:  # (not by `all`, which is slower; see is_int)
         if not isinstance(v, (int, Linear)):
             return False
     return True
 
 
 def terms(x):
+    """Gives {unknown: coefficient} of a number."""
     return dict(x.terms) if isinstance(x, Linear) else {}
 
 
 def step_of(x):
-    """The highest power of two that divides all coefficients: but for multiples of it the number is known."""
+    """Gives the highest power of two that divides all coefficients. Modulo this power the number is known."""
     power = math.gcd(*(c for _, c in x.terms))
     return power & -power
 
 
 def replaced(x, name, by):
-    """A number, or a tuple of anything, with a number in the place of an unknown."""
+    """Gives a number, or a tuple of anything, in which a number replaces an unknown."""
     if isinstance(x, Linear):
         k = terms(x).get(name, 0)
         return x + (by - unknown(name)) * k if k else x
@@ -107,7 +115,7 @@ def replaced(x, name, by):
 
 
 def tightened(x):
-    """A number that is 0 or more for the same integers as x, with the least coefficients."""
+    """Gives the number with the least coefficients that is 0 or more for the same integers as x."""
     if not isinstance(x, Linear):
         return x
     k = math.gcd(*(c for _, c in x.terms))
@@ -116,8 +124,8 @@ def tightened(x):
 
 @functools.lru_cache(1 << 16)
 def refuted(facts):
-    """Whether there are no integers by which all these numbers are >= 0. (It eliminates one unknown after the other, by Fourier and
-    Motzkin: what is added up follows from the facts, so what it refutes is refuted. It may fail to refute.)"""
+    """Whether no integers make all these numbers >= 0. It eliminates one unknown after the other (Fourier-Motzkin). Each sum follows from
+    the facts, so True is always right. False may mean that it didn't find the contradiction."""
     facts = {tightened(f) for f in facts}
     while True:
         if any(f < 0 for f in facts if not isinstance(f, Linear)):
@@ -133,8 +141,8 @@ def refuted(facts):
 
 
 def fulfilled(facts):
-    """Whether integers are found by which all these numbers are >= 0: of one unknown after the other the lowest, from 0 on, that isn't
-    refuted. (It may fail to find some.)"""
+    """Whether it finds integers that make all these numbers >= 0. For one unknown after the other it tries the lowest value from 0 on that
+    isn't refuted. False may mean that it didn't find them."""
     while not any(f < 0 for f in facts if not isinstance(f, Linear)):
         facts = frozenset(f for f in facts if isinstance(f, Linear))
         if not facts:
@@ -148,5 +156,5 @@ def fulfilled(facts):
 
 
 def implied(facts, x):
-    """Whether x >= 0 follows."""
+    """Whether x >= 0 follows from these facts."""
     return refuted(facts | {-x - 1})

@@ -1,63 +1,75 @@
-"""Faults that show at long lengths only: a statement of every length refuses each, and calls of some lengths up to 64 blocks are proved.
-As in faults.py: (what, behind which label, what is looked for there, what it becomes, the case that has to refuse it)."""
-from faults import (BATCHES, BLOCKS, BLOCKS_TO, BLOCKS_WITH, CBC, CCM_OPEN, CCM_STREAM, ENTRY, FINISH, GCTR, IN_BATCHES, MEMSET, SIV_OPEN,
-                    UNWRAP, WIPE_STACK, WIPE_WORDS, call, exported, function, low, second)
+"""Lists faults that only show at long lengths. A statement of every length refuses each of them, and calls of lengths up to 64 blocks are
+proved in spite of it. As in faults.py an entry is: (the fault, after which label, the pattern that is looked for there, its replacement,
+the case that has to refuse it)."""
+from faults import (BATCHES, BLOCKS, BLOCKS_TO, BLOCKS_WITH, CBC, CCM_OPEN, CCM_SEAL, CCM_STREAM, CMAC_TAG, ENTRY, FINISH, GCTR, IN_BATCHES,
+                    MEMSET, OPEN, SIV_OPEN, UNWRAP, WIPE_STACK, WIPE_WORDS, call, exported, function, low, mask, second)
 
 ENCRYPT, DECRYPT = (function("aes_hybrid::closures::call_to_" + name) for name in ("encrypt", "decrypt"))
 KEYSTREAM = exported("aes_add_keystream")
 CASE, CASE_TO = "any_blocks encrypt 15", "any_blocks encrypt 7 _to"
 
-# In process_in_batches: the end of the loop, with the registers of how many blocks are done and of the last block of the next batch; and
-# the call before it, of which the arguments are the round keys on planes and how many rounds there are.
+# In process_batches_and_rest: the end of the loop. One register counts the blocks that are done, another points to the last block of the
+# next batch. PROCESS is the call before it. Its arguments are the round keys on planes, and the number of rounds.
 NEXT = r"(\taddq\t\$8, %(?P<done>r\w+)\n\tsubq\t\$-128, %(?P<at>r\w+)\n)"
 PROCESS = "(" + call("aes_soft::soft::ciphers::planes::EncryptPlaneCipher::process_planes") + r")(?=[\s\S]*?\taddq\t\$8, %(?P<done>r\w+)\n)"
 # In process_on_planes: how many blocks there are, and the round keys.
 MANY = r"(?=[\s\S]*?\tmovq\t%rcx, %(?P<count>r\w+)\n)(?=[\s\S]*?\tmovq\t%rdi, %(?P<keys>r\w+)\n)(?=[\s\S]*?\tsubq\t\$(?P<frame>\d+), %rsp)"
 IN_MANY = [MANY + r"(?P<before>[\s\S]*?)(?P<call>" + called + ")" for called in (WIPE_WORDS, WIPE_STACK)]
-# In call_to_encrypt: where the counter's halves are added up for a block of a batch, with how many bytes of the text are done.
+# In call_to_encrypt: the addition to the counter's halves for a block of a batch. A register has how many bytes of the text are done.
 CARRY = r"(?P<before>\taddq\t\$128, %%(?P<done>r\w+)\n[\s\S]*?\taddq\t\$%d, %%r\w+\n(?:\tmovq\t.*\n)?)\tadcq\t\$0, %%(?P<high>r\w+)\n"
-# In GHASH: the end of the loop over groups of three blocks, with the registers of the next group and of how many are left.
+# In GHASH: the end of the loop over groups of three blocks. One register points to the next group, another counts those that are left.
 PUT_TAG, HASH_ON = function("gcm::mode::BorrowedGcm::put_tag"), function("gcm::hash_room::MultiplesRoomHashRoom::hash_on")
 THREES = r"\taddq\t\$48, %(?P<at>r\w+)\n\tdecq\t%(?P<left>r\w+)\n"
 LEFT_OUT = (r"\g<0>\tcmpq\t$65536, %\g<left>\n\tjne\t77f\n\taddq\t$48, %\g<at>\n\tdecq\t%\g<left>\n"
             r"77:\n\ttestq\t%\g<left>, %\g<left>\n")
-# Of a message in pieces: where its tag is made and compared.
+# In a message in pieces: the functions that make and compare its tag.
 TAG_SO_FAR, IS_TAG, IS_SHORT_TAG = (function("gcm::mode::BorrowedGcm::%s_so_far" % name) for name in ("put_tag", "is_tag", "is_short_tag"))
 WIPE_MESSAGE = call("gcm::message_state::MessageZeroize::zeroize")
-# In POLYVAL with room for three blocks at once, of additional data and then of a text. In AES-GCM-SIV's `open`, where a refused text is
-# encrypted again: where the end is, and the place of the text's length.
+# In POLYVAL: the loops over three blocks at once, first of additional data and then of a text. In AES-GCM-SIV's `open`: where a refused
+# text is encrypted again. The groups are the end of this part, and where the text's length is stored.
 POLYVAL, SIV_COUNTERS = second(function("gcm_siv::message::put_tag")), second(ENCRYPT)
 TEXT_THREES = r"\taddq\t\$48, [\s\S]*?" + THREES
 SIV_AGAIN = r"(test[bl]\t%(\w+), %\2\n\tje\t(\S+)\n)(?=[\s\S]*?\tmovq\t(\d+\(%rsp\)), %rcx\n)"
-# In CMAC's chain: the number of blocks that are done. In CCM's `decrypt`: the call that encrypts a refused text again.
+# CHAIN is CMAC's loop over blocks. AGAIN is the call in CCM's `decrypt` that encrypts a refused text again.
 CHAIN, HASH_PIECE = function("cmac::chaining::chain"), function("gcm::hash_room::hash_piece")
 AGAIN = r"(?P<before>%s[\s\S]*?)(?P<call>%s)" % (CCM_STREAM, CCM_STREAM)
 STANDS_STILL = r"(shrq\t\$4, %(r\w+)\n)", r"\1\tcmpq\t$1048576, %\2\n\tjb\t77f\n\tmovq\t$1048576, %\2\n77:\n"
 FEWER_ZEROS = MEMSET, r"\tcmpq\t$1048576, %rdx\n\tjbe\t77f\n\tmovl\t$1048576, %edx\n77:\n\g<0>"
-# In key wrap: the number of a step, in W and in its inverse; in a turn of W the end of the loop, with the register of the next semiblock,
-# of which the first one is on the stack; in CCM, a length of additional data is compared with that for which it takes more bytes.
+# In key wrap: NUMBER is where the number of a step is used, in W and in its inverse. TURN is the end of the loop in a turn of W. A
+# register points to the next semiblock, and a pointer to the first one is on the stack. IN_TWO is where CCM compares a length of
+# additional data with the longest one that it writes in two bytes.
 WRAP_TURNS, UNWRAP_TURNS = (function("key_wrap::steps::%swrap_in_place" % un) for un in ("", "un"))
 NUMBER = r"\tmovq\t%r\w+, %rax\n(?=\tbswapq\t%rax\n)"
 TURN = r"(\taddq\t\$8, %(?P<at>r\w+)\n\tdecq\t%(?P<left>r\w+)\n)\tjne\t(?P<loop>\S+)\n"
 WRAP, WRAP_PADDED, UNWRAP_PADDED = (function("key_wrap::" + name) for name in (
     "wrapping::wrap", "padded::wrap_padded", "padded::unwrap_padded"))
 CCM_TAG, IN_TWO = function("ccm::message::put_tag"), r"cmpq\t\$65279, "
+# The comparisons of a text's length with the longest one that is allowed. CCM compares by a shift.
+CCM_LONGEST = r"\tshrq\t%cl, %(r\w+)\n", r"\tincq\t%\1\n\g<0>"
+LONGEST = r"(\tmovabsq\t\$68719476704, .*\n\tcmpq\t.*\n)\tseta\t", r"\1\tsetae\t"
+SEAL = function("gcm_c::whole::fotsgure_gcm_seal")
 ON_PLANES, MEMMOVE = call("aes_hybrid::batches::process_on_planes"), r"(\tcallq\t\*memmove.*\n)"
 
 
 def after(number, what):
-    """What was matched, and behind it `what`, which runs if so many blocks are done."""
+    """Gives a replacement: what was matched, and after it `what`, which runs from this number of blocks on."""
     return r"\1\tcmpq\t$%d, %%\g<done>\n\tjb\t77f\n\t%s\n77:\n" % (number, what)
 
 
 def before(number, what):
-    """What was matched, and before it `what`, which runs if so many blocks are done."""
+    """Gives a replacement: what was matched, and before it `what`, which runs from this number of blocks on."""
     return r"\tcmpq\t$%d, %%\g<done>\n\tjb\t77f\n\t%s\n77:\n\1" % (number, what)
 
 
+def fewer(register, rest):
+    """Gives instructions that reduce a length by 1 for each 2^20 in it, if its remainder by 16 is `rest`. They have no jump and no
+    condition."""
+    return mask(register, rest) + "\tandq\t%%%s, %%rax\n\tshrq\t$20, %%rax\n\tsubq\t%%rax, %%%s\n" % (register, register)
+
+
 def in_32_bits(instruction):
-    """An instruction of 64 bits, on the lower halves of its registers."""
-    return lambda found: instruction % tuple(low(register) for register in found.groups())
+    """Gives a replacement of an instruction of 64 bits: this one, on the lower halves of its registers."""
+    return lambda match: instruction % tuple(low(register) for register in match.groups())
 
 
 LONG_FAULTS = {
@@ -128,14 +140,24 @@ LONG_FAULTS = {
         ("a count of 32 bits in CMAC", CHAIN, r"incq\t%(r\w+)\n", in_32_bits("incl\t%%%s\n"), "any_cmac 1"),
         ("a block left out of CMAC after 2^20", CHAIN, r"(\tincq\t%(r\w+)\n)", r"\1\tcmpq\t$1048576, %\2\n\tjne\t77f\n\1\n77:\n",
          "any_cmac_verify 1 16"),
-        ("the same in CCM", CHAIN, r"(\tincq\t%(r\w+)\n)", r"\1\tcmpq\t$1048576, %\2\n\tjne\t77f\n\1\n77:\n", "any_ccm_seal 8 15 33 8"),
+        ("bytes left out of CMAC after 2^20 where a length leaves 5 by 16", CMAC_TAG, ENTRY, r"\1" + fewer("rcx", 5), "any_cmac 5"),
+        ("bytes left out of CMAC after 2^20 where a length leaves 0 by 16", CMAC_TAG, ENTRY, r"\1" + fewer("rcx", 0),
+         "any_cmac_verify 16 16"),
+        ("the longest text of CCM refused", CCM_SEAL, *CCM_LONGEST, "any_ccm_seal 13 15 255 8"),
+        ("the longest text of CCM refused with a nonce of 11 bytes", CCM_SEAL, ENTRY,
+         r"\1\tcmpq\t$11, %rdx\n\tjne\t77f\n\tmovl\t$4294967295, %eax\n"
+         r"\tcmpq\t%rax, 8(%rsp)\n\tjne\t77f\n\tmovl\t$1, %eax\n\tmovl\t$2, %edx\n\tretq\n77:\n", "any_ccm_seal 11 9 255 10"),
+        ("the longest text of CCM refused in opening", CCM_OPEN, *CCM_LONGEST, "any_ccm_open 12 8 255 12"),
+        ("a block left out of CCM's chain after 2^20", CHAIN, r"(\tincq\t%(r\w+)\n)", r"\1\tcmpq\t$1048576, %\2\n\tjne\t77f\n\1\n77:\n",
+         "any_ccm_seal 8 15 33 8"),
         ("the length of 65,280 bytes of additional data in two bytes", CCM_TAG, IN_TWO, "cmpq\t$65280, ", "any_ccm_seal 8 16 33 8 6"),
-        ("that of 65,279 bytes in six", CCM_TAG, IN_TWO, "cmpq\t$65278, ", "any_ccm_seal 8 15 33 8"),
-        ("that of 2^32 bytes in six", CCM_TAG, r"(shrq\t\$)32(, %\w+\n\tjne)", r"\g<1>33\2", "any_ccm_seal 8 16 33 8 10"),
+        ("the length of 65,279 bytes of additional data in six bytes", CCM_TAG, IN_TWO, "cmpq\t$65278, ", "any_ccm_seal 8 15 33 8"),
+        ("the length of 2^32 bytes of additional data in six bytes", CCM_TAG, r"(shrq\t\$)32(, %\w+\n\tjne)", r"\g<1>33\2",
+         "any_ccm_seal 8 16 33 8 10"),
         ("a step's number of 8 bits in key wrap", WRAP_TURNS, NUMBER, r"\g<0>\tandl\t$255, %eax\n", "any_wrap"),
-        ("one of 16 bits", WRAP_TURNS, NUMBER, r"\g<0>\tandl\t$65535, %eax\n", "any_wrap"),
-        ("one of 32 bits", WRAP_TURNS, NUMBER, r"\g<0>\tmovl\t%eax, %eax\n", "any_wrap"),
-        ("the same in unwrapping", UNWRAP_TURNS, NUMBER, r"\g<0>\tmovl\t%eax, %eax\n", "any_unwrap"),
+        ("a step's number of 16 bits in key wrap", WRAP_TURNS, NUMBER, r"\g<0>\tandl\t$65535, %eax\n", "any_wrap"),
+        ("a step's number of 32 bits in key wrap", WRAP_TURNS, NUMBER, r"\g<0>\tmovl\t%eax, %eax\n", "any_wrap"),
+        ("a step's number of 32 bits in unwrapping", UNWRAP_TURNS, NUMBER, r"\g<0>\tmovl\t%eax, %eax\n", "any_unwrap"),
         ("a turn of key wrap that ends after 64 semiblocks", WRAP_TURNS, TURN, r"\1\tje\t77f\n\tmovq\t%\g<at>, %rax\n\tsubq\t(%rsp), %rax\n"
          r"\tcmpq\t$512, %rax\n\tjne\t\g<loop>\n77:\n", "any_wrap"),
         ("a semiblock that key wrap takes twice after 2^20", WRAP_TURNS, TURN, r"\tmovq\t%\g<at>, %rax\n\tsubq\t(%rsp), %rax\n"
@@ -146,11 +168,11 @@ LONG_FAULTS = {
          r"\tcmpq\t$8388608, %rdx\n\tjbe\t77f\n\tmovl\t$8388608, %edx\n77:\n\1", "any_wrap"),
         ("at most 2^20 semiblocks of zeros after a refusal", UNWRAP, "(%s)" % MEMSET,
          r"\tcmpq\t$8388608, %rdx\n\tjbe\t77f\n\tmovl\t$8388608, %edx\n77:\n\1", "any_unwrap"),
-        ("a byte written after these zeros, of more than 2^20", UNWRAP, r"\tmovq\t\$0, -8\(%(r\w+),%(r\w+),8\)\n",
+        ("a byte written after the zeros of a refused key of more than 2^20 semiblocks", UNWRAP, r"\tmovq\t\$0, -8\(%(r\w+),%(r\w+),8\)\n",
          r"\g<0>\tcmpq\t$1048576, %\2\n\tjb\t77f\n\tmovb\t$1, 8(%\1)\n77:\n", "any_unwrap"),
         ("a length of 16 bits in a padded key", WRAP_PADDED, r"\torq\t%rdx, %rax\n", r"\tmovzwl\t%dx, %r10d\n\torq\t%r10, %rax\n",
          "any_wrap_padded 9"),
-        ("one of 24 bits looked at in unwrapping", UNWRAP_PADDED, r"\tmovl\t%(\w+), 4\(%(\w+)\)\n(?=\tjmp)",
+        ("24 bits of a padded length looked at in unwrapping", UNWRAP_PADDED, r"\tmovl\t%(\w+), 4\(%(\w+)\)\n(?=\tjmp)",
          r"\tandl\t$0xffffff, %\1\n\g<0>", "any_unwrap_padded 3"),
         ("a refused text of more than 2^20 bytes not encrypted again", CCM_OPEN, AGAIN,
          r"\g<before>\tcmpq\t$1048576, %r8\n\tja\t77f\n\g<call>77:\n", "any_ccm_open 12 15 33 8"),
@@ -169,17 +191,31 @@ LONG_FAULTS = {
          r"\1\tcmp\t\2, #256, lsl #12\n\tb.ne\t77f\n\tadd\t\2, \2, #8\n\tadd\t\3, \3, #128\n77:\n", CASE),
         ("a step's number of 32 bits in key wrap", WRAP_TURNS, r"\trev\tx9, x(\d+)\n", r"\tmov\tw9, w\1\n\trev\tx9, x9\n",
          "any_wrap_padded 3"),
-        ("the length of 65,279 bytes of additional data in six", CCM_TAG, r"cmp\tx(\d+), #254\n", r"cmp\tx\1, #253\n",
+        ("the length of 65,279 bytes of additional data in six bytes", CCM_TAG, r"cmp\tx(\d+), #254\n", r"cmp\tx\1, #253\n",
          "any_ccm_open 12 15 33 8"),
     ],
     "x86_64/gcm": [
         ("bits 32 to 39 of a text's length left out of the tag", PUT_TAG, r"shrq\t\$29, %(r\w+)\n",
          lambda found: "xorl\t%%%s, %%%s\n" % (low(found[1]), low(found[1])), "any_seal 13 33"),
         ("three blocks left out of the hash of a text after 2^16", PUT_TAG, THREES, LEFT_OUT, "any_open 13 33"),
-        ("the same of additional data", HASH_ON, THREES, LEFT_OUT, "any_seal 13 33"),
+        ("three blocks left out of the hash of additional data after 2^16", HASH_ON, THREES, LEFT_OUT, "any_seal 13 33"),
         ("a counter that stands still from block 2^20 on", ENCRYPT, *STANDS_STILL, "any_seal 13 33"),
         ("a branch on the hash of a text after 2^16 groups", PUT_TAG, THREES,
          r"\tcmpq\t$65536, %\g<left>\n\tjne\t77f\n\ttestb\t$1, (%rsp)\n\tje\t77f\n77:\n\g<0>", "any_seal 13 33"),
+        ("a text of 2^36 - 32 bytes refused", SEAL, *LONGEST, "any_seal 31 224"),
+        ("a text of 2^36 - 32 bytes refused in opening", OPEN, *LONGEST, "any_open 31 224"),
+        ("a text of 2^36 - 32 bytes refused from one buffer to another", exported("gcm_seal_to"), *LONGEST, "any_seal 31 224 _to"),
+        ("additional data of 2^61 - 1 bytes refused", SEAL, r"(\tmovq\t%r\w+, %(r\w+)\n)(\tshrq\t\$61, %\2\n)", r"\1\tincq\t%\2\n\3",
+         "any_seal 31 224"),
+        ("a nonce of 2^61 - 1 bytes refused", SEAL, ENTRY, r"\1\tmovabsq\t$2305843009213693951, %rax\n"
+         r"\tcmpq\t%rax, %rdx\n\tjne\t77f\n\tmovl\t$3, %eax\n\tretq\n77:\n", "any_seal 31 224 31"),
+        ("bytes of additional data left out after 2^20 where their length leaves 14 by 16", SEAL, ENTRY, r"\1" + fewer("r8", 14),
+         "any_seal 14 391"),
+        ("a byte of a tag of 4 bytes not compared without a text", IS_SHORT_TAG, ENTRY, r"\1\tcmpq\t$4, %rcx\n\tjne\t77f\n"
+         r"\tcmpq\t$0, 8(%rsi)\n\tjne\t77f\n\tdecq\t%rcx\n77:\n", "any_accept 1 5 0 4"),
+        ("a byte of a tag of 14 bytes not compared without a text, where 9 bytes of additional data came", IS_SHORT_TAG, ENTRY,
+         r"\1\tcmpq\t$14, %rcx\n\tjne\t77f\n\tcmpq\t$9, (%rsi)\n\tjne\t77f\n\tcmpq\t$0, 8(%rsi)\n\tjne\t77f\n\tdecq\t%rcx\n77:\n",
+         "at_ends any_accept"),
         ("three blocks left out of the hash of a piece after 2^16", HASH_ON, THREES, LEFT_OUT, "any_additional 3 46"),
         ("an aligned load of additional data of any length", HASH_ON, r"movdqu\t(-32\(%rbp\)), ", r"movdqa\t\1, ", "any_additional 3 46"),
         ("a piece's length in 32 bits", HASH_PIECE, ENTRY, r"\1\tmovl\t%r9d, %r9d\n", "any_verify 3 46"),
@@ -217,11 +253,13 @@ LONG_FAULTS = {
          lambda found: "shrq\t$4, %%%s\n\tmovzwl\t%%%s, %%%s\n" % (found[1], low(found[1], "w"), low(found[1])), "any_seal 33 77"),
         ("a counter that stands still from block 2^20 on", SIV_COUNTERS, *STANDS_STILL, "any_open 13 33 _to"),
         ("three blocks left out of POLYVAL of a text after 2^16", POLYVAL, TEXT_THREES, LEFT_OUT, "any_open 13 33 _to"),
-        ("the same of additional data", POLYVAL, THREES, LEFT_OUT, "any_seal 33 77"),
+        ("three blocks left out of POLYVAL of additional data after 2^16", POLYVAL, THREES, LEFT_OUT, "any_seal 33 77"),
         ("bits 32 to 39 of a text's length left out of the tag", POLYVAL, r"shrq\t\$29, %(r\w+)\n",
          lambda found: "xorl\t%%%s, %%%s\n" % (low(found[1]), low(found[1])), "any_seal 33 77"),
         ("additional data of 2^36 bytes refused", exported("gcm_siv_seal"), r"\tseta\t", r"\tsetae\t", "any_seal 16 256"),
         ("a text of 2^36 bytes refused", exported("gcm_siv_seal"), r"(\tseta\t[\s\S]*?)\tseta\t", r"\1\tsetae\t", "any_seal 16 256"),
+        ("a text of 2^36 bytes refused in opening", exported("gcm_siv_open"), r"(\tseta\t[\s\S]*?)\tseta\t", r"\1\tsetae\t",
+         "any_open 16 256"),
         ("a refused text of more than 2^20 bytes not encrypted again", second(SIV_OPEN), SIV_AGAIN, r"\1\tcmpq\t$1048576, \4\n\tja\t\3\n",
          "any_open 13 225"),
         ("zeros in 2^20 bytes of a refused output at most", exported("gcm_siv_open_to"), *FEWER_ZEROS, "any_open 13 33 _to"),

@@ -1,5 +1,5 @@
-"""The processors that a machine is compared with, in a process that stops after each instruction: the x86-64 processor that this runs on
-(by ptrace), and those that qemu emulates (by gdb's remote protocol)."""
+"""Runs code on the processors with which a machine is compared, in a process that stops after each instruction. One is the x86-64 processor
+of this computer (by ptrace). The others are emulated by qemu (by gdb's remote protocol)."""
 import ctypes
 import os
 import shutil
@@ -17,16 +17,19 @@ from x86_64 import X86_64, Windows
 
 
 class Beside:
-    """A processor says: names (the general registers, the address of the "next" instruction, the word that has the "flags", and others),
-    layout (how these lie in what `raw` gives and `put_raw` takes), and flags (bits of that word, by their names)."""
+    """A processor beside a machine. A subclass defines:
+
+        names     the general registers, the address of the "next" instruction, the word that has the "flags", and others
+        layout    how these lie in the bytes of `raw` and `put_raw`
+        flags     the numbers of bits of that word, by their names"""
 
     def registers(self):
-        """The values of the registers in `names`, and of the flags."""
-        found = dict(zip(self.names, struct.unpack(self.layout, self.raw())))
-        return {**found, **{f: found["flags"] >> bit & 1 for f, bit in self.flags.items()}}
+        """Gives the values of the registers in `names`, and of the flags."""
+        values = dict(zip(self.names, struct.unpack(self.layout, self.raw())))
+        return {**values, **{f: values["flags"] >> bit & 1 for f, bit in self.flags.items()}}
 
     def put_registers(self, some):
-        """Some of these."""
+        """Sets some of these."""
         put = {**self.registers(), **some}
         for f, bit in self.flags.items():
             put["flags"] = put["flags"] & ~(1 << bit) | put[f] << bit
@@ -39,18 +42,22 @@ TRACEME, SINGLESTEP, GETREGS, SETREGS, GETREGSET, SETREGSET, XSTATE = 0, 9, 12, 
 
 
 class Processor(Beside):
+    """The x86-64 processor of this computer."""
     names = "r15 r14 r13 r12 rbp rbx r11 r10 r9 r8 rax rcx rdx rsi rdi orig_rax next cs flags rsp ss fs gs ds es fs_base gs_base".split()
     layout, flags = "<27Q", {"c": 0, "z": 6, "s": 7, "o": 11}
     low, high = 160, 576  # where an area of XSAVE has the lower and the upper halves of vector registers
-    state, all = 512, 6   # and which of them are there
+    state, all = 512, 6   # where the area says which halves it has, and the bits for both
 
     @staticmethod
     def missing():
+        """Gives what is missing here to run it."""
         return [] if "avx2" in open("/proc/cpuinfo").read() else ["AVX2"]
 
     def __init__(self, path):
-        self.area = ctypes.create_string_buffer(4096)
-        self.vector = (ctypes.c_void_p * 2)(ctypes.addressof(self.area), 4096)
+        # The area of XSAVE can only be written as a whole. No processor needs as much as this, not even with AMX. Reading the area puts its
+        # size into the second word of `vector`.
+        self.area = ctypes.create_string_buffer(1 << 16)
+        self.vector = (ctypes.c_void_p * 2)(ctypes.addressof(self.area), len(self.area))
         self.pid = os.fork()
         if self.pid == 0:
             libc.ptrace(TRACEME, 0, None, None)
@@ -77,13 +84,13 @@ class Processor(Beside):
         self.ptrace(SETREGS, None, raw)
 
     def vectors(self, numbers):
-        """All of them, as they are read at once."""
+        """Gives all vector registers, as they are read at once."""
         self.ptrace(GETREGSET, XSTATE, ctypes.addressof(self.vector))
         low, high = self.area[self.low:self.low + 256], self.area[self.high:self.high + 256]
         return {n // 16: low[n:n + 16] + high[n:n + 16] for n in range(0, 256, 16)}
 
     def put_vectors(self, vectors):
-        self.vectors(())  # what isn't put stays as it is
+        self.vectors(())  # so that the other registers keep their values
         for n, b in vectors.items():
             for start, half in (self.low, b[:16]), (self.high, b[16:]):
                 self.area[start + 16 * n:start + 16 * n + 16] = half
@@ -91,7 +98,7 @@ class Processor(Beside):
         self.ptrace(SETREGSET, XSTATE, ctypes.addressof(self.vector))
 
     def step(self, name, address, called):
-        """One instruction, or libc's function up to this address."""
+        """Runs one instruction, or libc's function up to this address."""
         while True:
             self.ptrace(SINGLESTEP)
             _, status = os.waitpid(self.pid, 0)
@@ -107,9 +114,9 @@ class Processor(Beside):
 
 
 class Emulator(Beside):
-    # The protocol's registers: these, and from this number on the vectors.
+    """A processor that qemu emulates: by default one of 64-bit ARM."""
     qemu, processor = "qemu-aarch64", "cortex-a57"
-    names, first_vector = Aarch64.registers + ["next", "flags"], 34
+    names, first_vector = Aarch64.registers + ["next", "flags"], 34  # first_vector: the protocol's number of the first vector register
     layout, flags = "<33QI", {"s": 31, "z": 30, "c": 29, "o": 28}
     most = 1024  # bytes of memory in a packet
 
@@ -126,10 +133,10 @@ class Emulator(Beside):
             if self.process.poll() is not None:
                 raise Unproved(self.qemu + " doesn't start")
             time.sleep(0.01)
-        self.ask("qXfer:features:read:target.xml:0,fff")  # else it knows no single registers
+        self.ask("qXfer:features:read:target.xml:0,fff")  # without this it doesn't give single registers
 
     def ask(self, text):
-        """The answer to a packet. Packets end in # and two digits, and + acknowledges the one before."""
+        """Sends a packet, and gives the answer. A packet ends in # and two digits, and + acknowledges the one before."""
         text, received = text.encode(), b""
         self.socket.sendall(b"+$%s#%02x" % (text, sum(text) & 255))
         while b"#" not in received[:-2]:
@@ -140,9 +147,10 @@ class Emulator(Beside):
         return received[:-3].partition(b"$")[2].decode()
 
     def tell(self, text, answer="OK"):
-        found = self.ask(text)
-        if not found.startswith(answer):
-            raise Unproved("the emulator answers %s to %s" % (found, text[:20]))
+        """Sends a packet whose answer has to begin with this one."""
+        received = self.ask(text)
+        if not received.startswith(answer):
+            raise Unproved("the emulator answers %s to %s" % (received, text[:20]))
 
     def write(self, address, content):
         for k in range(0, len(content), self.most):
@@ -167,8 +175,8 @@ class Emulator(Beside):
             self.tell("P%x=%s" % (self.first_vector + n, b.hex()))
 
     def step(self, name, address, called):
-        """One instruction, or libc's function up to this address. A stop would take away the exclusive access that `ldaxr` has got, so the
-        instructions up to `stlxr` are one step. False if nothing was done."""
+        """Runs one instruction, or libc's function up to this address. Gives False if nothing ran. A stop would end the exclusive access
+        of `ldaxr`, so the instructions from it to `stlxr` are one step."""
         if called or name == "stlxr":
             self.tell("Z0,%x,4" % address)
             self.tell("c", "T05")
@@ -193,4 +201,5 @@ class EmulatedRiscv32(Emulator):
 
 
 PROCESSORS = {X86_64: Processor, Windows: Processor, Aarch64: Emulator, Riscv32: EmulatedRiscv32, Riscv64: EmulatedRiscv64}
-MEANINGS = {machine: X86_64 if machine is Windows else machine for machine in PROCESSORS}  # whose instructions a machine has
+# The machine that defines the instructions of each.
+MEANINGS = {machine: X86_64 if machine is Windows else machine for machine in PROCESSORS}

@@ -1,32 +1,39 @@
-"""Sums of products of two bits of cells, for GHASH."""
+"""Keeps sums of products of two bits of cells, for GHASH."""
 import functools
 
 from bits import BLOCK, LINEAR, PRODUCT, Unproved, linear_bits
 
 
 class Products:
-    """A bit, and an int with a bit for each pair of bits of cells. Bits of cells have numbers. A pair is in a row of the higher one, at the
-    lower one's place in its group of 128: the rows stand one after another, in the order in which they were first needed (`row_keys`)."""
+    """A sum of products is a bit, and an int that has a bit for each pair of bits of cells.
+
+    Bits of cells have numbers. There is a row for each higher bit of a pair and each group of 128 lower bits. A pair is in that row, at the
+    lower bit's place in its group. The rows follow each other in the order in which they were first needed (`row_keys`)."""
 
     def __init__(self):
         self.products, self.product_ids, self.product_xors, self.product_ands, self.with_products = [], {}, {}, {}, set()
         self.linear_tables, self.linear_parts, self.column_parts, self.rows, self.row_keys = {}, {}, {}, {}, []
-        self.sums, self.factor_of, self.factor_cells, self.factor_bits, self.of_forgotten = {}, {}, {}, set(), {}
+        self.sums, self.factor_of, self.factor_cells, self.factor_bits = {}, {}, {}, set()
 
     def bit_number(self, cell, block, j):
+        """Gives the number of bit j of a cell in a block."""
         return (block << 24 | cell) << 3 | j
 
     def numbered_bit(self, number):
+        """Gives the bit with this number."""
         return self.bit(number >> 3 & 0xffffff, LINEAR[number & 7], number >> 27)
 
     def split(self, x):
+        """Gives the linear part of a bit, and the int with its pairs."""
         return self.products[x >> 9] if x & BLOCK == PRODUCT << 1 else (x & ~1, 0)
 
     def add_products(self, x, y):
+        """Gives the sum of two bits that may have products."""
         (a, p), (b, q) = self.split(x), self.split(y)
         return self.product_bit(self.xor(a, b), p ^ q) ^ (x ^ y) & 1
 
     def product_bit(self, linear, pairs):
+        """Gives the bit that is the sum of a linear bit and of products."""
         if not pairs:
             return linear
         key = linear & ~1, pairs
@@ -36,7 +43,7 @@ class Products:
         return self.product_ids[key] << 9 | PRODUCT << 1 | linear & 1
 
     def forget_products(self):
-        """Makes room, before a call: bytes with products of another one are in none of its values."""
+        """Forgets products before a call, as none of its values has a byte with products of another call."""
         for byte in self.with_products:
             del self.byte_ids[self.bits_of[byte]]
             self.bits_of[byte] = None
@@ -45,7 +52,7 @@ class Products:
             known.clear()
 
     def filled_rows(self, pairs):
-        """The rows that have pairs: the number of a bit, a group, and the bits of that group of which there are products with the first."""
+        """Gives the rows that have pairs: the number of a bit, a group, and the bits of the group that are multiplied with that bit."""
         rows = pairs.to_bytes(16 * len(self.row_keys), "little")
         for row, (a, group) in enumerate(self.row_keys):
             columns = int.from_bytes(rows[16 * row:16 * row + 16], "little")
@@ -53,7 +60,7 @@ class Products:
                 yield a, group, columns
 
     def factors(self, pairs):
-        """The numbers of all bits of which there is a product."""
+        """Gives the numbers of all bits that are in a product."""
         out, groups = [], {}
         for a, group, columns in self.filled_rows(pairs):
             out.append(a)
@@ -61,8 +68,8 @@ class Products:
         return out + [group << 7 | k for group, columns in groups.items() for k in range(128) if columns >> k & 1]
 
     def name_factors(self, bytes_):
-        """Lets cells stand for these bytes as the first factor of products, up to the next call of this; the bytes of these cells. They
-        are the same cells each time, so products that were computed once are known. Such a cell is in no form: only in products."""
+        """Replaces these bytes by cells where they are the first factor of products, until this is called again. Gives the bytes of the
+        cells. These are the same each time, so a product is computed only once. Such a cell is only in products, and in no form."""
         self.factor_of, out = {}, []
         for i, byte in enumerate(bytes_):
             if self.symbolic(byte):
@@ -80,7 +87,7 @@ class Products:
         return out
 
     def linear_part(self, x):
-        """A bit as a sum of bits of cells: their numbers."""
+        """Gives the numbers of the bits of cells whose sum a bit is."""
         out = self.linear_parts.get(x & ~1)
         if out is None:
             if x & BLOCK == PRODUCT << 1:
@@ -91,15 +98,16 @@ class Products:
                     out += [self.bit_number(c, block if self.of_block[c] else 0, j) for j in linear_bits(t)]
         return out
 
-    def linear_image(self, x, of, source):
-        """A bit of another domain that is a sum of bits of cells, as the same sum of bits of bytes: those that `of` gives for a cell."""
+    def linear_image(self, x, bits_of_cell, source):
+        """Gives the same sum as a bit of another domain, which is a sum of bits of cells there. `bits_of_cell` gives the bits that replace
+        those of a cell."""
         out = x & 1
         for number in source.linear_part(x) if x > 1 else ():
-            out = self.xor(out, of(number >> 3 & 0xffffff)[number & 7])
+            out = self.xor(out, bits_of_cell(number >> 3 & 0xffffff)[number & 7])
         return out
 
     def columns(self, y):
-        """Of a sum of bits of cells: for each group the places of those bits in a row, as an int, and the highest number."""
+        """Gives for a sum of bits of cells the places of these bits in a row, as an int for each group, and the highest number."""
         out = self.column_parts.get(y & ~1)
         if out is None:
             groups, numbers = {}, self.linear_part(y)
@@ -109,14 +117,14 @@ class Products:
         return out
 
     def row(self, a, group):
-        """Where the row of bit a and of this group of 128 bits begins."""
+        """Gives where the row of bit a and of this group of 128 bits begins."""
         if (a, group) not in self.rows:
             self.rows[a, group] = 128 * len(self.row_keys)
             self.row_keys.append((a, group))
         return self.rows[a, group]
 
     def dot(self, xs, ys):
-        """The sum of the products x and y, for sums of bits of cells."""
+        """Gives the sum of the products of each x and its y, which are sums of bits of cells."""
         linear, pairs, rows = 0, 0, self.rows
         for x, y in zip(xs, ys):
             if not x or not y:
@@ -144,7 +152,7 @@ class Products:
         return self.product_bit(linear, pairs)
 
     def bilinear_lookup(self, table, index):
-        """table[index] if the table of 16 bytes is linear: the sum of the entries at powers of two whose bit is set."""
+        """Gives table[index] for a linear table of 16 bytes: the sum of the entries at those powers of two that the index has."""
         index = tuple(self.factor_of.get(x & ~1, x & ~1) | x & 1 for x in index)
         if table not in self.linear_tables:
             self.check_linear(table)
@@ -154,6 +162,7 @@ class Products:
         return entries[index]
 
     def check_linear(self, table):
+        """Fails if an entry of a table isn't the sum of the entries at powers of two."""
         for k in range(16):
             total = 0
             for i in range(4):

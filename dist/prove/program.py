@@ -1,10 +1,11 @@
-"""A linked file: its instructions, functions, exports and constants."""
+"""Reads a linked file: its instructions, functions, exports and constants."""
 import functools
 import re
 import subprocess
 
 from bits import Unproved
 from elf import CONTENT, FLAGS, LOADED, Elf
+from noted import Noted
 
 LIBC = "memcpy", "memmove", "memset"
 
@@ -13,42 +14,40 @@ class Program:
     """The code and the constants of a linked file, as objdump and the section headers give them."""
 
     def __init__(self, path, machine, suffix=""):
-        """`suffix`: what the names of its exports end with."""
+        """`suffix`: how the names of its exports end."""
         self.path, self.machine = path, machine
         self.lines, self.cache = self.disassembled(), {}
-        # (where a jump stands, where it led, `accepts`); the same of an add with carry and the carry, and of a condition that chooses a value.
-        self.went = set()
-        self.accepts = True  # whether the case that runs is of calls that may be done, and not a refusal
-        # {(where it is asked whether x is less than y, the answer): (how far from the border at least, the general states before)}, for
-        # borders.py.
-        self.nearest = {}
+        self.noted = Noted()
         addresses = list(self.lines)
         self.next = dict(zip(addresses, addresses[1:]))
         symbols = re.findall(r"(?m)^([0-9a-f]+) (\S) (.*)$", self.tool("nm"))
-        symbols.sort(key=lambda symbol: symbol[1].isupper())  # of two with one name the global one counts
+        symbols.sort(key=lambda symbol: symbol[1].isupper())  # If two have the same name, the global one counts.
         self.symbols = {name: int(address, 16) for address, _, name in symbols}
         self.exports = {name.removesuffix(suffix): self.symbols[name] for _, kind, name in symbols
                         if kind in "Tt" and name.startswith("fotsgure_") and name.endswith(suffix)}
-        self.constants = self.constant_sections()
+        self.constants, self.addresses = self.constant_sections()
 
     def tool(self, name, *options):
+        """Gives what a tool of binutils prints of the file."""
         return subprocess.run([self.machine.tools + name, *options, self.path], capture_output=True, text=True, check=True).stdout
 
     def disassembled(self):
-        # (Without -z it leaves out zeros, which a processor runs.)
-        text = self.tool("objdump", "-d", "-z", "--no-show-raw-insn", *self.machine.objdump)
-        return {int(address, 16): line.strip() for address, line in re.findall(r"(?m)^ *([0-9a-f]+):\t(.*)$", text)}
+        """Gives {address: line} of all instructions."""
+        # (Without -z objdump leaves out zeros, but a processor runs them.)
+        listing = self.tool("objdump", "-d", "-z", "--no-show-raw-insn", *self.machine.objdump)
+        return {int(address, 16): line.strip() for address, line in re.findall(r"(?m)^ *([0-9a-f]+):\t(.*)$", listing)}
 
     def constant_sections(self):
-        """(address, bytes) of each section of the ELF file that is loaded and neither written nor run, and of the linker's table of
-        addresses, which nothing writes after the start."""
+        """Gives (address, bytes) of each section that is loaded and neither written nor run, and of the linker's table of addresses.
+        Nothing writes that table after the start. Also gives the bytes of the table."""
         sections = Elf(self.path).sections
         if any(s.name.startswith((".init", ".fini", ".preinit", ".ctors", ".dtors")) for s in sections):
             raise Unproved("has code that runs before or after all calls")
-        return [(s.address, s.content) for s in sections if s.kind == CONTENT and (s.flags & FLAGS == LOADED or s.name == ".got")]
+        out = [(s.address, s.content) for s in sections if s.kind == CONTENT and (s.flags & FLAGS == LOADED or s.name == ".got")]
+        return out, next((s.content for s in sections if s.name == ".got"), None)
 
     def functions(self):
-        """{name: addresses} of the instructions of each function of the text under proof, without what fills up space."""
+        """Gives {name: addresses} of the instructions of each function that is proved, without those that fill up space."""
         starts = {address: name for name, address in self.symbols.items()}
         out, name = {}, ""
         for address, line in self.lines.items():
@@ -59,7 +58,7 @@ class Program:
 
     @functools.cached_property
     def heads(self):
-        """{address: addresses} of where jumps lead backwards, and where they stand: the heads of loops."""
+        """Gives {head: addresses} of all loops. A head is where jumps lead backwards, and the addresses are those of the jumps."""
         out = {}
         for address, line in self.lines.items():
             jump = re.match(r"(?:%s)\s.*?\b([0-9a-f]+) <" % self.machine.jumps, line)
@@ -69,14 +68,15 @@ class Program:
 
     @functools.cached_property
     def function_of(self):
-        """{address: addresses} of the first instruction of each function, and of all of them."""
+        """Gives {address of the first instruction: addresses of all instructions} of each function."""
         return {min(addresses): addresses for addresses in self.functions().values()}
 
-    def distances(self):
-        """(where it is asked whether x is less than y, the answer, how far from the border at least)"""
-        return {(*place, far) for place, (far, _) in self.nearest.items()}
+    def covered(self):
+        """Gives what the cases that ran cover. (An instruction that was decoded ran.)"""
+        return self.noted.covered(self.cache)
 
     def at(self, address):
+        """Gives the instruction at an address."""
         if address not in self.cache:
             if address not in self.lines:
                 raise Unproved("jumps to %x, where no instruction starts" % address)
@@ -84,4 +84,5 @@ class Program:
         return self.cache[address]
 
     def decoded(self, address):
+        """Decodes the instruction at an address, without noting that it ran."""
         return self.machine.decode(self.lines[address], self.next.get(address, 0))

@@ -1,5 +1,5 @@
-"""The statements for single rounds of fotsgure_aes.h, beside the sentence of the header that each proves. A block and a round key are any
-bytes: no struct holds them. Both are secret, and so is what becomes of the block, until the caller has it."""
+"""States what the single rounds of fotsgure_aes.h do, next to the sentence of the header that each proves. A block and a round key are any
+bytes, and no struct holds them. Both are secret, and so are the values that are computed from the block, until the call returns."""
 from bits import KEY
 from calls import Buffer, Call
 

@@ -1,13 +1,13 @@
-"""The statement for each call of fotsgure_gcm_siv_.. (RFC 8452), beside the sentence of the header that it proves.
+"""States what each call of fotsgure_gcm_siv_.. does (RFC 8452), next to the sentence of the header that it proves.
 
-When a call has derived the keys of a message, they become arbitrary bytes, and so do in turn the powers of one, the round keys of the
-other, each value of POLYVAL, the block of which the tag is the cipher, and the tag."""
+A call derives two keys for a message, and these become arbitrary bytes. So does each value that is then computed: the powers of the key for
+POLYVAL, the round keys of the other key, each value of POLYVAL, the block that is encrypted to the tag, and the tag."""
 import functools
 
 from bits import DATA, KEY
 from calls import Buffer, Call, Stream, compare
-from gcm import DONE, NO_KEY, REFUSED, TOO_LONG, UNEQUAL_LENGTHS
-from hashing import Hashing, KeyedHash, threes
+from gcm_header import DONE, NO_KEY, REFUSED, TOO_LONG, UNEQUAL_LENGTHS
+from hashing import Hashing, KeyedHash, in_groups
 from keyed import NEVER, CounterWord, between, nothing, unequal, unread
 from linear import unknown
 from operands import Number
@@ -16,16 +16,16 @@ from standards import ZEROS, dot, mulx_ghash, padded, product
 STRUCTS = {"fotsgure_gcm_siv": (484, {"key_length": 0, "round_keys": 4})}
 MOST = 2 ** 36
 COUNTER = CounterWord("counter of the tag, at any length", 0, NEVER, None)
-FEW = 160  # so many bytes are hashed block by block; of more, three blocks at once
+FEW = 160  # the code hashes up to this number of bytes block by block, and more in groups of three blocks
 
 
 def little(n, size):
-    """A number as bytes, the lowest first."""
+    """Gives a number as bytes, the lowest first."""
     return list(n.to_bytes(size, "little"))
 
 
 class KeyedSiv(KeyedHash):
-    """wipe and what set_key refuses are stated in keyed.py."""
+    """The statements for AES-GCM-SIV. keyed.py has those for wipe and for what set_key refuses."""
     library, prefix, key_sizes = "siv", "gcm_siv", (16, 32)
 
     def size_of_struct(self):
@@ -38,11 +38,12 @@ class KeyedSiv(KeyedHash):
         self.made_once("message", self.make_message)
         return m
 
-    # What a message has.
     def fresh(self, name, depends, count=16):
+        """Gives new bytes that may have any value."""
         return [self.domain.fresh("%s byte %d" % (name, i), depends) for i in range(count)]
 
     def make_message(self):
+        """Makes the bytes that a message has: its derived keys, and what is computed from them."""
         d = self.domain
         self.derived = [self.fresh("derived block %d" % i, KEY) for i in range(self.key_size // 8 + 2)]
         keys = [b for block in self.derived for b in block[:8]]  # the first halves (4)
@@ -50,7 +51,7 @@ class KeyedSiv(KeyedHash):
         for b in sum(self.expanded, []):
             d.name(b, "message round key byte")
         self.message_w = [self.fresh("message w[%d]" % i, KEY, 4) for i in range(len(self.round_key_words))]
-        # POLYVAL(H, X_1, ..) is GHASH of blocks whose bytes are reversed (appendix A): a step of both, for all H and X.
+        # POLYVAL(H, X_1, ..) is GHASH of blocks whose bytes are reversed (appendix A). This compares a step of both, for all H and X.
         h, x = keys[:16], self.in_block(self.text, 0)
         factor = mulx_ghash(d, h[::-1])
         compare(d, dot(d, x, h)[::-1], product(d, x[::-1], factor), "a product of appendix A")
@@ -58,21 +59,23 @@ class KeyedSiv(KeyedHash):
         self.hashed_text = self.text
         self.counter = counter = [d.fresh("tag byte %d, as a counter" % i, DATA, True) for i in range(4)]
         d.numbers.update({d.cell_of(b)[0]: (k, counter) for k, b in enumerate(counter)})
-        d.words["counter of the tag"] = lambda offset, k: d.bits(d.byte_in_block(counter[k], offset + 1))
+        d.bits_of_word["counter of the tag"] = lambda offset, k: d.bits(d.byte_in_block(counter[k], offset + 1))
         self.own_tag = self.named_bytes(Number("counter of the tag", 0), 4) + self.fresh("tag", DATA)[4:]
         self.highest = d.fresh("byte 15 of the first counter block", DATA)
         self.tag_input = self.fresh("tag input", KEY | DATA)
         self.own_stream = self.aes.cipher(counter + self.own_tag[4:15] + [self.highest], self.message_w)
 
     def stored(self, words):
-        """What set_key stores of such round keys: of each byte a linear function of one of them, and perhaps a constant."""
+        """Gives what set_key stores for these round keys. Each byte is a linear function of one of their bytes, plus perhaps a constant."""
         d = self.domain
-        of = {d.cell_of(w)[0]: b for w, b in zip(sum(self.round_key_words, []), sum(words, []))}
-        image = lambda x: d.linear_image(x, lambda cell: d.bits(of[cell]), d)
+        replacement = {d.cell_of(w)[0]: b for w, b in zip(sum(self.round_key_words, []), sum(words, []))}
+
+        def image(x):
+            return d.linear_image(x, lambda cell: d.bits(replacement[cell]), d)
         return [d.pack([image(x) for x in d.bits(s)]) for s in self.struct[self.length_size:][:self.word * len(words)]]
 
     def derivation(self, few):
-        """derive_keys (4): blocks of a number of 32 bits, the lowest byte first, and the nonce."""
+        """Gives the steps of derive_keys (4). It encrypts blocks of a number of 32 bits, the lowest byte first, and the nonce."""
         inputs = [little(i, 4) + self.nonce for i in range(len(self.derived))]
         blocks = self.made_once("blocks", lambda: [self.aes.cipher(block, self.round_key_words) for block in inputs])
         yield "memory", sum(blocks, []), sum(self.derived, [])
@@ -81,33 +84,33 @@ class KeyedSiv(KeyedHash):
         yield "memory", self.stored(self.expanded), self.stored(self.message_w)
 
     def polyval(self, additional, text):
-        """Whether there are few bytes, and POLYVAL of additional data and a text, each filled up with zeros, and of their lengths in bits
-        (4)."""
+        """Gives whether there are few bytes, and POLYVAL (4) of additional data and a text, each filled up with zeros, and of their lengths
+        in bits."""
         few, hashing = len(additional) + len(text) <= FEW, Hashing(self, ZEROS)
         lengths = (little(8 * len(additional), 8) + little(8 * len(text), 8))[::-1]
         first, second = ([b[::-1] for b in padded(s)] for s in (additional, text))
-        groups = [[b] for b in first + second + [lengths]] if few else threes(first) + threes(second + [lengths])
+        groups = [[b] for b in first + second + [lengths]] if few else in_groups(first) + in_groups(second + [lengths])
         return few, hashing.take(groups)
 
     def tagged(self, value):
-        """The block of which the tag is Cipher: the sum of this value and the nonce, with the highest bit 0. That block as arbitrary bytes,
-        and Cipher of these."""
+        """Gives the block that is encrypted to the tag: the sum of this value and the nonce, with the highest bit 0. Also gives arbitrary
+        bytes for that block, and Cipher of these."""
         block = self.aes.xor(value[::-1], self.nonce + [0] * 4)
         block[15] = self.domain.and_byte(block[15], 127)
         any_ = [b if b < 256 else t for b, t in zip(block, self.tag_input)]
         return block, any_, self.made_once(("tag", *any_), lambda: self.aes.cipher(any_, self.message_w))
 
     def first_counter(self, tag):
-        """The step that makes the first counter block: the tag with its highest bit set."""
+        """Gives the step that makes the first counter block, which is the tag with its highest bit set."""
         same, last = tag[:15], tag[15]
         return "memory", same + [self.domain.or_byte(last, 128)], same + [self.highest]
 
     def crypted_by_tag(self, text):
-        """AES_CTR (4): block i has the number that the tag begins with, the lowest byte first, plus i, modulo 2^32."""
+        """Gives AES_CTR (4) of a text. The counter in block i is the tag's first number, the lowest byte first, plus i, modulo 2^32."""
         return self.aes.xor(text, [b for i in range(len(text) // 16 + 1) for b in self.in_block(self.own_stream, i)])
 
     def seal(self, additional_length, text_length, way=""):
-        """Encrypts `text_length` bytes in place under a nonce that the caller brings, and writes the tag .. (RFC 8452, 4). .. DONE. With
+        """Encrypts `text_length` bytes in place under a nonce of the caller's choice, and writes the tag (RFC 8452, 4). .. DONE. With
         _to: The same from one buffer to another of the same length"""
         additional, text = self.in_blocks(self.additional_bytes, additional_length), self.in_blocks(self.text, text_length)
         few, hashing = self.polyval(additional, text)
@@ -120,14 +123,14 @@ class KeyedSiv(KeyedHash):
             yield "memory", tag, self.own_tag
             yield self.first_counter(self.own_tag)
         arguments = [self.schedule(), Buffer("nonce", self.nonce), Buffer("additional", additional), additional_length,
-                     *self.changed(way, "text", text, self.crypted_by_tag(text), text_length)]
+                     *self.data_arguments(way, "text", text, self.crypted_by_tag(text), text_length)]
         arguments.append(Buffer("tag", self.undefined(16), self.own_tag))
         return Call("gcm_siv_seal" + way, arguments, DONE, steps=steps, plain=text)
 
     def open(self, additional_length, text_length, way=""):
-        """Decrypts `text_length` bytes in place if the tag is right (RFC 8452, 5). The tag can be compared only once the text is decrypted,
-        so a text that is refused is encrypted again: it is proved that it is, when the call returns, as it was. .. REFUSED; else DONE. With
-        _to: The same from one buffer to another of the same length .. After REFUSED the output is all zeros"""
+        """Decrypts `text_length` bytes in place if the tag is right (RFC 8452, 5). The tag can be compared only once the text is decrypted.
+        So a refused text is encrypted again, and is unchanged when the call returns .. REFUSED; else DONE. With _to: The same from
+        one buffer to another of the same length .. After REFUSED the output is all zeros"""
         additional, sealed = self.in_blocks(self.additional_bytes, additional_length), self.in_blocks(self.sealed, text_length)
         text = self.in_blocks(self.text, text_length)
         few, hashing = self.polyval(additional, text)
@@ -142,20 +145,20 @@ class KeyedSiv(KeyedHash):
             yield from hashing.steps()
             yield "memory", block, any_block
             yield self.first_counter(self.own_tag)
-            if text:  # it became the sum of `sealed` and keystream; with the keystream once more it is `sealed`
+            if text:  # it became the sum of `sealed` and the keystream, and adding the keystream again gives `sealed`
                 yield place, self.crypted_by_tag(text), sealed
         arguments = [self.schedule(), Buffer("nonce", self.nonce), Buffer("additional", additional), additional_length,
-                     *self.changed(way, "text", sealed, text, text_length), Buffer("tag", self.own_tag)]
+                     *self.data_arguments(way, "text", sealed, text, text_length), Buffer("tag", self.own_tag)]
         reveals = self.aes.xor(self.own_tag, right)
         return Call("gcm_siv_open" + way, arguments, DONE, steps=steps, reveals=reveals, refused=REFUSED,
                     refused_after={"output": [0] * text_length}, plain=text, undone=True)
 
-    # Texts of every length (lengths.py). The tag begins with a number of unknown value, to which the number of a block is added modulo
-    # 2^32.
+    # Texts of every length (lengths.py).
     def any_own_tag(self):
+        """Gives a tag that begins with a number of unknown value. The number of a block is added to it modulo 2^32."""
         d, name = self.domain, COUNTER.word
         d.placed[name] = lambda number, k: d.bits(d.byte_in_block(self.counter[k], number))
-        d.words[name] = lambda offset, k: d.bits(first[k]) if offset == 0 else None
+        d.bits_of_word[name] = lambda offset, k: d.bits(first[k]) if offset == 0 else None
         first = self.fresh("tag", DATA, 4)
         return [d.opaque((Number(name, 0), k)) for k in range(4)] + self.own_tag[4:]
 
@@ -177,7 +180,7 @@ class KeyedSiv(KeyedHash):
         return self.any_message("seal", way, sizes, plain, sealed, [("again", (), ())], last, Buffer("tag", self.undefined(16), tag), plain)
 
     def any_open(self, additional, text, way=""):
-        """When all of the text is decrypted, it becomes arbitrary bytes; with the keystream once more it is what it was."""
+        """The decrypted text becomes arbitrary bytes. Adding the keystream again gives the encrypted text."""
         sizes, plain, undone, tag = self.any_texts(additional, text)
         sealed, place, right = self.pattern(self.sealed), "output" if way else "text", lambda m: self.tagged(self.any_sum(m, sizes))
         opened, zeros = self.aes.xor(sealed, self.pattern(self.own_stream)), [("whole", place, (sealed, ZEROS, True))] * bool(way)
@@ -187,13 +190,13 @@ class KeyedSiv(KeyedHash):
             reveals=lambda m: self.aes.xor(tag, right(m)[2]), refused=REFUSED, undone=True, between=self.in_all_blocks(undone))
 
     def any_texts(self, additional, text):
-        """The sizes, the patterns of a plain text and of what is made of it, and the tag."""
+        """Gives the sizes, the patterns of a plain text and of the encrypted text, and the tag."""
         plain = self.pattern(self.text)
         sealed = self.aes.xor(plain, self.pattern(self.own_stream))
         return (unknown("a") * 48 + additional, unknown("n") * 768 + text), plain, sealed, self.made_once("any own tag", self.any_own_tag)
 
     def any_message(self, name, way, sizes, content, want, first, last, tag, plain, **more):
-        """A call of which the steps are the derivation of keys and those of `first`, GHASH, and those of `last`."""
+        """Gives a call. Its steps derive the keys, then come those of `first`, those of GHASH, and those of `last`."""
         def steps(m):
             if m.phase in (1, 2):
                 return self.any_hash(m, m.phase - 1, sizes)

@@ -1,4 +1,5 @@
-"""What one process proves: the calls of one build under keys of one size; and what is compared with a processor afterwards."""
+"""Runs the proof in processes: each proves the calls of one build under keys of one size. Afterwards it compares instructions with a
+processor."""
 import concurrent.futures
 import gc
 import time
@@ -10,20 +11,26 @@ from native import compare_all
 from operands import lanes
 from processors import MEANINGS, PROCESSORS
 from program import Program
-from vectors import checked
+from vectors import check_vectors
 
 SEED = 1
 
-# Calls that also run on the processor, by default and with all lengths.
+# Calls that also run on the processor: by default, with builds of few lengths, on RISC-V, and with all lengths.
 BESIDE = "blocks encrypt 17", "add_keystream 21 11 1", "seal 13 33"
-OF_FEW_BESIDE = "add_keystream 0 33", "seal 13 33"  # (not of narrow ones for Windows)
+FEW_BESIDE = "add_keystream 0 33", "seal 13 33"  # (but none with `_v1` for Windows)
 ON_RISCV = "blocks encrypt 2", "add_keystream 21 40 1", "additional 3 13"
 ALL_BESIDE = *BESIDE, "add_keystream 0 130", "unwrap 3", "seal 1 1", "open 0 0", "open 1 1"
 
 
 class Task:
-    """The calls of one build under keys of one size, or a part of these. The first size has some of them beside the processor, and
-    statements have vectors once for all builds."""
+    """The calls of one build under keys of one size, or a part of them. Keys of the first size have some calls that also run on the
+    processor. Vectors are checked with one build only.
+
+        proved, failed    how many cases were
+        used              {form of an instruction: where it ran}
+        compared          the forms that ran on the processor, in whole calls
+        calls             the names of the calls that cases prove
+        kept_key          how set_key stores keys; and `covered`: what the cases cover. They are None until all cases have run"""
 
     def __init__(self, options, build, key_size, part, parts):
         self.options, self.build, self.machine, self.key_size, self.part, self.parts = options, build, BUILDS[build], key_size, part, parts
@@ -31,10 +38,11 @@ class Task:
         self.name = "%s.s, key of %d bytes" % (build, key_size) + ", part %d of %d" % (part + 1, parts) * (parts > 1)
         self.path = "%s/%s_%d_%d" % (options.out, build.replace("/", "_"), key_size, part)
         self.proved, self.failed, self.vectors = -bool(part), 0, 0  # (set_key counts once)
-        self.used, self.compared, self.ran, self.went, self.nearest, self.calls = {}, set(), set(), set(), set(), set()
-        self.kept_key = None
+        self.used, self.compared, self.calls = {}, set(), set()
+        self.kept_key, self.covered = None, None
 
     def run(self):
+        """Proves all cases of the task, and gives the task."""
         start = time.process_time()
         try:
             self.prove_all(program_of(self.build, self.options.objects[self.build], self.path))
@@ -45,43 +53,44 @@ class Task:
         return self
 
     def prove_all(self, program):
+        """Proves set_key, and then all statements for the keys that it stores."""
         keyed = LIBRARIES[self.library][0](program, self.key_size)
         self.case("set_key", keyed.set_key)
         if not self.failed:
             if self.build == "x86_64/" + self.library and self.part == 0:
-                self.vectors = checked(keyed)
+                self.vectors = check_vectors(keyed)
             for what, call in statements(keyed, self.options, self.part, self.parts):
                 self.calls |= keyed.calls
-                program.accepts = "refused" not in what
-                self.case(what, lambda seed: keyed.proved(call, seed))
+                program.noted.accepts = "refused" not in what
+                self.case(what, lambda seed: keyed.prove(call, seed))
                 if "refused" in what:
                     keyed.calls = set()
             self.calls |= keyed.calls
             self.kept_key = keyed.kept_key()
-        self.ran, self.went = set(program.cache), program.went  # (what was decoded ran)
-        self.nearest = program.distances()
+        self.covered = program.covered()
 
     def beside(self):
-        """The calls that also run on the processor."""
+        """Gives the cases that also run on the processor."""
         if self.key_size != self.options.keys[0] or self.library == "siv" and (self.options.level != "all" or narrow_word(self.build)):
             return ()
         if self.machine.relaxed:
             return ON_RISCV
         if takes_few(self.build, self.options.level):
-            return () if is_windows(self.build) and narrow_word(self.build) else OF_FEW_BESIDE
+            return () if is_windows(self.build) and narrow_word(self.build) else FEW_BESIDE
         return (*ALL_BESIDE, *["set_key"] * (self.part == 0)) if self.options.level == "all" else BESIDE
 
     def case(self, what, prove):
+        """Proves one case, and counts it. `prove` also runs it on the processor if it is given a seed."""
         start = time.process_time()
         try:
             m = prove(None)
             self.used.update(m.used)
             left = ", ".join("%d %s in %s" % (len(v), kind, place) for (place, kind), v in sorted(m.left.items()))
-            text = "%d instructions, %d bytes of stack; left: %s" % (m.steps, m.top - m.lowest, left or "nothing")
+            text = "%d instructions, %d bytes of stack; left: %s" % (m.steps, m.stack.depth(), left or "nothing")
             if what in self.beside() and not PROCESSORS[self.machine].missing():
                 self.compared |= set(prove(SEED).used)
             self.proved += 1
-        except Exception as e:  # also a fault of this program, which doesn't end the others
+        except Exception as e:  # also faults of this program, so that the other cases still run
             text = "NOT PROVED: %s" % (e if isinstance(e, Unproved) else repr(e))
             self.failed += 1
         if self.options.lines or text.startswith("NOT"):
@@ -89,12 +98,12 @@ class Task:
 
 
 def pool_of(jobs, **more):
-    """Processes without collection of garbage: next to nothing here refers to itself, and looking for it takes a fifth of the time."""
+    """Gives processes that don't look for cycles of references. There are nearly none, and looking for them costs a fifth of the time."""
     return concurrent.futures.ProcessPoolExecutor(jobs, initializer=gc.disable, **more)
 
 
 def parts_of(level, build, size):
-    """In how many parts the calls of a build are proved: so that all take about as long, and with all lengths not too much memory."""
+    """Gives in how many parts the calls of a build are proved. All parts should run about as long, and not need too much memory."""
     if level == "all":
         return 8 if "/aes" in build and not takes_few(build) else 3
     if size != 16 or takes_few(build, level):
@@ -103,7 +112,7 @@ def parts_of(level, build, size):
 
 
 def run_all(pool, options):
-    """Each task when it has run, the longest of them first."""
+    """Runs all tasks, the longest first, and gives each one when it has run."""
     tasks = [Task(options, build, size, part, parts) for size in options.keys for build in options.builds
              if (size != 24 or "siv" not in build) and (size == 16 or options.level == "all" or not takes_few(build))
              for parts in [parts_of(options.level, build, size)] for part in range(parts)]
@@ -112,7 +121,7 @@ def run_all(pool, options):
 
 
 def alone(path, machine, used):
-    """The forms that the processor didn't agree on, each by itself, and where it differs."""
+    """Compares each form by itself. Gives the forms that the processor didn't confirm, and the text of a difference."""
     try:
         return set(used) - compare_all(Program(path, machine), used), ""
     except Unproved as e:
@@ -120,9 +129,9 @@ def alone(path, machine, used):
 
 
 def compare_forms(pool, tasks):
-    """Compares each form of an instruction that was used; (how many there are, the machine and the form of those that lack it, how often
-    a processor differed)."""
-    most_last = sorted(tasks, key=lambda task: len(task.used))  # so that few files have all forms
+    """Compares each form of an instruction that was used. Gives how many there are, (machine, form) of those that weren't confirmed, and
+    how often a processor differed."""
+    most_last = sorted(tasks, key=lambda task: len(task.used))  # so that few files are needed for all forms
     forms = {(MEANINGS[task.machine], form): (task.path, address) for task in most_last for form, address in task.used.items()}
     in_calls = {(MEANINGS[task.machine], form) for task in tasks for form in task.compared}
     programs, lacking, differed = {}, [], 0

@@ -1,154 +1,186 @@
-"""What no case of `make prove` covers, and why. A text of which all cases ran is refused where more isn't covered than this list says."""
+"""Finds what no case of `make prove` covers, and says why. The record (uncovered_record.py) has the places."""
 import collections
 import re
 
-from counts import COUNTS
+# The addresses of a function that aren't covered:
+#     idle         those that didn't run
+#     one_way      {conditional jumps and adds with carry that went one way: which way}
+#     one_value    {where a condition chose the same value each time: the condition}
+#     apart        {other comparisons that weren't at their border: {the answer: how far from it}}
+#     same         {those that computed the same number each time: the numbers} (constant_results.py)
+#     look_ups     those that read constants from several places
+#     follows      {those that computed a number of the call: what was added to it} (following_results.py)
+# The last two are covered. But their results may be right for each length that is tried, and wrong for others.
+Uncovered = collections.namedtuple("Uncovered", "idle one_way one_value apart same look_ups follows")
 
-# Of a function: the addresses that didn't run; those of conditional jumps and adds with carry that went one way; those where a condition
-# chose the same value each time; and {those of other comparisons that weren't at their border: how far from it, by the answer}.
-Uncovered = collections.namedtuple("Uncovered", "idle one_way one_value apart")
-NOTHING = 0, 0, 0, 0  # how many there are of each
-
-# (a pattern of texts; the ends of names of functions, without what tells functions of other types apart; in each of them how many
-# instructions don't run, and how many conditional jumps and adds with carry go one way only, at most; why)
+# Why instructions don't run, or conditional ones go one way: (a pattern of assembly files; the ends of names of functions, without the
+# numbers of their types; the reason).
 UNCOVERED = [
-    ("x86_64/gcm", r"fotsgure_gcm_(?!siv)\w+", 0, 1, "A struct holds no key or one of three lengths, so a check of it finds no other."),
-    ("x86_64/gcm", r"fotsgure_gcm_siv_\w+", 0, 3, "A struct holds no key or one of two lengths, so a check of it finds no other."),
-    ("(?!x86_64/gcm$).*", r"fotsgure_\w+", 0, 3,
-     "A struct holds no key or one of 16, 24 or 32 bytes, so a check of its length finds no other."),
-    (".*", r"fotsgure_\w+_(to|with)|whole_to\.copy", 32, 14,
-     "A copy between buffers ends in any number of bytes, at any distance: not each is tried."),
-    ("windows_x86_64/gcm_v3", "fotsgure_gcm_siv_seal_to", 33, 7, "It has such a copy."),
-    (".*/gcm.*", r"fotsgure_gcm_(seal|begin)_next", 60, 3, "The last number of a counter is refused first, and is looked for once more."),
-    *((*entry, "What is wiped has one of a few lengths, and the loops are for any.") for entry in (
-        (".*", r"zeroize\.elements\.zeroize_elements", 36, 4), (".*/gcm_v1", r"zeroize\.elements\.zeroize_elements", 32, 6),
-        ("x86_64/.*", r"zeroize\.zeroize_words", 4, 1), ("x86_64/.*", r"zeroize\.stack\.wipe_stack", 0, 1),
-        ("(?!x86_64/).*", r"zeroize\.\w+(\.\w+)?", 36, 4))),
+    ("x86_64/gcm", r"fotsgure_gcm_(?!siv)\w+",
+     "A struct holds no key, or a key of one of three lengths. The check for other lengths never succeeds."),
+    ("x86_64/gcm", r"fotsgure_gcm_siv_\w+",
+     "A struct holds no key, or a key of one of two lengths. The check for other lengths never succeeds."),
+    ("(?!x86_64/gcm$).*", r"fotsgure_\w+",
+     "A struct holds no key, or a key of 16, 24 or 32 bytes. The check for other lengths never succeeds."),
+    (".*", r"fotsgure_\w+_(to|with)|whole_to\.copy",
+     "A copy may end with any number of bytes, and its buffers may be any distance apart. Not all of these are tried."),
+    (".*/gcm.*", r"fotsgure_gcm_(seal|begin)_next",
+     "A counter at its last number is refused. The code asks for that number a second time, and that never succeeds."),
+    *((*entry, "The loops can wipe any length, and calls wipe only a few lengths.") for entry in (
+        (".*", r"zeroize\.elements\.zeroize_elements"), ("x86_64/.*", r"zeroize\.zeroize_words"),
+        ("x86_64/.*", r"zeroize\.stack\.wipe_stack"), ("(?!x86_64/).*", r"zeroize\.\w+(\.\w+)?"))),
     (".*", r"expand_lanes|store_planes|process_on_lanes|process_planes|chaining\.chain|tags\.tag|_halves|put_mask|put_subkey|"
-     r"_in_place|expand_words|process_state", 20, 6, "Loops over the round keys check at each one whether it is there."),
-    (".*", "process_few|process_filled_up", 18, 2, "It is never called for no blocks, and asks whether there are any."),
-    (".*/aes.*", r"ccm\.message\.put_tag|ccm\.mode\.\w+", 30, 9, "Additional data of 65,280 bytes or more are tried with few builds alone. "
-     "The export refuses a text that is too long first, and it is asked for once more."),
-    ("riscv32/aes", "_in_place", 12, 7, "A number of semiblocks has 64 bits there, and no buffer so many that the higher 32 count."),
-    (".*", r"add_in_batches\.\w+|call_to_\w+|add_gctr", 75, 26, "A text ends in any part of a batch, and not each end is tried."),
-    ("riscv32/gcm", r"BorrowedGcm\.turn_to", 0, 1,
-     "A text's first piece has less than 2^32 bytes there, and is asked again whether it is too long."),
-    ("riscv32/gcm", r"add_in_batches\.add_next", 135, 26,
-     "A text of AES-GCM-SIV begins at a block, and has fixed lengths there: not each end in a batch is tried."),
-    (".*", r"process_(on_planes|(in|all)_batches|rest)", 26, 13, "Blocks end in any part of a batch, and not each end is tried."),
-    (".*/gcm.*", r"BorrowedGcm\.compare", 2, 3, "The export refuses lengths first, and they are asked for once more."),
-    (".*/gcm_v1", r"BorrowedGcm\.put_pre_counter", 1, 1, "The export refuses a nonce of no bytes first, and it is asked for once more."),
-    (".*/gcm.*", r"process_(on_planes|(in|all)_batches|rest)", 400, 40, "They are for many blocks at once: here for those of which "
-     "AES-GCM-SIV derives keys, which are six at most."),
-    (".*/gcm.*", r"hash_on|hash_piece|hash_singly|put_tag|put_tag_so_far", 30, 8,
-     "A string ends in any part of three blocks: not each is tried."),
-    (".*/gcm.*", r"siv\.\w+|keys\.derive|gcm_siv\.message\.\w+", 70, 16,
-     "AES-GCM-SIV has fixed lengths: not each end of a string is tried."),
-    (".*/aes.*", r"key_wrap\.\w+\.\w+", 63, 4, "There are loops for copies that overlap, which the header excludes: only a few semiblocks "
-     "are copied so."),
+     r"_in_place|expand_words|process_outlined", "A loop over the round keys asks for each one whether it is there. It always is."),
+    (".*", "process_few|process_filled_up", "It asks whether there are any blocks. It is called only if there are."),
+    (".*/aes.*", r"ccm\.message\.put_tag|ccm\.mode\.\w+", "Only a few builds are tried with additional data of 65,280 bytes or more. "
+     "The export refuses a text that is too long. The code asks for that a second time, and that never succeeds."),
+    ("riscv32/aes", "_in_place", "A number of semiblocks has 64 bits. Its higher half is 0, as no buffer has more on this machine."),
+    (".*", r"add_in_batches\.\w+|call_to_\w+|add_gctr", "A text may end anywhere in a batch. Not all ends are tried."),
+    ("x86_64/gcm", r"BorrowedGcm\.enter_phase", "The export refuses a piece in the wrong phase, and the phase is compared once more."),
+    ("riscv32/gcm", r"BorrowedGcm\.enter_phase",
+     "The first piece of a text has fewer than 2^32 bytes on this machine, so it is never too long. The code asks for that anyway."),
+    ("riscv32/gcm", r"add_in_batches\.add_next",
+     "A text of AES-GCM-SIV begins with a whole block, and is tried at fixed lengths only. Not all ends in a batch are among them."),
+    (".*", r"process_(on_planes|all_batches|batches_and_rest|filled_up)", "Blocks may end anywhere in a batch. Not all ends are tried."),
+    (".*/gcm.*", r"BorrowedGcm\.compare",
+     "The export refuses wrong lengths. The code asks for them a second time, and that never succeeds."),
+    (".*/gcm_v1", r"BorrowedGcm\.put_pre_counter",
+     "The export refuses a nonce of no bytes. The code asks for that a second time, and that never succeeds."),
+    (".*/gcm.*", r"process_(on_planes|all_batches|batches_and_rest|filled_up)", "These functions are for many blocks. Here they process "
+     "only the blocks from which AES-GCM-SIV derives keys, at most six."),
+    (".*/gcm.*", r"hash_on|hash_piece|hash_singly|put_tag|put_tag_so_far",
+     "A string may end anywhere in a group of three blocks. Not all ends are tried."),
+    (".*/gcm.*", r"siv\.\w+|keys\.derive|gcm_siv\.message\.\w+",
+     "AES-GCM-SIV is tried at fixed lengths only. Not all ends of a string are among them."),
+    (".*/aes.*", r"key_wrap\.\w+\.\w+", "Some loops are for copies that overlap, which the header excludes. They copy only a few "
+     "semiblocks here."),
 ]
 
 
-# With PROVE, counts.py has how much is uncovered of each function of these texts, and each has a reason, here or above.
-JUDGED = "x86_64/(aes|gcm)"
 # Why a condition chooses the same value each time, if refusals aren't counted.
 VALUES = [
-    ("x86_64/.*", r"fotsgure_\w+", "It asks whether a pointer is NULL, in the place of which the header passes another address; or whether a "
-     "call is refused."),
-    ("x86_64/.*", r"key_wrap\.\w+\.\w+|ccm\.mode\.\w+|BorrowedGcm\.turn_to", "It asks whether a call is refused."),
-    ("x86_64/.*", r"add_in_batches\.add_next", "A text that ends in the block in which it begins goes another way. In AES-GCM-SIV whole batches "
-     "come before."),
-    ("x86_64/gcm", r"gcm_siv\.message\.apply", "Whole batches come before, so fewer bytes are left."),
-    ("x86_64/aes", "key_wrap.padded.wrap_padded", "A key of fewer than eight bytes goes another way."),
-    ("x86_64/aes", "ccm.message.put_tag", "Each key has more than two rounds."),
-    ("x86_64/gcm", "BorrowedGcm.compare", "The export refuses lengths first, and they are asked for once more."),
+    ("x86_64/.*", r"fotsgure_\w+", "Some conditions ask whether a pointer is NULL. It never is, because the header passes another address "
+     "instead. Other conditions ask whether a call is refused."),
+    ("x86_64/.*", r"key_wrap\.\w+\.\w+|ccm\.mode\.\w+|BorrowedGcm\.enter_phase", "It asks whether a call is refused."),
+    ("x86_64/.*", r"add_in_batches\.add_next", "A text that ends in its first block is processed by other code. In AES-GCM-SIV whole "
+     "batches are processed before."),
+    ("x86_64/gcm", r"gcm_siv\.message\.process_text", "Whole batches are processed before, so fewer bytes than a batch has are left."),
+    ("x86_64/aes", "key_wrap.padded.wrap_padded", "A key of fewer than eight bytes takes another path."),
+    ("x86_64/aes", "ccm.message.put_tag", "It asks whether there are more than two rounds. Every key has more."),
+    ("x86_64/gcm", "BorrowedGcm.compare",
+     "The export refuses wrong lengths. The code asks for them a second time, and that never succeeds."),
 ]
 # Why a comparison isn't tried at its border (borders.py).
 BORDERS = [
-    ("x86_64/aes", r"add_in_batches\.add_keystream", "The carry between a counter's halves. It has cases in which these may be any."),
-    ("x86_64/aes", "process_in_batches", "The loop's numbers are multiples of eight."),
-    ("x86_64/aes", r"add_in_batches\.add_next", "Four carries between a counter's halves: cases have any halves."),
-    ("x86_64/.*", "process_planes", "A loop over round keys ends at the numbers that three sizes of keys have."),
-    ("x86_64/.*", r"fotsgure_aes_add_keystream(_with|_to)?|BorrowedGcm\.turn_to|fotsgure_gcm_(additional|decrypt)",
-     "The sum of two numbers of bytes carries only in calls that are refused, which is proved for all numbers."),
-    ("x86_64/.*", r"fotsgure_\w+_to|whole_to\.copy", "Buffers that are 32 bytes apart, and overlap, have more bytes than that."),
+    ("x86_64/aes", r"add_in_batches\.add_keystream",
+     "It asks for a carry between a counter's halves. In some cases these may have any value."),
+    ("x86_64/aes", "process_batches_and_rest", "The numbers that the loop compares are multiples of eight, so they never differ by 1."),
+    ("x86_64/aes", r"add_in_batches\.add_next",
+     "It asks for four carries between a counter's halves. In some cases these may have any value."),
+    ("x86_64/.*", "process_planes", "A loop over round keys ends at one of three numbers, one for each size of keys."),
+    ("x86_64/.*", r"fotsgure_aes_add_keystream(_with|_to)?|BorrowedGcm\.enter_phase|fotsgure_gcm_(additional|decrypt)",
+     "The sum of two numbers of bytes carries only in calls that are refused. The refusal is proved for all numbers."),
+    ("x86_64/.*", r"fotsgure_\w+_to|whole_to\.copy", "Two buffers that overlap and begin 32 bytes apart have more than 32 bytes."),
 ]
+
+# Why an instruction computes the same number each time (constant_results.py).
+SAME = [
+    ("x86_64/aes", "process_filled_up", "It asks for a bit of how many blocks there are, and in the cases that get there this is 1."),
+    ("x86_64/gcm", r"gcm_siv\.message\.process_text", "A text ends in any part of a batch, and not each end is tried."),
+    (".*", r"zeroize\.\w+(\.\w+)?", "It reads bytes that it has wiped. They are 0."),
+    ("x86_64/gcm", r"(?:Multiples|Table)\.\w+",
+     "The bits that are shifted out of a block for GHASH are in one half of a vector. The other half is 0."),
+    ("x86_64/gcm", r"put_pre_counter|put_tag(_so_far)?", "One half of a vector has a length, and the other half is 0. The highest bits of "
+     "a length are 0."),
+    ("x86_64/aes", r"ccm\.message\.put_tag|ccm\.mode\.\w+", "The higher bytes of a length are 0. A nonce has fewer than 16 bytes."),
+    ("x86_64/.*", r"add_in_batches\.\w+|add_gctr|call_to_\w+|process_on_lanes|store_planes", "A part of a text begins at the same place of "
+     "a batch each time, and a part of a key at the same round key."),
+    ("x86_64/aes", r"key_wrap\.\w+\.\w+", "The last semiblock has eight bytes or fewer."),
+    ("x86_64/.*", r"fotsgure_\w+|BorrowedGcm\.\w+|whole_to\.copy", "Some instructions ask whether a call is refused, because of its state "
+     "or of a number that is too large. Others ask how many whole batches come first."),
+    ("x86_64/.*", r"add_in_batches\.\w+|add_gctr|fotsgure_\w+|zeroize\.\w+\.\w+|siv\.prepare",
+     "It stores zeros where it wipes, in structs and on the stack, and the length of a key."),
+    ("x86_64/gcm", r"keys\.derive", "It stores the numbers of the blocks from which keys are derived (RFC 8452, 4)."),
+    ("x86_64/aes", r"tags\.tag", "It stores the byte 128 after a message, which may end anywhere in a block (SP 800-38B, 6.2)."),
+]
+# Why an instruction reads constants from several places.
+LOOK_UPS = [
+    (".*", r"expand_lanes|expand_words", "KeyExpansion reads a round constant in each step. In some builds a table says where to jump for "
+     "the size of a key."),
+    (".*", r"fotsgure_aes_(cbc_encrypt|set_key)|process_on_lanes|process_one\w*|put_subkey|put_mask|chaining\.chain|tags\.tag|_halves|"
+     "put_tag",
+     "Each round on vectors reads the permutation of bytes for as many deferred ShiftRows as there are."),
+]
+# Why an instruction computes a number of the call, and not by sums alone (following_results.py).
+FOLLOWS = [
+    ("x86_64/.*", r"add_in_batches\.\w+|add_gctr|process_filled_up|key_wrap\.\w+\.\w+|fotsgure_\w+|zeroize_elements|message\.\w+",
+     "A loop that was unrolled asks for the lowest bits of a number. So it moves half of a register, and not each number is tried."),
+    ("x86_64/aes", "key_wrap.padded.wrap_padded", "It computes how many semiblocks a key has. The caller also gives it this number."),
+    ("x86_64/aes", r"ccm\.mode\.\w+", "It asks whether a tag's length is refused, as are odd ones."),
+    ("x86_64/aes", "ccm.message.put_tag", "It rounds a tag's length down to an even number, and it is even."),
+    ("x86_64/gcm", r"add_gctr|add_in_batches\.add_next|process_text", "It adds what is done and what is left, or subtracts one of them."),
+    ("x86_64/gcm", r"BorrowedGcm\.put_(pre_counter|tag_so_far)", "It moves a length to a vector. Of two it chooses the lesser one."),
+    ("x86_64/gcm", r"BorrowedGcm\.enter_phase|fotsgure_gcm_\w+", "It asks for the phase of a message, and whether a length is refused."),
+]
+# A reason for all kinds but `look_ups`: PROVE=builds has the list *first* for two assembly files only.
+FEWER = [("(?!x86_64/(aes|gcm)$).*", ".*", "PROVE=builds has fewer lengths for this assembly file.")]
+REASONS = {"idle": UNCOVERED + FEWER, "one_way": UNCOVERED + FEWER, "one_value": VALUES + FEWER, "apart": BORDERS + FEWER,
+           "same": SAME + FEWER, "look_ups": LOOK_UPS, "follows": FOLLOWS + FEWER}
 
 
 def plain(name):
-    """A function's name without the number of its types, and without what tells the builds of a library apart."""
+    """Gives a function's name without the number of its types, and without the ending of a build."""
     return re.sub(r"\.\d+$|_v\d$", "", name)
 
 
-def known_as(name):
-    """A function's name in counts.py: without what tells the builds of a library apart."""
+def recorded_name(name):
+    """Gives a function's name in the record, which is without the ending of a build."""
     return re.sub(r"^\w+_v\d\.|_v\d$", "", name)
 
 
-def of_text(program, ran, went, nearest, by_accepted=False):
-    """{a function: Uncovered}, where anything is. `ran` has the addresses that did, `went` what Program says of it, and `nearest` what
-    borders.py notes: an address, an answer, and how far. `by_accepted`: only ways count that cases went that aren't refusals."""
-    ways, sides, out = {}, {}, {}
-    for address, way, accepts in went:
+def of_program(program, covered, by_accepted=False):
+    """Gives {a function: Uncovered} of a program whose cases cover this (noted.Covered). Functions that are covered are left out. With
+    `by_accepted` the ways of refusals don't count."""
+    ran, same, follows = covered.ran, covered.results, covered.following
+    ways, sides, out, read = {}, {}, {}, [address for address, _ in covered.looked_up]
+    several = {address for address, times in collections.Counter(read).items() if times > 1}
+    for address, way, accepts in covered.went:
         if accepts or not by_accepted:
             ways.setdefault(address, set()).add(way)
-    for address, below, far in nearest:
+    for address, below, far in covered.nearest:
         side = sides.setdefault(address, {})
         side[below] = min(far, side.get(below, far))
     jumps, values = (some & ran for some in conditional(program))
-    once = {a for a in jumps | values if len(ways.get(a, ())) < 2}
+    once = {a: next(iter(ways.get(a, ())), "not at all") for a in jumps | values if len(ways.get(a, ())) < 2}
     for name, addresses in program.functions().items():
-        apart = {a: sides[a] for a in addresses & sides.keys() - once if sides[a] != {True: 0, False: 0}}
-        left = Uncovered(addresses - ran, addresses & jumps & once, addresses & values & once, apart)
+        apart = {a: sides[a] for a in addresses & sides.keys() - once.keys() if sides[a] != {True: 0, False: 0}}
+        of_kind = ({a: once[a] for a in addresses & once.keys() & kind} for kind in (jumps, values))
+        numbers = {a: same[a].result for a in addresses & same.keys() if same[a].varied}
+        given = {a: follows[a] for a in addresses & follows.keys()}
+        left = Uncovered(addresses - ran, *of_kind, apart, numbers, addresses & several, given)
         if any(left):
             out[name] = left
     return out
 
 
 def conditional(program):
-    """The addresses of a text's conditional jumps and adds with carry, and those where a condition chooses a value."""
+    """Gives the addresses of a program's conditional jumps and adds with carry, and those where a condition chooses a value."""
     machine, all_ = program.machine, set().union(*program.functions().values())
     jumps = {a for a in all_ if re.match(machine.conditional, program.lines[a])}
     return jumps, {a for a in all_ - jumps if re.match(machine.choosing, program.lines[a])}
 
 
 def summary(program, found):
-    """How much of a text is covered."""
+    """Gives a line that says how much of a program is covered."""
     all_, kinds = set().union(*program.functions().values()), conditional(program)
-    idle, one_way, one_value, apart = (set().union(*some) for some in zip(*found.values())) if found else [set()] * 4
+    idle, one_way, one_value, apart, same, look_ups, follows = (
+        set().union(*some) for some in zip(*found.values())) if found else [set()] * 7
     jumps, values = ("%d of %d" % (len(some - idle - once), len(some)) for some, once in zip(kinds, (one_way, one_value)))
     return ("%d of %d instructions ran; %s conditional jumps and adds with carry led both ways; %s conditions chose both values; "
-            "%d comparisons not at their border" % (len(all_ - idle), len(all_), jumps, values, len(apart)))
+            "%d comparisons not at their border; %d results always the same; %d look-ups of constants; %d results that follow a number" % (
+                len(all_ - idle), len(all_), jumps, values, *map(len, (apart, same, look_ups, follows))))
 
 
-def entries(all_, text, name):
-    """What a list says of a function of a text."""
-    return [entry[2:] for entry in all_ if re.fullmatch(entry[0], text) and re.search("(%s)$" % entry[1], plain(name))]
-
-
-def against_counts(text, name, left, level):
-    """Where the numbers of a function aren't those of counts.py, or have no reason. With PROVE=all less may be left uncovered: what didn't
-    run then may go one way, and what went one way may go both, away from its border."""
-    found, listed = tuple(map(len, left)), COUNTS[text].get(known_as(name), NOTHING)
-    if level == "all":
-        if found[0] > listed[0] or sum(found[:3]) > sum(listed[:3]):
-            yield "%s: %s uncovered, more than the %s of counts.py" % (name, found, listed)
-        return
-    if found != listed:
-        yield "%s: %s uncovered, and not the %s of counts.py" % (name, found, listed)
-    for number, reasons, what in (found[2], VALUES, "conditions"), (found[3], BORDERS, "comparisons"):
-        if number and not entries(reasons, text, name):
-            yield "%s: %d %s without a reason in uncovered.py" % (name, number, what)
-
-
-def faults(text, found, by_accepted, level):
-    """What isn't covered of a text, and isn't in the lists; and what these have although it is covered."""
-    counted = level and re.fullmatch(JUDGED, text)
-    for name, left in found.items() if not counted or level == "builds" else ():  # (else counts.py allows less)
-        idle, one_way = len(left.idle), len(left.one_way)
-        if not any(idle <= a and one_way <= b for a, b, _ in [(0, 0, ""), *entries(UNCOVERED, text, name)]):
-            yield "%s: %d instructions that don't run, %d conditional ones that go one way" % (name, idle, one_way)
-    if counted:
-        covered = COUNTS[text].keys() - set(map(known_as, by_accepted))
-        for name, left in {**by_accepted, **dict.fromkeys(covered, Uncovered((), (), (), {}))}.items():
-            yield from against_counts(text, name, left, level)
+def entries(all_, assembly, name):
+    """Gives the entries of a list for a function of an assembly file."""
+    return [entry[2:] for entry in all_ if re.fullmatch(entry[0], assembly) and re.search("(%s)$" % entry[1], plain(name))]

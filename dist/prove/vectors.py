@@ -1,11 +1,11 @@
-"""The standards' vectors, at which each statement is evaluated without any machine: so the definitions in the statements and
-in standards.py are those of the standards."""
+"""Evaluates the statements at the standards' vectors, without any machine. So the definitions in the statements and in standards.py agree
+with the standards."""
 import random
 
 from bits import Unproved
+from cell_values import Values
 from domain import Domain
 from standards import Aes, product
-from values import Values
 
 # SP 800-38A, F.2 and F.5: the key, CBC's and counter mode's blocks.
 A_PLAIN = ("6bc1bee22e409f96e93d7e117393172aae2d8a571e03ac9c9eb76fac45af8e51"
@@ -24,7 +24,7 @@ A_CBC = {16: "7649abac8119b246cee98e9b12e9197d5086cb9b507219ee95db113a917678b2"
              "571b242012fb7ae07fa9baac3df102e008b0e27988598881d920a9e64f5615cd",
          32: "f58c4c04d6e5f1ba779eabfb5f7bfbd69cfc4e967edb808d679f777bc6702c7d"
              "39f23369a9d9bacfa530e26304231461b2eb05e2c39be9fcda6c19078c6a9d1b"}
-# SP 800-38B, D.1 to D.3: the same keys, and the tags of so many bytes of the same text.
+# SP 800-38B, D.1 to D.3: the same keys, and tags of the same text at these lengths.
 CMAC_LENGTHS = 0, 16, 40, 64
 CMAC = {16: ("bb1d6929e95937287fa37d129b756746", "070a16b46b4d4144f79bdd9dd04a287c",
              "dfa66747de9ae63030ca32611497c827", "51f0bebf7e3b9d92fc49741779363cfe"),
@@ -32,8 +32,8 @@ CMAC = {16: ("bb1d6929e95937287fa37d129b756746", "070a16b46b4d4144f79bdd9dd04a28
              "8a1de5be2eb31aad089a82e6ee908b0e", "a1d5df0eed790f794d77589659f39a11"),
         32: ("028962f61b7bf89efc6b551f4667d983", "28a7023f452e8f82bd4bf28d8c37c35c",
              "aaf3d8f1de5640c232f5b169b9c911e6", "e1992190549f6ed5696a2c056c315410")}
-# SP 800-38C, C.1 to C.3: the key is 40 41 .. 4f, the nonce counts from 10 on, the additional data from 00 on, the text from 20 on. Of so
-# many bytes each: what is encrypted, and the tag.
+# SP 800-38C, C.1 to C.3. The key is 40 41 .. 4f. The nonce counts from 10 on, the additional data from 00 on, and the text from 20 on. An
+# entry has the lengths of these three, the encrypted text, and the tag.
 CCM = [(7, 8, 4, "7162015b", "4dac255d"), (8, 16, 16, "d2a1f0e051ea5f62081a7792073d593d", "1fc64fbfaccd"),
        (12, 20, 24, "e3b201a9f5b71a7a9b1ceaeccd97e70b6176aad9a4428aa5", "484392fbc1b09951")]
 # FIPS 197 of 2001, C.1: round 1 of Cipher and of EqInvCipher: the state, the round key, the next state; MixColumns of round 1.
@@ -73,9 +73,9 @@ SIV = [("f901cfe8a69615a93fdf7a98cad48179", "6245709fb18853f68d833640",
 
 
 def evaluate(keyed, call, key, given):
-    """What a statement says that its buffers hold after the call, as bytes, for this key and these contents before it: {name: bytes}. The
-    cells of round keys, of powers of H and of the contents get their values, and what the statement has as functions of these is
-    computed. If it goes step by step, the arbitrary bytes after a step get the values of what they stand for."""
+    """Gives what buffers hold after a call with this key and these contents, as its statement says: {name: bytes}. First the cells of round
+    keys, of powers of H and of the contents get their values. Then functions of these are computed. If the statement has steps, the
+    arbitrary bytes after a step get the values of what they replace."""
     plain, values = Aes(Domain()), Values(keyed.domain, random.Random(1), call.counter)
     words = plain.key_expansion(list(key))
     known = list(zip(words, keyed.round_key_words))
@@ -92,12 +92,13 @@ def evaluate(keyed, call, key, given):
             values.give(b, x)
     for _, want, new in call.steps() if call.steps else ():
         want = want() if callable(want) else want
-        values.renamed(zip(want, new), keyed.domain)
+        values.rename(zip(want, new), keyed.domain)
         if any(c < 256 and values.full_byte(b) != c for b, c in zip(want, new)):
             raise Unproved("a vector isn't what a statement assumes")
     return {b.name: bytes(map(values.full_byte, b.after)) for b in call.buffers if b.after is not None and None not in b.after}
 
 
+# These functions give vectors: a call, a key, what the buffers hold before the call, and what they have to hold after it.
 def aes_vectors(k):
     size, cipher, number = k.key_size, A_CBC[k.key_size], "f0f1f2f3f4f5f6f7f8f9fafbfcfdfeff"
     key, iv, last = A_KEYS[size], "000102030405060708090a0b0c0d0e0f", {"cbc": A_CBC[size][-32:]}
@@ -113,8 +114,8 @@ def aes_vectors(k):
             n = len(data) // 2
             padded = data + "00" * (-n % 8)
             yield k.wrap_padded(n), key, {"input": data}, {"output": wrapped}
-            found = {"output": padded, "key_length": n.to_bytes(8, "little").hex()}
-            yield k.unwrap_padded(n), key, {"input": wrapped}, found
+            unwrapped = {"output": padded, "key_length": n.to_bytes(8, "little").hex()}
+            yield k.unwrap_padded(n), key, {"input": wrapped}, unwrapped
     yield from mode_vectors(k)
     yield from round_vectors(k)
 
@@ -139,20 +140,20 @@ def round_vectors(k):
 
 
 def counted(first, count):
-    """Bytes that count up from one on."""
+    """Gives `count` bytes that count up from the first one, in hexadecimal."""
     return bytes(range(first, first + count)).hex()
 
 
 def gcm_vectors(k):
     for key, nonce, cipher, tag in GCM:
         if len(key) == 2 * k.key_size:
-            first = len(nonce) // 2,
+            nonce_length = (len(nonce) // 2,)
             given = {"nonce": nonce, "additional": G_MORE}
-            yield k.seal(20, 60, first), key, dict(given, text=G_PLAIN), {"text": cipher, "tag": tag}
+            yield k.seal(20, 60, nonce_length), key, dict(given, text=G_PLAIN), {"text": cipher, "tag": tag}
             if len(nonce) == 24:
-                yield k.open(20, 60, first), key, dict(given, text=cipher, tag=tag), {"text": G_PLAIN}
-                yield k.seal(20, 60, first, "_to"), key, dict(given, input=G_PLAIN), {"output": cipher, "tag": tag}
-                yield k.open(20, 60, first, "_to"), key, dict(given, input=cipher, tag=tag), {"output": G_PLAIN}
+                yield k.open(20, 60, nonce_length), key, dict(given, text=cipher, tag=tag), {"text": G_PLAIN}
+                yield k.seal(20, 60, nonce_length, "_to"), key, dict(given, input=G_PLAIN), {"output": cipher, "tag": tag}
+                yield k.open(20, 60, nonce_length, "_to"), key, dict(given, input=cipher, tag=tag), {"output": G_PLAIN}
 
 
 def siv_vectors(k):
@@ -165,8 +166,8 @@ def siv_vectors(k):
             yield k.open(a, n, "_to"), key, dict(given, input=cipher, tag=tag), {"output": plain}
 
 
-def checked(keyed):
-    """How many vectors the statements have; raises if a statement has another result than the vector."""
+def check_vectors(keyed):
+    """Compares the statements with their vectors, and gives how many these are. Raises if a statement has another result."""
     vectors = list({"aes": aes_vectors, "gcm": gcm_vectors, "siv": siv_vectors}[keyed.library](keyed))
     for call, key, given, want in vectors:
         have = evaluate(keyed, call, bytes.fromhex(key), {name: bytes.fromhex(x) for name, x in given.items()})

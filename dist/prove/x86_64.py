@@ -1,12 +1,12 @@
-"""x86-64 on symbolic bytes: each instruction that occurs on the paths of the libraries, as the processor's manual defines it (Intel 64 and
-IA-32 Architectures Software Developer's Manual, volume 2). What both machines share is in machine.py."""
+"""Defines the instructions of x86-64 on symbolic bytes. These are the instructions on the paths of the libraries, as in the processor's
+manual (Intel 64 and IA-32 Architectures Software Developer's Manual, volume 2). What all machines share is in machine.py."""
 import re
 
 from bits import Unproved
 from borders import apart
 from machine import Machine
-from operands import (RETURN_ADDRESS, SECRET, WORD, Instruction, Memory, Register, Scaled, Table, Vector, constant, contrary, form,
-                      interleaved, is_int, joined, lanes)
+from operands import (CODE, RETURN_ADDRESS, SECRET, WORD, Instruction, Memory, Pointer, Register, Scaled, Table, Vector, concatenated,
+                      constant, contrary, form, interleaved, is_int, lanes)
 
 R64 = "rax rcx rdx rbx rsp rbp rsi rdi r8 r9 r10 r11 r12 r13 r14 r15".split()
 REGS = {c + "h": Register("r%sx" % c, 1, 1) for c in "abcd"}
@@ -15,14 +15,14 @@ for _r in R64:
     REGS.update({name: Register(_r, size) for name, size in zip([_r, *_parts], (8, 4, 2, 1))})
 SIZES = {"BYTE": 1, "WORD": 2, "DWORD": 4, "QWORD": 8, "XMMWORD": 16, "YMMWORD": 32}
 CONDITIONS = {"e": "z", "ne": "!z", "b": "c", "ae": "!c", "be": "c|z", "a": "!(c|z)", "s": "s", "ns": "!s"}
-# Prefixes that fill up a nop, or a call that the linker shortened; of a jump by a table, which may lead anywhere. Elsewhere a processor may
-# heed them: to some a jump with data16 has an address of 16 bits.
+# Prefixes that may be ignored: those that fill up a nop or a call that the linker shortened, and those of a jump by a table. Elsewhere a
+# prefix may have an effect. On some processors a jump with data16 has an address of 16 bits.
 WITHOUT_EFFECT = r"^(?:(?:(?:cs|data16) +)+(?=nop)|addr32 +(?=call)|(?:(?:notrack|rex\.\w+) +)+(?=jmp))"
 ALIGNED, UNALIGNED = ("movdqa", "movaps", "vmovdqa", "vmovaps"), ("movdqu", "movups")
 
 
 class X86_64(Machine):
-    """With the System V ABI, in which the stack is aligned to 16 bytes before the return address is pushed."""
+    """x86-64 with the System V ABI. The stack is aligned to 16 bytes before the return address is pushed."""
     tools, compiler, linker, objdump = "", ("gcc",), ("ld",), ("-M", "intel")
     later = "ptest|pshufb|palignr|pblendw|pinsr[bd]|pextr[bq]", "v.*|andn|bzhi|mulx|movbe|shrx"
     registers, stack_pointer = R64, "rsp"
@@ -33,35 +33,41 @@ class X86_64(Machine):
     red_zone, mark = 128, "endbr64"
     jumps, conditional, padding = r"j\w+", "j(?!mp)|adc|sbb", r"(data16 |cs )*nop|xchg +ax,ax"
     choosing = "set|cmov"
-    # Jumps and calls that have to arrive at a mark; how instructions of AVX-512 begin, of which some have the names of those of AVX2.
+    sets_flags = r"(cmp|test|ptest|add|sub|adc|sbb|inc|dec|neg|and|or|xor(?!ps)|shl|shr(?!x)|sar|rol|ror|shld|shrd|bt|bzhi|mul)\b"
+    without_result, implicit = "j|call|ret|push|pop|cmp|test|ptest|bt|nop|endbr|vzero|set", {"mul": ("rax", "rdx")}
+    only_writes, moves = r"mov(?!s[sd])|v|lea|andn|shrx|bzhi|mulx|pshuf[dlh]|pextr|pmov", r"v?mov(|abs|dq[au]|[au]ps)"
+    affine = "add|sub|inc|dec|neg|not|lea|xchg"
+    two_results, cancels, first_lane = "mulx|xchg", "xor|v?pxor|v?xorps|sub|v?pcmpeq", "v?mov[qd]"
+    # Jumps and calls that have to arrive at a mark; and the first byte of instructions of AVX-512, of which some are named as in AVX2.
     to_mark, avx512 = r"(rex\.\w+ +)*(jmp|call)\b(?! +[0-9a-f]+ <)", b"\x62"
 
     def leave(self):
-        self.go_to(popped(self))
+        self.go_to(pop(self))
 
     @staticmethod
     def decode(text, following):
+        """Gives a line of objdump as an Instruction."""
         name, _, rest = re.sub(WITHOUT_EFFECT, "", text.split("#")[0].strip()).partition(" ")
         run = TABLE.get(name) or name[0] == "v" and TABLE.get(name[1:])
         if not run:
             raise Unproved("instruction not covered: " + text)
         operands = [operand(o.strip(), name, following) for o in rest.split(",")] if rest and name != "nop" else []
         if name in VECTORS:
-            operands.insert(1, operands[0])  # the first source, which a VEX-coded instruction names
+            operands.insert(1, operands[0])  # the first source, which only VEX-coded instructions name
         return Instruction(run, name, operands, following, form(name, operands, name[0] == "j" or name == "call"))
 
     def condition(self, code):
         flags = [self.flags[f] for f in CONDITIONS[code] if f in "czso"]
         holds = (self.decide if len(flags) == 1 else self.at_most)(*flags)
         if "c" in CONDITIONS[code]:
-            self.meets_carry("z" in CONDITIONS[code])
+            self.note_border_of_carry("z" in CONDITIONS[code])
         elif "s" in CONDITIONS[code]:
-            self.meets_sign()
+            self.note_border_of_sign()
         return int(holds != CONDITIONS[code].startswith("!"))
 
 
 class Windows(X86_64):
-    """With the convention of Windows. Its linker's files are turned into ELF files (linking.py)."""
+    """x86-64 with the calling convention of Windows. Files of its linker are turned into ELF files (linking.py)."""
     tools = "x86_64-w64-mingw32-"
     compiler, linker = (tools + "gcc",), (tools + "ld",)
     arguments, shadow = "rcx rdx r8 r9".split(), 32
@@ -71,7 +77,8 @@ class Windows(X86_64):
 
 
 def operand(text, name, following):
-    """VEX-coded instructions, whose names begin with v, clear the rest of a vector register, and most don't need aligned memory."""
+    """Gives the operand that a text means. VEX-coded instructions, whose names begin with v, clear the rest of a vector register. Most of
+    them don't need aligned memory."""
     vex = name[0] == "v"
     if text in REGS:
         return REGS[text]
@@ -81,10 +88,10 @@ def operand(text, name, following):
         return int(text, 0)
     if (name[0] == "j" or name == "call") and re.match(r"^[0-9a-f]+ <", text):
         return int(text.split()[0], 16)
-    found = re.fullmatch(r"(?:(\w+) PTR )?\[(r\w+(?!\*))?\+?(?:(r\w+)\*(\d))?([+-]?0x[0-9a-f]+)?\]", text)
-    if not found or not found[1] and name != "lea":
+    memory = re.fullmatch(r"(?:(\w+) PTR )?\[(r\w+(?!\*))?\+?(?:(r\w+)\*(\d))?([+-]?0x[0-9a-f]+)?\]", text)
+    if not memory or not memory[1] and name != "lea":
         raise Unproved("operand not covered: " + text)
-    size, base, index, scale, offset = found.groups()
+    size, base, index, scale, offset = memory.groups()
     size, offset = SIZES[size] if size else 8, int(offset or "0", 16)
     if base == "rip":
         base, offset = None, offset + following & WORD
@@ -92,13 +99,13 @@ def operand(text, name, following):
     return Memory(size, base, index, int(scale or 1), offset, size if aligned else 1)
 
 
-# Instructions: their meanings by their names. Each takes the machine, its own name, and its operands.
-def pushed(m, value):
+# The meanings of instructions by their names. The arguments of a meaning are the machine, the instruction's name, and its operands.
+def push(m, value):
     m.move("rsp", -8)
     m.store(m.general["rsp"], m.to_bytes(value, 8))
 
 
-def popped(m):
+def pop(m):
     value = m.from_bytes(m.load(m.general["rsp"], 8))
     m.move("rsp", 8)
     return value
@@ -117,9 +124,9 @@ TABLE = Table({
     "movbe": lambda m, name, to, source: m.write(to, m.read(source)[::-1]),
     "bswap": lambda m, name, to: m.write(to, m.read(to)[::-1]),
     "not": lambda m, name, to: m.write(to, [m.domain.xor_byte(b, 255) for b in m.read(to)]),
-    "push": lambda m, name, source: pushed(m, m.get(source)),
-    "pop": lambda m, name, to: m.put(to, popped(m)),
-    "ret": lambda m, name: m.go_to(popped(m)),
+    "push": lambda m, name, source: push(m, m.get(source)),
+    "pop": lambda m, name, to: m.put(to, pop(m)),
+    "ret": lambda m, name: m.go_to(pop(m)),
     "jmp": lambda m, name, to: m.go_to(m.get(to)),
 })
 for _code in CONDITIONS:
@@ -130,10 +137,10 @@ for _code in CONDITIONS:
 
 @TABLE.of("lea")
 def lea(m, name, to, source):
-    """An address; or a sum of bytes, which may be moved up."""
+    """Gives an address, or a sum of bytes that depend on a secret. One of these may be shifted."""
     registers = [(name, scale) for name, scale in ((source.base, 1), (source.index, source.scale)) if name]
     if tuple not in (type(m.general[name]) for name, _ in registers):
-        return m.put(to, m.address(source))
+        return m.put(to, m.address(source) if registers else Pointer(CODE, source.offset))
     total, *more = [m.shift("lsl", m.get(Register(name, to.size)), scale.bit_length() - 1, to.size) for name, scale in registers]
     for v in (*more, *[source.offset] * (source.offset != 0)):
         total, _ = m.plus(v, total, 0, to.size)
@@ -142,7 +149,7 @@ def lea(m, name, to, source):
 
 @TABLE.of("call")
 def call(m, name, to):
-    pushed(m, m.next_address)
+    push(m, Pointer(CODE, m.next_address))
     m.go_to(m.get(to))
 
 
@@ -153,21 +160,22 @@ def xchg(m, name, a, b):
     m.put(b, x)
 
 
-# Numbers and bits. The flag c of a difference is the borrow.
+# Numbers and bits.
 @TABLE.of("add", "sub", "adc", "sbb", "cmp", "inc", "dec", "neg")
 def arithmetic(m, name, a, b=1):
+    """Computes a sum, or a difference, whose flag c is the borrow. `inc` and `dec` keep that flag, and `cmp` only sets flags."""
     x, y = (0, m.get(a)) if name == "neg" else (m.get(a), m.get(b))
     old, size, before = m.flags["c"], a.size, m.apart
     carry = m.carried(old) if name in ("adc", "sbb") else 0
     if carry not in (0, 1):
         raise Unproved("adds a carry that depends on the key or on data, or that is undefined")
     if name in ("adc", "sbb"):
-        m.went(carry)
-        m.meets_carry()
+        m.note_way(carry)
+        m.note_border_of_carry()
     if name in ("add", "adc", "inc"):
         r, flags = m.plus(x, y, carry, size)
     else:
-        r, flags = (None, m.compared(x, y, size)) if name == "cmp" else m.minus(x, y, size, 1 - carry)
+        r, flags = (None, m.flags_of_difference(x, y, size)) if name == "cmp" else m.minus(x, y, size, 1 - carry)
         flags["c"] = contrary(flags.get("c"))
     if name in ("inc", "dec"):
         flags["c"] = old
@@ -181,6 +189,7 @@ def arithmetic(m, name, a, b=1):
 
 @TABLE.of("and", "or", "xor", "test", "andn")
 def logic(m, name, to, a, b=None):
+    """Computes bit by bit. `xor` of a register with itself is 0 even if nobody wrote the register."""
     x, y = (m.get(to), m.get(a)) if b is None else (m.get(b), m.get(a))  # andn: b and not a
     if name == "xor" and to == a:
         x = y = 0
@@ -192,6 +201,7 @@ def logic(m, name, to, a, b=None):
 
 @TABLE.of("shl", "shr", "sar")
 def shift(m, name, to, count=1):
+    """Shifts by a constant. The flag c is the bit that is shifted out last. A shift by 0 keeps all flags."""
     n, size, v = constant("the count of a shift", m.get(count)) & (63 if to.size == 8 else 31), 8 * to.size, m.get(to)
     if n:
         last = size - n if name == "shl" else n - 1  # the bit that is shifted out last
@@ -203,6 +213,7 @@ def shift(m, name, to, count=1):
 
 @TABLE.of("rol", "ror")
 def rotate(m, name, to, count=1):
+    """Rotates by a constant. The flags z and s stay as they are."""
     n = constant("the count of a rotation", m.get(count)) & (63 if to.size == 8 else 31)
     if n:
         b, size = m.bits(m.get(to), to.size), 8 * to.size
@@ -215,7 +226,7 @@ def rotate(m, name, to, count=1):
 
 @TABLE.of("shld", "shrd")
 def shift_double(m, name, to, source, count):
-    """Nothing here asks for the flags, but they tell of the bits."""
+    """The code never uses the flags, but they may depend on a secret."""
     n, size = constant("the count of a shift", m.get(count)) & (63 if to.size == 8 else 31), 8 * to.size
     own, other = m.bits(m.get(to), to.size), m.bits(m.get(source), to.size)
     m.set_flags(c=SECRET if max(own + other) > 1 else None)
@@ -245,6 +256,7 @@ def bzhi(m, name, to, a, n):
 
 @TABLE.of("mul")
 def mul(m, name, a):
+    """Multiplies rax, with the result in rdx and rax. The flags c and o say whether the higher half isn't 0."""
     mulx(m, name, REGS["rdx"], REGS["rax"], a, REGS["rax"])
     high = m.general["rdx"]
     m.set_flags(**dict.fromkeys("co", int(high != 0) if is_int(high) else SECRET))
@@ -252,6 +264,7 @@ def mul(m, name, a):
 
 @TABLE.of("mulx")
 def mulx(m, name, high, low, a, b=REGS["rdx"]):
+    """Multiplies two words of 64 bits. The lower half of an unknown product counts as undefined."""
     x, y = m.get(a), m.get(b)
     if a.size != 8:
         raise Unproved("instruction not covered")
@@ -261,16 +274,17 @@ def mulx(m, name, high, low, a, b=REGS["rdx"]):
     m.put(high, m.high_product(y, x))
 
 
-# Vectors. A VEX-coded instruction (v before the name) has one source more, the first; that of the other is its destination (see decode).
-# Most rows make the result from the bytes of the sources and a number; those of `in_halves` do so for each 16 bytes.
+# Vectors. A VEX-coded instruction (with v before the name) names its first source. For others this is the destination (see decode).
 def whole(f):
+    """Gives a meaning that makes the result from the bytes of the sources and from numbers."""
     return lambda m, name, to, *sources: m.write(to, f(m, *[o if is_int(o) else m.read(o) for o in sources]))
 
 
 def in_halves(f):
+    """Gives a meaning that does so for each 16 bytes."""
     def run(m, name, to, *sources):
         sources = [o if is_int(o) else m.read(o) for o in sources]
-        m.write(to, joined(f(m, *[x if is_int(x) else x[i:i + 16] for x in sources]) for i in range(0, to.size, 16)))
+        m.write(to, concatenated(f(m, *[x if is_int(x) else x[i:i + 16] for x in sources]) for i in range(0, to.size, 16)))
     return run
 
 
@@ -285,7 +299,7 @@ def ones(m, name, to, a, b):
 
 
 def greater(m, x, y):
-    """Ones if x is greater than y, as numbers with signs."""
+    """Gives 255 if x is greater than y, as numbers with signs, else 0."""
     if x == 0:
         return m.signs(y)
     return 255 if constant("a byte", m.from_bytes([x])) ^ 128 > constant("a byte", m.from_bytes([y])) ^ 128 else 0
@@ -307,8 +321,9 @@ def inserted(size):
 
 
 def packed(m, a, b):
-    """Words, as numbers with signs, as the nearest bytes."""
-    nearest = lambda n: 0 if n >> 15 else min(n, 255)
+    """Gives the nearest byte for each word, which is a number with a sign."""
+    def nearest(n):
+        return 0 if n >> 15 else min(n, 255)
     return [low if high == 0 else nearest(constant("a word", m.from_bytes([low, high]))) for low, high in lanes(a + b, 2)]
 
 
@@ -319,14 +334,14 @@ VECTORS = {
     "packuswb": in_halves(packed),
     "shufps": in_halves(lambda m, a, b, n: permuted(a, 4, n)[:8] + permuted(b, 4, n)[8:]),
     "pandn": whole(lambda m, a, b: m.bytewise("and not", b, a)),
-    "por": whole(lambda m, a, b: list(map(m.either, a, b))),
+    "por": whole(lambda m, a, b: list(map(m.or_byte, a, b))),
     "paddb": whole(lambda m, a, b: list(map(m.add_byte, a, b))),
     "psubb": whole(lambda m, a, b: [m.add_byte(x, m.domain.xor_byte(y, 255), 1) for x, y in zip(a, b)]),
     "pcmpeqb": whole(lambda m, a, b: [m.equality(m.domain.xor_byte(x, y), 255, 0) for x, y in zip(a, b)]),
     "pcmpeqd": ones,
     "pcmpgtb": whole(lambda m, a, b: [greater(m, x, y) for x, y in zip(a, b)]),
     # (0 if bit 7 of an index is set, else the entry at its lowest four bits.)
-    "pshufb": in_halves(lambda m, table, indices: m.looked_up(tuple(table), indices, shuffled_by)),
+    "pshufb": in_halves(lambda m, table, indices: m.look_up(tuple(table), indices, shuffled_by)),
     "palignr": in_halves(lambda m, a, b, n: (b + a + [0] * 255)[n:n + 16]),
     "pslldq": in_halves(lambda m, a, n: ([0] * n + a)[:16]),
     "psrldq": in_halves(lambda m, a, n: (a + [0] * n)[n:n + 16]),
@@ -345,16 +360,19 @@ TABLE.update(VECTORS)
 
 # Others, with the operands that are there.
 def permuted(a, width, order):
-    return joined(a[width * (order >> 2 * k & 3):][:width] for k in range(4))
+    return concatenated(a[width * (order >> 2 * k & 3):][:width] for k in range(4))
 
 
 def variable_shift(how):
-    return lambda m, a, counts: joined(m.shift_lanes(how, x, 8, min(64, constant("the count of a shift", m.from_bytes(n))))
-                                       for x, n in zip(lanes(a, 8), lanes(counts, 8)))
+    """Gives a shift of each 8 bytes by a count of their own."""
+    def shifted(m, a, counts):
+        numbers = [constant("the count of a shift", m.from_bytes(n)) for n in lanes(counts, 8)]
+        return concatenated(m.shift_lanes(how, x, 8, min(64, n)) for x, n in zip(lanes(a, 8), numbers))
+    return shifted
 
 
 def first(size):
-    """The first bytes of the source, and zeros."""
+    """Gives a meaning that copies the first bytes of the source, and clears the others."""
     return lambda m, name, to, source: m.write(to, m.read(source)[:size] + [0] * (to.size - size))
 
 
@@ -371,10 +389,10 @@ TABLE.update({
     "pshuflw": in_halves(lambda m, a, n: permuted(a[:8], 2, n) + a[8:]),
     "pshufhw": in_halves(lambda m, a, n: a[:8] + permuted(a[8:], 2, n)),
     "vpermq": whole(lambda m, a, n: permuted(a, 8, n)),
-    "vpermd": whole(lambda m, order, a: joined(a[4 * (constant("an index", m.from_bytes(n)) & 7):][:4] for n in lanes(order, 4))),
+    "vpermd": whole(lambda m, order, a: concatenated(a[4 * (constant("an index", m.from_bytes(n)) & 7):][:4] for n in lanes(order, 4))),
     "vpblendd": whole(blended(4)),
     "vpblendvb": whole(lambda m, a, b, mask: [y if constant("a mask", m.from_bytes([n])) >> 7 else x for x, y, n in zip(a, b, mask)]),
-    "vpmovzxbq": lambda m, name, to, a: m.write(to, joined([x] + [0] * 7 for x in m.read(a)[:to.size // 8])),
+    "vpmovzxbq": lambda m, name, to, a: m.write(to, concatenated([x] + [0] * 7 for x in m.read(a)[:to.size // 8])),
     "vpsllvq": whole(variable_shift("lsl")),
     "vpsrlvq": whole(variable_shift("lsr")),
     "vbroadcasti128": broadcast(16),
@@ -383,13 +401,13 @@ TABLE.update({
     "vpbroadcastq": broadcast(8),
     "vinserti128": whole(lambda m, a, b, n: a[:16] + b if n & 1 else b + a[16:]),
     "vextracti128": lambda m, name, to, a, n: m.write(to, m.read(a)[16 * (n & 1):][:16]),
-    "vperm2i128": whole(lambda m, a, b, n: joined([0] * 16 if k & 8 else (a + b)[16 * (k & 3):][:16] for k in (n, n >> 4))),
+    "vperm2i128": whole(lambda m, a, b, n: concatenated([0] * 16 if k & 8 else (a + b)[16 * (k & 3):][:16] for k in (n, n >> 4))),
 })
 
 
 @TABLE.of("movss", "movsd")
 def movss(m, name, to, source):
-    """A load clears the rest of the register, a move between registers leaves it."""
+    """Clears the rest of the register if it loads. A move between registers keeps the rest."""
     size = 4 if name[-1] == "s" else 8
     if isinstance(to, Vector) and isinstance(source, Vector):
         m.write(to, m.read(source)[:size] + m.read(to)[size:])
@@ -399,7 +417,7 @@ def movss(m, name, to, source):
 
 @TABLE.of("ptest")
 def ptest(m, name, a, b):
-    """Both operands alike: whether all is zero."""
+    """Asks whether a register is zero. Both operands have to be the same."""
     if a != b:
         raise Unproved("ptest of different operands")
     m.set_flags(c=1, s=0, o=0, z=m.zero_flag(m.read(a)))
@@ -410,7 +428,7 @@ def pmovmskb(m, name, to, source):
     b = m.read(source)
     if max(b) < 256:
         return m.put(to, sum((x >> 7) << k for k, x in enumerate(b)))
-    known = [m.equalities.get(x) for x in b if x != 255]  # (255 says that two bytes are equal)
+    known = [m.secret.equalities.get(x) for x in b if x != 255]  # (255 says that two bytes are equal)
     if len(b) != 16 or any(k is None or k[1:] != (255, 0) for k in known):
         raise Unproved("instruction not covered")
     m.put(to, m.verdict(0xffff, [k[0] for k in known], 2))

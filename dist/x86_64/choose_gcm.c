@@ -1,4 +1,4 @@
-/* Made by tools/dist from the header: the exports of a static library of both builds. */
+/* Made by tools/dist from the header: the exports of a static library of several builds. */
 #include "choose.h"
 #include "fotsgure_gcm.h"
 

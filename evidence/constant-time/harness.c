@@ -36,7 +36,7 @@ static void begin(const char *name) {
     reports_before = VALGRIND_COUNT_ERRORS;
 }
 
-/* MOST buffers of a call; TOLD branches where it compares a tag, of which its caller learns whether it was right. */
+/* The most buffers of a call, and how many branches it has for a tag that it compares: they tell its caller whether the tag is right. */
 enum { MOST = 8, TOLD = 1 };
 
 /* A buffer that a call is given. */
@@ -44,7 +44,7 @@ struct buffer { uint8_t *at, *before; size_t bytes; char kind; };
 static struct buffer buffers[MOST];
 static int held;
 
-/* kind: s a secret that is read, b a secret that is worked in its place, o bytes that are written, p public bytes, z a
+/* kind: s a secret that is read, b a secret that is changed in place, o bytes that are written, p public bytes, z a
    secret that must be zero afterwards. */
 static void *buffer(char kind, size_t bytes) {
     struct buffer *it = &buffers[held++];
@@ -90,7 +90,7 @@ static void end(const char *name, const char *wanted, uint64_t answer, uint64_t 
     printf("%s\t%s\t%s\n", name, wanted, verdict);
 }
 
-/* What is planted: each has to be found, before the calls and after them. The third leaks in the last of its bytes alone, and the fourth
+/* What is planted: each has to be found, before the calls and after them. The third leaks only in the last of its bytes. The fourth
    compares two halves one after the other, though it may tell one answer. */
 enum plant { ADDRESS, BRANCH, EARLY_EXIT, HALVES, NOTHING, HALF, REFUSAL };
 static const char *const planted_names[] = {"planted_address", "planted_branch", "planted_early_exit", "planted_halves_opened",

@@ -5,7 +5,7 @@ import re
 import shared
 from dist_parts.registers import Registers
 
-# What WebAssembly reads and writes, by the type of what stands above the address, if something does.
+# Loads and stores of WebAssembly. The groups have the type of the value above the address, if there is one.
 LOADS = re.compile(r"\t\w+\.load(?!\w*_lane)")
 STORES = re.compile(r"\t(?:(v128)\.load\w*_lane|(\w+)\.store)")
 # A branch on a condition, and one by a number.
@@ -16,8 +16,8 @@ DECLARED = "".join(f"\t.functype\t{it} (i32) -> (i32)\n" for it in ("report_bran
 
 
 def planted(machine, text):
-    """Assembly whose exports leave in registers what its compiler left there, and have names of their own."""
-    registers = Registers(machine.folder, has_vectors=machine.ending != "_narrow")
+    """Assembly whose exports leave in registers what its compiler left there, under other names."""
+    registers = Registers(machine.folder, has_vectors=machine.suffix != "_narrow")
     left = registers.as_compiled(text)
     if left == text:
         shared.stop(f"the assembly for {machine.folder} doesn't empty registers as tools/dist_parts/registers.py says")

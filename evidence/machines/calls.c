@@ -1,9 +1,18 @@
-/* Makes every call of both C libraries for several keys and data of one length, on a stack of its own that is filled with a
- * pattern, between the marks that the plugin of qemu knows. A line for each, with tabs: the call, the bits of the key, the
- * count, the position (of messages, of bytes: 1000 times those of the nonce, and those of additional data), which nonce, whether
- * the call did its work, how deep the stack was, how many bytes of the message, its keystream and the like it left there, how
- * many other bytes that depend on the key, and how many bytes of registers. Calls with one name, size, count, position and nonce
- * must run the same instructions on the same addresses. */
+/* Makes the calls of both C libraries for several keys and data of one length, on a stack of its own that is filled with a
+ * pattern, between the marks that the plugin of qemu knows. It prints a line for each, with these columns and tabs between them:
+ *
+ *   1  the call
+ *   2  the bits of the key
+ *   3  the count
+ *   4  the position; of messages the bytes: 1000 times those of the nonce, and those of additional data
+ *   5  which nonce
+ *   6  whether the call did its work
+ *   7  how deep the stack was
+ *   8  how many bytes of the message, its keystream and the like it left there
+ *   9  how many other bytes that depend on the key it left there
+ *  10  how many bytes of registers depend on the key
+ *
+ * Calls with one name, size, count, position and nonce must run the same instructions on the same addresses. */
 #define _GNU_SOURCE
 #include "fotsgure_aes.h"
 #include "fotsgure_gcm.h"
@@ -28,7 +37,7 @@ static uint64_t position, state;
 static int status;
 
 /* A status is 0 if a call did its work. Of calls in pieces the first that says something else counts. */
-static void said(int it) { status = status ? status : it; }
+static void keep_first_status(int next) { status = status ? status : next; }
 
 /* Makes a call in pieces, on n bytes from `at` on: the first five, half of what is left, and the rest. */
 #define IN_PIECES(call, from, all) do { \
@@ -36,28 +45,28 @@ static void said(int it) { status = status ? status : it; }
         uint8_t *at = from; \
         for (int i = 0; i < 3; at += counts[i++]) { \
             size_t n = counts[i]; \
-            said((int)(call)); \
+            keep_first_status((int)(call)); \
         } \
     } while (0)
-static void begun(void) {
-    said((int)fotsgure_gcm_begin(&gcm, &message, nonce, nonce_bytes));
+static void begin_message(void) {
+    keep_first_status((int)fotsgure_gcm_begin(&gcm, &message, nonce, nonce_bytes));
     IN_PIECES(fotsgure_gcm_additional(&gcm, &message, at, n), additional, extra);
 }
 static int seal_in_pieces(void) {
-    begun();
+    begin_message();
     IN_PIECES(fotsgure_gcm_encrypt(&gcm, &message, at, n), data, bytes);
     return (int)fotsgure_gcm_finish(&gcm, &message, tag);
 }
 static int open_in_pieces(void) {
-    begun();
+    begin_message();
     IN_PIECES(fotsgure_gcm_verify(&gcm, &message, at, n), data, bytes);
-    said((int)fotsgure_gcm_accept(&gcm, &message, tag, 16));
+    keep_first_status((int)fotsgure_gcm_accept(&gcm, &message, tag, 16));
     if (!status)
         IN_PIECES(fotsgure_gcm_decrypt(&gcm, &message, at, n), data, bytes);
     return 0;
 }
 static int open_unverified(void) {
-    begun();
+    begin_message();
     IN_PIECES(fotsgure_gcm_decrypt_unverified(&gcm, &message, at, n), data, bytes);
     return (int)fotsgure_gcm_accept(&gcm, &message, tag, 16);
 }
@@ -66,7 +75,7 @@ static int stream_in_pieces(void) {
     return 0;
 }
 
-/* Planted, each to be found: by the instructions, by the addresses alone, or by what is left. */
+/* Planted faults. Each has to be found: by its instructions, by nothing but its addresses, or by what it leaves. */
 static volatile uint8_t table[256], sink;
 static void use(const void *at) { __asm__ volatile("" : : "r"(at) : "memory"); }
 static __attribute__((noinline)) int one(void) { return sink = 1, 0; }
@@ -81,19 +90,19 @@ static int early_exit(void) {
 }
 static int not_wiped(void) {
     struct fotsgure_aes it;
-    int said = (int)fotsgure_aes_set_key(&it, key, size);
+    int its_status = (int)fotsgure_aes_set_key(&it, key, size);
     use(&it);
-    return said;
+    return its_status;
 }
 static int inner(void) {
     uint8_t it[16];
     memcpy(it, sealed, 16);
-    int said = (int)fotsgure_aes_encrypt_blocks(&aes, it, 1);
+    int its_status = (int)fotsgure_aes_encrypt_blocks(&aes, it, 1);
     use(it);
-    return said;
+    return its_status;
 }
 
-/* A function of the library from whose assembly what empties registers was taken. */
+/* A function of the library without the part of its assembly that empties registers. */
 #ifndef __wasm__
 extern int planted_fotsgure_aes_cbc_encrypt(const struct fotsgure_aes *, struct fotsgure_aes_cbc *, uint8_t *, size_t);
 #define PLANTED_REGISTERS(IT) \
@@ -102,8 +111,8 @@ extern int planted_fotsgure_aes_cbc_encrypt(const struct fotsgure_aes *, struct 
 #define PLANTED_REGISTERS(IT)
 #endif
 
-/* What a call takes; how its message is sealed; what its data are at first and have to be at the end. */
-enum takes { NOTHING, OF_BLOCKS, OF_BYTES, OF_MESSAGES };
+/* What a call has to process; how its message is sealed; what its data are at first and have to be at the end. */
+enum kind { NOTHING, OF_BLOCKS, OF_BYTES, OF_MESSAGES };
 enum mode { ECB, CBC, CTR, KW, KWP, GCM, SIV, CCM, CMAC };
 enum text { PLAIN, SEALED, ZEROS };
 /* The statuses of both libraries have the same numbers. */
@@ -175,11 +184,11 @@ _Static_assert((int)REFUSED == (int)FOTSGURE_GCM_REFUSED, "one number");
     IT(siv_seal_to, OF_MESSAGES, SIV, PLAIN, SEALED, 0, fotsgure_gcm_siv_seal_to(&siv, nonce, MESSAGE_TO, tag)) \
     IT(siv_open_to, OF_MESSAGES, SIV, SEALED, PLAIN, 0, fotsgure_gcm_siv_open_to(&siv, nonce, MESSAGE_TO, tag)) \
     IT(siv_open_to_refused, OF_MESSAGES, SIV, SEALED, ZEROS, REFUSED, fotsgure_gcm_siv_open_to(&siv, nonce, MESSAGE_TO, tag))
-#define DEFINED(name, takes, mode, from, to, wanted, call) static int call_##name(void) { return (int)(call); }
-#define LISTED(name, takes, mode, from, to, wanted, call) {#name, call_##name, takes, mode, from, to, wanted},
+#define DEFINED(name, kind, mode, from, to, wanted, call) static int call_##name(void) { return (int)(call); }
+#define LISTED(name, kind, mode, from, to, wanted, call) {#name, call_##name, kind, mode, from, to, wanted},
 CALLS(DEFINED)
 static const struct call {
-    const char *name; int (*it)(void); enum takes takes; enum mode mode; enum text from, to; int wanted;
+    const char *name; int (*run)(void); enum kind kind; enum mode mode; enum text from, to; int wanted;
 } calls[] = {CALLS(LISTED)};
 
 /* The lengths of each kind of call, and what goes with them: positions, or lengths of nonces. */
@@ -214,29 +223,29 @@ static int seal(const struct call *call) {
     switch (call->mode) {
     case ECB: return (int)fotsgure_aes_encrypt_blocks(&aes, sealed, count);
     case CBC:
-        said((int)fotsgure_aes_cbc_encrypt(&aes, &cbc, sealed, count));
+        keep_first_status((int)fotsgure_aes_cbc_encrypt(&aes, &cbc, sealed, count));
         for (size_t i = 0; i < bytes; i++)
             stream[i] = plain[i] ^ (i < 16 ? nonce[i] : sealed[i - 16]);
         return 0;
     case CTR:
         ctr.position -= position % 16;
-        said((int)fotsgure_aes_add_keystream(&aes, &ctr, stream, whole + 16));
+        keep_first_status((int)fotsgure_aes_add_keystream(&aes, &ctr, stream, whole + 16));
         start();
         return (int)fotsgure_aes_add_keystream(&aes, &ctr, sealed, bytes);
     case KW: return (int)fotsgure_aes_wrap(&aes, plain, 2 * count, sealed, 2 * count + 1);
     case KWP: return (int)fotsgure_aes_wrap_padded(&aes, plain, bytes - 3, sealed, 2 * count + 1);
     case GCM:
-        said((int)fotsgure_gcm_set_key(&gcm, key, size) | (int)fotsgure_gcm_begin(&gcm, &message, nonce, nonce_bytes));
+        keep_first_status((int)fotsgure_gcm_set_key(&gcm, key, size) | (int)fotsgure_gcm_begin(&gcm, &message, nonce, nonce_bytes));
         for (int i = 0; i < 16; i++)
             first[0][i] = first[1][15 - i] = message.first[i];
-        said((int)fotsgure_gcm_seal(&gcm, nonce, nonce_bytes, additional, 0, stream, whole, tag));
+        keep_first_status((int)fotsgure_gcm_seal(&gcm, nonce, nonce_bytes, additional, 0, stream, whole, tag));
         return (int)fotsgure_gcm_seal(&gcm, nonce, nonce_bytes, additional, extra, sealed, bytes, tag);
     case SIV:
-        said((int)fotsgure_gcm_siv_set_key(&siv, key, size));
-        said((int)fotsgure_gcm_siv_seal(&siv, nonce, additional, extra, sealed, bytes, tag));
+        keep_first_status((int)fotsgure_gcm_siv_set_key(&siv, key, size));
+        keep_first_status((int)fotsgure_gcm_siv_seal(&siv, nonce, additional, extra, sealed, bytes, tag));
         break;
     case CCM:
-        said((int)fotsgure_aes_ccm_seal(&aes, nonce, 13, additional, extra, sealed, bytes, tag, 16));
+        keep_first_status((int)fotsgure_aes_ccm_seal(&aes, nonce, 13, additional, extra, sealed, bytes, tag, 16));
         break;
     case CMAC: return (int)fotsgure_aes_cmac(&aes, plain, bytes, tag);
     }
@@ -252,15 +261,15 @@ static void wrap_under(const uint8_t value[8], const uint8_t *text, size_t semib
         uint8_t block[16], *one = to + 8 * ((step - 1) % semiblocks + 1);
         memcpy(block, to, 8);
         memcpy(block + 8, one, 8);
-        said((int)fotsgure_aes_encrypt_blocks(&aes, block, 1));
+        keep_first_status((int)fotsgure_aes_encrypt_blocks(&aes, block, 1));
         for (int i = 0; i < 4; i++)
             block[7 - i] ^= (uint8_t)(step >> 8 * i);
         memcpy(to, block, 8);
         memcpy(one, block + 8, 8);
     }
 }
-/* What is to be refused is wrong at one place alone, another one in each run: a comparison with an early exit takes another time. (The text
- * of AES-GCM-SIV depends on its tag, so there each place is wrong.) */
+/* What has to be refused is wrong at a single place, another one in each run: so a comparison with an early exit ends at another step. (The
+ * text of AES-GCM-SIV depends on its tag, so there each place is wrong.) */
 static void spoil(const struct call *call, int place) {
     uint8_t value[8] = {0xa6, 0xa6, 0xa6, 0xa6, 0xa6, 0xa6, 0xa6, 0xa6}, padded[ROOM] = {0};
     memcpy(padded, plain, length_of(call, PLAIN));
@@ -283,8 +292,8 @@ static void prepare(const struct call *call, int of_key, int of_message) {
     fill(nonce, sizeof nonce, 2 * nonce_of(of_message));
     fill(additional, sizeof additional, of_message);
     status = 0;
-    said((int)fotsgure_aes_set_key(&aes, key, size));
-    said(seal(call));
+    keep_first_status((int)fotsgure_aes_set_key(&aes, key, size));
+    keep_first_status(seal(call));
     if (status)
         abort();
     memcpy(given, call->from == SEALED ? sealed : plain, bytes + MORE);
@@ -300,7 +309,7 @@ static void prepare(const struct call *call, int of_key, int of_message) {
 enum { WORDS = STACK / sizeof(size_t) };
 static const size_t FILLED = (size_t)0xa5a5a5a5a5a5a5a5u;
 static size_t stack[WORDS] __attribute__((aligned(64)));
-/* What a run left: on the stack, and behind that in the registers. */
+/* What a run left: on the stack, and after that in the registers. */
 static union { size_t words[WORDS]; uint8_t bytes[STACK + REGISTERS]; } images[RUNS];
 static uint8_t known[RUNS][4 * ROOM], registers[REGISTERS];
 static size_t known_bytes[RUNS];
@@ -309,7 +318,7 @@ extern int enter(void *top, int (*call)(void), void *registers);
 static void run(const struct call *call, int of_key) {
     for (size_t i = 0; i < WORDS; i++)
         stack[i] = FILLED;
-    said(enter(stack + WORDS, call->it, registers));
+    keep_first_status(enter(stack + WORDS, call->run, registers));
     memcpy(images[of_key].bytes + STACK, registers, REGISTERS);
     /* (By words, since an emulator follows each access.) */
     for (size_t i = 0; i < WORDS; i++)
@@ -322,31 +331,31 @@ static int is_done(const struct call *call) {
 }
 /* What may stay, since the caller has it or it tells nothing of the key: the message, its keystream or what CBC encrypts, and a counter
  * block. */
-static void note(int run, const void *at, size_t length) {
+static void allow_bytes(int run, const void *at, size_t length) {
     memcpy(known[run] + known_bytes[run], at, length);
     known_bytes[run] += length;
 }
-static void note_known(const struct call *call, int run) {
+static void allow_known(const struct call *call, int run) {
     size_t end = bytes + position % 16, rest = call->mode == CTR ? -end % 16 : 0;
     known_bytes[run] = 0;
-    note(run, sealed, length_of(call, SEALED));
-    note(run, stream + end, rest);
-    note(run, plain, length_of(call, PLAIN));
-    note(run, stream + end, rest);
-    note(run, tag, 16);
+    allow_bytes(run, sealed, length_of(call, SEALED));
+    allow_bytes(run, stream + end, rest);
+    allow_bytes(run, plain, length_of(call, PLAIN));
+    allow_bytes(run, stream + end, rest);
+    allow_bytes(run, tag, 16);
     if (call->mode == CBC || call->mode == CTR || call->mode >= GCM)
-        note(run, stream, (end + 16) / 16 * 16);
-    note(run, first, nonce_bytes == 12 ? 0 : sizeof first);
+        allow_bytes(run, stream, (end + 16) / 16 * 16);
+    allow_bytes(run, first, nonce_bytes == 12 ? 0 : sizeof first);
 }
-/* Whether so many bytes are the same under all keys. */
+/* Whether `length` bytes are the same under all keys. */
 static int is_same(size_t at, size_t length) {
     int same = 1;
     for (int other = 1; other < RUNS; other++)
         same &= memcmp(images[other].bytes + at, images[0].bytes + at, length) == 0;
     return same;
 }
-/* Whether a word has one byte alone, its first or its last, or its first two, which are known: a machine of 32 bits may keep bytes of a
- * message or a tag so. In a long message every byte occurs, so that this tells something of short ones alone. */
+/* Whether a word has nothing but one or two known bytes: its first, its last, or its first two. A machine of 32 bits may keep bytes of a
+ * message or a tag so. In a long message every byte occurs, so this shows something of short messages only. */
 static int is_alone(int run, size_t at) {
     const uint8_t *it = images[run].bytes + at / 4 * 4;
     if (!it[0] && !it[1] && !it[2])
@@ -384,29 +393,29 @@ static void at_length(const struct call *call) {
             prepare(call, of_key, of_message);
             run(call, of_key);
             did[of_key] = is_done(call);
-            note_known(call, of_key);
+            allow_known(call, of_key);
         }
         while (deep && images[0].words[WORDS - deep / sizeof(size_t)] == FILLED)
             deep -= sizeof(size_t);
         for (int of_key = 0; of_key < RUNS; of_key++) {
             count_left(of_key, deep, &is_known, &is_secret);
-            printf("%s\t%zu\t%zu\t%llu\t%d\t%s\t%zu\t%zu\t%zu\t%zu\n", call->name, 8 * size, call->takes == OF_BLOCKS ? count : bytes,
-                call->takes == OF_MESSAGES ? 1000 * nonce_bytes + extra : (unsigned long long)position,
+            printf("%s\t%zu\t%zu\t%llu\t%d\t%s\t%zu\t%zu\t%zu\t%zu\n", call->name, 8 * size, call->kind == OF_BLOCKS ? count : bytes,
+                call->kind == OF_MESSAGES ? 1000 * nonce_bytes + extra : (unsigned long long)position,
                 nonce_of(of_message), did[of_key] ? "done" : "NOT DONE", deep, is_known, is_secret, in_registers());
         }
     }
 }
 static void at_lengths(const struct call *call) {
-    size_t all = call->takes == NOTHING ? 1 : call->takes == OF_BLOCKS ? OF(lengths_of_blocks) : OF(lengths_of_bytes);
-    size_t more = call->takes == OF_BYTES ? OF(positions) : call->takes == OF_MESSAGES && call->mode == GCM ? OF(nonces) : 1;
+    size_t all = call->kind == NOTHING ? 1 : call->kind == OF_BLOCKS ? OF(lengths_of_blocks) : OF(lengths_of_bytes);
+    size_t more = call->kind == OF_BYTES ? OF(positions) : call->kind == OF_MESSAGES && call->mode == GCM ? OF(nonces) : 1;
     for (size_t i = 0; i < all; i++)
         for (size_t k = 0; k < more; k++) {
-            count = call->takes == NOTHING ? 2 : call->takes == OF_BLOCKS ? lengths_of_blocks[i] : 0;
-            bytes = count ? 16 * count : call->takes == OF_BLOCKS ? 0 : lengths_of_bytes[i];
-            position = call->takes == OF_BYTES ? positions[k] : 0;
-            nonce_bytes = call->takes == OF_MESSAGES ? nonces[k] : 12;
-            extra = call->takes == OF_MESSAGES ? extras[i % OF(extras)] : 0;
-            /* Keys of 1 to 24 blocks are wrapped: of so many the number of a step is above 255. */
+            count = call->kind == NOTHING ? 2 : call->kind == OF_BLOCKS ? lengths_of_blocks[i] : 0;
+            bytes = count ? 16 * count : call->kind == OF_BLOCKS ? 0 : lengths_of_bytes[i];
+            position = call->kind == OF_BYTES ? positions[k] : 0;
+            nonce_bytes = call->kind == OF_MESSAGES ? nonces[k] : 12;
+            extra = call->kind == OF_MESSAGES ? extras[i % OF(extras)] : 0;
+            /* Keys of 1 to 24 blocks are wrapped. With 24 the number of a step exceeds 255. */
             if ((count && count <= 24) || (call->mode != KW && call->mode != KWP))
                 at_length(call);
         }

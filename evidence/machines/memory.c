@@ -1,5 +1,5 @@
-/* Functions of libc that use general registers alone, as those for Cortex-M do: the ones of Linux for 32-bit ARM leave in the registers of
- * NEON what they copied. The program is linked with these in their place. */
+/* Functions of libc that use only general registers, as those for Cortex-M do. Those of Linux for 32-bit ARM leave what they copied in the
+ * registers of NEON, so the program is linked with these instead. */
 #include <stddef.h>
 #include <stdint.h>
 

@@ -7,7 +7,7 @@
 #include <stdio.h>
 #include <string.h>
 
-/* Debian's packages have no qemu-plugin.h, so what is used of version 1 of the interface stands here. */
+/* Debian's packages have no qemu-plugin.h, so what is used of version 1 of the interface is declared here. */
 typedef uint64_t qemu_plugin_id_t;
 typedef uint32_t qemu_plugin_meminfo_t;
 struct qemu_plugin_tb;
@@ -38,10 +38,10 @@ static uint64_t mixed(uint64_t hash, uint64_t with) {
     return hash ^ hash >> 29;
 }
 /* What runs is followed by blocks of instructions, which run whole: by how many they are, and the address of the first. */
-static void executed(unsigned cpu, void *of) {
+static void executed(unsigned cpu, void *block) {
     (void)cpu;
-    instructions += (uintptr_t)of >> 48;
-    order = mixed(order, (uintptr_t)of);
+    instructions += (uintptr_t)block >> 48;
+    order = mixed(order, (uintptr_t)block);
 }
 static void accessed(unsigned cpu, qemu_plugin_meminfo_t how, uint64_t address, void *at) {
     (void)cpu, (void)at;

@@ -1,5 +1,5 @@
-/* What assembly for WebAssembly reports its branches and addresses to (assembly.py), and how a call is made: on a stack of its own, with
- * a line after it as the plugin of qemu writes one, behind the word `seen`. This file itself reports nothing. */
+/* The functions to which assembly for WebAssembly reports its branches and addresses (assembly.py). `enter` makes a call on a stack of its
+ * own, and prints a line as the plugin of qemu writes it, after the word `seen`. This file itself reports nothing. */
 #include <stdint.h>
 #include <stdio.h>
 #include <string.h>

@@ -1,4 +1,4 @@
-/* BearSSL has no call on blocks alone: what stands for encryption is counter mode, and for decryption CBC. */
+/* BearSSL has no call that only encrypts blocks: counter mode is timed instead of encryption, and CBC instead of decryption. */
 #include "engine.h"
 #include <bearssl.h>
 

@@ -26,7 +26,7 @@ static void stream(const uint8_t *key, size_t n, const uint8_t *iv, uint8_t *dat
 
 static std::unique_ptr<Botan::AEAD_Mode> gcm;
 static void gcm_key(const uint8_t *key) { gcm->set_key(key, 16); }
-/* It adds the tag to a buffer of its own kind, which is kept, so that no call makes room. */
+/* It adds the tag to a buffer of its own kind, which is kept, so that no call allocates one. */
 static void seal(const struct message *m) {
     static Botan::secure_vector<uint8_t> buffer;
     buffer.reserve(m->length + 16);

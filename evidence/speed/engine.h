@@ -17,10 +17,12 @@ struct message {
 };
 
 enum direction { ENCRYPT, DECRYPT };
+/* What EVP processes as a message, under a key of 16 bytes. */
+enum mode { MODE_GCM, MODE_GCM_OPEN, MODE_CTR, MODE_CBC, MODE_CBC_DECRYPT, MODE_ECB, MODES };
 struct engine {
     const char *name; /* the library */
     const char *how;  /* what it runs on this machine, in this run */
-    const char *kind; /* bitsliced, permutations, tables, instructions, planted */
+    const char *kind; /* bitsliced, permutations, instructions, planted */
     /* Takes a key of `bytes` bytes for one direction. */
     void (*set_key)(enum direction to, const uint8_t *key, size_t bytes);
     /* Processes `count` blocks in place, under the key that was taken last for that direction. */
@@ -32,10 +34,15 @@ struct engine {
     void (*seal)(const struct message *m);
     /* AES-GCM-SIV: the same under a key of its own. */
     void (*seal_siv)(const struct message *m);
+    /* EVP: takes a key of a mode; processes a message under it, with an initialization vector of its own, one update and
+       the end, and returns whether it was accepted. GCM decrypts with a wrong tag. */
+    void (*mode_key)(enum mode mode, const uint8_t *key);
+    int (*process_message)(enum mode mode, const uint8_t *iv, const uint8_t *in, uint8_t *out, size_t length);
 };
 /* The calls of an engine by their names. */
 #define BLOCKS .set_key = set_key, .process = process
 #define GCM .gcm_key = gcm_key, .seal = seal
+#define MESSAGES .mode_key = mode_key, .process_message = process_message
 
 /* The run: which instructions of the processor the peers may use. */
 enum run { ALL, NO_AES };

@@ -1,16 +1,20 @@
-"""The picture of a run, as SVG: bars of time, one row an engine, in groups by what kind of software it is.
-The colours follow the reader's theme. A time is a length, of at most 1, and what is written beside it."""
+"""Draws the picture of a run, as SVG: bars of time, one row per engine, in groups by the kind of software.
+The colours follow the reader's theme. A time is a length, of at most 1, and the text beside it."""
 from html import escape
+from pathlib import Path
 
+import shared
 import tables
 
-TITLES = ["4,096 blocks in one call", "one block, the key at hand", "a key and one block"]
+HERE = Path(__file__).resolve().parent
+# The panels: the call of each, and its number of blocks.
+PANELS = {"4,096 blocks in one call": ("encrypt", 4096), "one block, the key at hand": ("encrypt", 1),
+          "a key and one block": ("key and block", 1)}
 # Each kind of engine: its title, and the colour of its bars on light ground and on dark.
 KINDS = {
     "hybrid": ("Permutations and bit planes", "#0b7a75", "#2fb8ad"),
     "permutations": ("Software by vector permutations (SSSE3)", "#8c9a4e", "#a3b25c"),
     "bitsliced": ("Software on bit planes, without tables", "#6f9fce", "#6f9fce"),
-    "tables": ("Software with tables in memory", "#cf8a55", "#d9965f"),
     "instructions": ("AES instructions of the processor, and in brackets the part of this library's time", "#9a8fbf", "#a79ccb"),
 }
 OURS = {tables.BASE: "this library, no AVX2", tables.AVX2: "this library, for AVX2"}
@@ -21,10 +25,6 @@ ROW, GAP, BESIDE, NAMES, BAR = 20, 8, 90, 220, 170
 def rules(ground):
     kinds = " ".join(f".{kind} {{ fill: {colours[ground]} }}" for kind, (_, *colours) in KINDS.items())
     return f"text {{ fill: {INK[ground]} }} .soft {{ fill: {SOFT[ground]} }} {kinds}"
-
-
-def label(time):
-    return f"{time:,.0f}" if time >= 10 else f"{time:.1f}"
 
 
 def row(name, kind, times, y):
@@ -39,32 +39,32 @@ def row(name, kind, times, y):
 
 
 def times_of(rows):
-    """The least nanoseconds a block of each engine, in each panel: {(kind, peer, how): times}. This library's are those
-    of the process in which its build for AVX2 stands too."""
+    """The least nanoseconds a block of each engine, in each panel: {(kind, peer, how): times}. This library's are of
+    the process that also has its build for AVX2."""
     times = {}
     for r in rows:
-        call = (r["call"], r["amount"])
-        is_taken = r["peer"] != "this library" or r["run"] == tables.CONSTANT_TIME
-        if call in tables.PICTURED and is_taken:
-            of = times.setdefault((r["kind"], r["peer"], r["how"]), {})
-            of[call] = min(r["nanoseconds"] / r["amount"], of.get(call, 1e30))
-    return {it: [of.get(call) for call in tables.PICTURED] for it, of in times.items()}
+        call = r["call"], r["amount"]
+        if call in PANELS.values() and (r["peer"] != tables.OURS or r["run"] == tables.CONSTANT_TIME):
+            best_so_far = times.setdefault((r["kind"], r["peer"], r["how"]), {})
+            best_so_far[call] = min(r["nanoseconds"] / r["amount"], best_so_far.get(call, 1e30))
+    return {engine: [best.get(call) for call in PANELS.values()] for engine, best in times.items()}
 
 
 def cell(kind, time, most, ours):
-    """A bar's length on the scale of its panel, and what stands beside it."""
+    """A bar's length on the scale of its panel, and the text beside it."""
     if time is None:
         return 0, "no such call"
-    return time / most, label(time) + (f" ({100 * time / ours:.0f} %)" if kind == "instructions" else "")
+    part = f" ({100 * time / ours:.0f} %)" if kind == "instructions" else ""
+    return time / most, (f"{time:,.0f}" if time >= 10 else f"{time:.1f}") + part
 
 
 def drawn(rows):
     """The picture of the rows that are published, as text."""
     title, times = "AES encryption with a key of 16 bytes, by this library and those of Debian", times_of(rows)
-    most = [max(its[at] for its in times.values() if its[at]) for at in range(len(TITLES))]
-    ours = next(its for it, its in times.items() if it[2] == tables.BASE)
+    most = [max(filter(None, times_of_panel)) for times_of_panel in zip(*times.values())]
+    ours = next(times_of_engine for engine, times_of_engine in times.items() if engine[2] == tables.BASE)
     parts, y = [f'<text x="0" y="14" class="title">{escape(title)}</text>'], 62
-    for at, (head, (_, n)) in enumerate(zip(TITLES, tables.PICTURED)):
+    for at, (head, (_, n)) in enumerate(PANELS.items()):
         x = NAMES + (BAR + BESIDE) * at
         parts.append(f'<text x="{x}" y="42" class="bold">{escape(head)}</text>')
         parts.append(f'<text x="{x}" y="58" class="soft">nanoseconds{" a block" if n > 1 else ""}, less is faster</text>')
@@ -72,11 +72,11 @@ def drawn(rows):
         shown = sorted((it for it in times if it[0] == kind), key=lambda it: times[it][0] or 1e30)
         y += ROW + GAP if shown else 0
         parts += [f'<text x="0" y="{y}" class="soft">{escape(head)}</text>'] if shown else []
-        for it in shown:
+        for engine in shown:
             y += ROW
-            cells = [cell(kind, *its) for its in zip(times[it], most, ours)]
-            parts += row(OURS.get(it[2], f"{it[1]}, {it[2]}"), kind, cells, y)
-    width, height = NAMES + (BAR + BESIDE) * len(TITLES), y + 10
+            cells = [cell(kind, *scale) for scale in zip(times[engine], most, ours)]
+            parts += row(OURS.get(engine[2], f"{engine[1]}, {engine[2]}"), kind, cells, y)
+    width, height = NAMES + (BAR + BESIDE) * len(PANELS), y + 10
     return "\n".join([
         f'<svg xmlns="http://www.w3.org/2000/svg" viewBox="0 0 {width} {height}" width="{width}" height="{height}" role="img">',
         f"<title>{escape(title)}</title>",
@@ -84,3 +84,9 @@ def drawn(rows):
         f".title {{ font: bold 14px 'DejaVu Sans', Verdana, Arial, sans-serif }} {rules(0)}",
         f"@media (prefers-color-scheme: dark) {{ {rules(1)} }}</style>",
         *parts, "</svg>", ""])
+
+
+def report():
+    """The files that are made from summary.csv, for tools/pages: the tables of docs/MEASUREMENTS.md, and the picture."""
+    _, rows = tables.read(HERE / "summary.csv")
+    return f"{len(rows)} times", {shared.MEASUREMENTS: tables.page(rows), HERE / "results.svg": drawn(rows)}, []

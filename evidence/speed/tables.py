@@ -1,30 +1,31 @@
-"""The times of a run as a file, beside those of others, and as tables of docs/MEASUREMENTS.md."""
+"""Writes and reads the times of a run, and makes tables of docs/MEASUREMENTS.md from them."""
 import csv
 import re
 import subprocess
 
 import shared
 
-# The peers: of each its package, and the flags to link it, of which -I is for its file too.
+# The peers: the package of each, and the flags to link it. Its file is compiled with those that begin with -I.
 PEERS = {
     "OpenSSL": ("libssl-dev", "-lcrypto"),
     "BearSSL": ("libbearssl-dev", "-lbearssl"),
     "Libgcrypt": ("libgcrypt20-dev", "-lgcrypt"),
     "Botan": ("libbotan-2-dev", "-lbotan-2", "-I/usr/include/botan-2"),
 }
-# The engine that all ratios are to, which stands in every run.
+# The engine that all ratios are relative to. Each run has it.
 BASE = "C library, by LLVM"
-# Its build for processors with AVX2, which stands in the run without AES instructions.
+# Its build for processors with AVX2, in the run without AES instructions.
 AVX2 = "C library for AVX2, by LLVM"
 # The amount is of blocks, or of bytes for counter mode and GCM.
-HEAD = ["peer", "how", "kind", "run", "key_bytes", "call", "amount", "ticks", "nanoseconds", "ratio_to_this_library"]
-DIGITS = {"ticks": 1, "nanoseconds": 1, "ratio_to_this_library": 3}
+HEAD = ["peer", "how", "kind", "run", "key_bytes", "call", "amount", "ticks", "nanoseconds"]
+DIGITS = {"ticks": 1, "nanoseconds": 1}
 CONSTANT_TIME, WITH_INSTRUCTIONS = "no AES instructions", "all instructions"
 OURS, FOR_AVX2, BOTH_KEYS = "this library", "for AVX2", "both keys"
-# The tables of docs/MEASUREMENTS.md, by a word of their heading: the columns beside this library, and the rows: what was timed, and over
-# how many blocks its time is told.
+# The tables of docs/MEASUREMENTS.md, by a word of their heading: the columns beside this library, and the rows. A row has a call, its
+# amount, and the number of blocks by which its time is divided.
 BLOCKS = {"a key, for both directions": (BOTH_KEYS, 1, 1)}
-BLOCKS |= {f"{n:,} block{'s' * (n > 1)} {it}ed": (it, n, 1) for n in (1, 2, 8, 64, 4096) for it in ("encrypt", "decrypt")}
+BLOCKS |= {f"{n:,} block{'s' * (n > 1)} {direction}ed": (direction, n, 1)
+           for n in (1, 2, 8, 64, 4096) for direction in ("encrypt", "decrypt")}
 BLOCKS |= {f"counter mode, {it}": ("counter mode", n, 1) for it, n in (("64 bytes", 64), ("1,500 bytes", 1500), ("1 MiB", 1 << 20))}
 GCM = {
     "a key": ("GCM key", 1, 1),
@@ -34,8 +35,6 @@ GCM = {
     "16 KiB of additional data, a block": ("GCM, additional data", 16384, 1024),
 }
 TABLES = {"it": ((FOR_AVX2, "OpenSSL", "Botan", "Libgcrypt"), BLOCKS), "GCM": ((FOR_AVX2, *PEERS), GCM)}
-# The calls of the picture's panels.
-PICTURED = [("encrypt", 4096), ("encrypt", 1), ("key and block", 1)]
 
 
 def summary(rows):
@@ -49,9 +48,9 @@ def place(row):
 
 
 def write(path, where, rows):
-    with open(path, "w", newline="") as it:
-        it.write(f"# {where}\n")
-        made = csv.DictWriter(it, HEAD, lineterminator="\n")
+    with open(path, "w", newline="") as file:
+        file.write(f"# {where}\n")
+        made = csv.DictWriter(file, HEAD, lineterminator="\n")
         made.writeheader()
         for row in rows:
             made.writerow({**row, **{k: f"{row[k]:.{n}f}" for k, n in DIGITS.items()}})
@@ -59,9 +58,9 @@ def write(path, where, rows):
 
 def read(path):
     """Where a run was made, and its rows."""
-    with open(path) as it:
-        where = it.readline().removeprefix("# ").rstrip("\n")
-        rows = list(csv.DictReader(it))
+    with open(path) as file:
+        where = file.readline().removeprefix("# ").rstrip("\n")
+        rows = list(csv.DictReader(file))
     for row in rows:
         row.update({k: int(row[k]) for k in ("key_bytes", "amount")}, **{k: float(row[k]) for k in DIGITS})
     return where, rows
@@ -71,7 +70,7 @@ def drift(rows):
     """How much this library's own time differs between the runs."""
     bulk = [r for r in rows if r["how"] == BASE and (r["call"], r["amount"]) == ("encrypt", 4096)]
     ticks = [[r["ticks"] for r in bulk if r["key_bytes"] == key] for key in (16, 24, 32)]
-    return max(max(its) / min(its) for its in ticks)
+    return max(max(ticks_of_key) / min(ticks_of_key) for ticks_of_key in ticks)
 
 
 def ratio(number):
@@ -98,8 +97,7 @@ def span(nanoseconds):
 
 def table(rows, names, titles):
     """A table: this library's time, and the others' divided by it."""
-    shown = (r for r in summary(rows) if r["kind"] != "tables")
-    found = {(r["run"], FOR_AVX2 if r["how"] == AVX2 else r["peer"], r["call"], r["amount"]): r["ticks"] for r in shown}
+    found = {(r["run"], FOR_AVX2 if r["how"] == AVX2 else r["peer"], r["call"], r["amount"]): r["ticks"] for r in summary(rows)}
     rate = sum(r["nanoseconds"] for r in rows) / sum(r["ticks"] for r in rows)
 
     def ticks(run, name, call, amount):
@@ -119,10 +117,10 @@ def table(rows, names, titles):
 
 
 def page(rows):
-    """docs/MEASUREMENTS.md with these tables in the place of the first ones of their sections."""
+    """docs/MEASUREMENTS.md with these tables instead of the first ones of their sections."""
     text = shared.MEASUREMENTS.read_text()
-    for what, of in TABLES.items():
-        heading, lines = rf"## How fast is {what} compared with what I use now\?\n", "\n".join(table(rows, *of)) + "\n"
+    for what, columns_and_rows in TABLES.items():
+        heading, lines = rf"## How fast is {what} compared with what I use now\?\n", "\n".join(table(rows, *columns_and_rows)) + "\n"
         text, count = re.subn(rf"^({heading}(?:(?!#|\|).*\n)*)(?:\|.*\n)+", lambda it: it[1] + lines, text, flags=re.M)
         if count != 1:
             shared.stop(f"{shared.MEASUREMENTS} has no table below {heading}")

@@ -1,4 +1,4 @@
-"""The worker, a program that times engines: how it is built of libraries, and asked."""
+"""Builds the worker, a program that times engines, and asks it."""
 import contextlib
 import os
 import pathlib
@@ -8,68 +8,64 @@ import tables
 import shared
 
 HERE = pathlib.Path(__file__).resolve().parent
-# What the builds are called by the end of their files' names.
+# What the builds are called, by the suffix of their files.
 BUILDS = {"": tables.BASE, "_v3": tables.AVX2}
+# What the peers may use, and how OpenSSL is told, which asks when it is loaded.
+RUNS = [
+    (tables.WITH_INSTRUCTIONS, {}),
+    (tables.CONSTANT_TIME, {"OPENSSL_ia32cap": "~0x200000200000000"}),
+]
 COMPILE = ["cc", "-std=c11", "-D_GNU_SOURCE", "-O2", "-Wall", "-Wextra"]
 
 
-def asking(text, rounds, *peers, flags=()):
-    """What the commands that time engines can be asked."""
-    ask = shared.asking(text, *peers, "avx2", flags=flags)
-    ask.add_argument("--rounds", type=int, default=rounds)
-    ask.add_argument("--core", type=int, default=max(os.sched_getaffinity(0)))
-    return ask
+def parser(text, rounds, *parts, flags=()):
+    """A parser of the arguments of the commands that time engines."""
+    made = shared.parser(text, *parts, flags=flags)
+    made.add_argument("--rounds", type=int, default=rounds)
+    made.add_argument("--core", type=int, default=max(os.sched_getaffinity(0)))
+    return made
 
 
 def suffixes(options, found):
-    """How the names of the assembly files end that are measured: for every processor, and for AVX2, if that isn't left out or missing."""
+    """The suffixes of the assembly files that are measured: for every processor, and for AVX2 if that isn't left out or missing."""
     if " avx2 " in pathlib.Path("/proc/cpuinfo").read_text():
         return [""] if "avx2" in options.without else ["", "_v3"]
     found.missing.append("avx2: this processor can't run it")
     return [""]
 
 
-def assembled(name, dist, room):
-    """The archive of one assembly file of a folder dist/ for x86-64, by the C compiler's assembler: as `make` builds it there, but without
-    the choice between two builds."""
-    made = room / f"libfotsgure_{name}.a"
-    made.unlink(missing_ok=True)
-    shared.run(["cc", "-c", dist / "x86_64" / f"{name}.s", "-o", made.with_suffix(".o")], f"assembling {name}.s")
-    shared.run(["ar", "rcs", made, made.with_suffix(".o")], "the archive")
-    return made
-
-
 def engines_of(room, suffixes, dist=shared.TOP / "dist", at=""):
-    """The engines of a folder dist/, each its object and archives. What all but the first build of the tree export gets a prefix, so that
-    several fit into one program; `at` tells those of a folder from others."""
+    """The objects of each build of a folder dist/, by its engine's name, without the choice between builds. The exports of all but the
+    first build of this tree get a prefix, so that several fit into one program. `at` tells the engines of a folder from others."""
     shared.need("cc", "gcc")
     shared.need("taskset", "util-linux")
     made = {}
     for suffix in suffixes:
         name, parts = f"library{at}{suffix}", room / f"made{at}{suffix}"
         told = [f'-DHOW="{f"{at} {BUILDS[suffix]}".strip()}"', f"-DADD=add_{name}"] if at or suffix else []
+        sources = [HERE / "library.c", *(dist / f"x86_64/{it}{suffix}.s" for it in ("aes", "gcm"))]
         parts.mkdir(parents=True, exist_ok=True)
-        shared.run([*COMPILE, *told, f"-I{dist}/include", "-c", "-o", parts / "library.o", HERE / "library.c"], "library.c")
-        archives = [assembled(f"{it}{suffix}", dist, parts) for it in ("aes", "gcm")]
-        made[name] = [parts / "library.o", *archives]
+        shared.run([*COMPILE, *told, f"-I{dist}/include", "-c", *sources], "library.c and assembly", cwd=parts)
+        made[name] = [parts / f"{it.stem}.o" for it in sources]
         if told:
-            (parts / "names").write_text("".join(f"{it} {name}_{it}\n" for of in archives for it in sorted(shared.exported(of))))
-            for it in made[name]:
-                shared.run(["objcopy", f"--redefine-syms={parts / 'names'}", it], "objcopy")
+            exports = [export for file in made[name][1:] for export in sorted(shared.exported(file))]
+            (parts / "names").write_text("".join(f"{it} {name}_{it}\n" for it in exports))
+            for file in made[name]:
+                shared.run(["objcopy", f"--redefine-syms={parts / 'names'}", file], "objcopy")
     return made
 
 
-def build(room, engines, links=()):
-    """The worker over engines, each a name and what it is linked of."""
+def build(room, engines, links=(), flags=()):
+    """The worker over engines, each a name and its objects."""
     listed = "-DENGINES=" + " ".join(f"X({it})" for it in engines)
-    shared.run([*COMPILE, listed, "-c", "-o", room / "worker.o", HERE / "worker.c"], "worker.c")
-    parts = [it for of in engines.values() for it in of]
+    shared.run([*COMPILE, listed, *flags, "-c", "-o", room / "worker.o", HERE / "worker.c"], "worker.c")
+    parts = [file for objects in engines.values() for file in objects]
     link = "g++" if "botan" in engines else "cc"
-    shared.run([link, "-o", room / "worker", room / "worker.o", *parts, *links], "linking the worker")
+    shared.run([link, "-o", room / "worker", room / "worker.o", *parts, *links], "the linking of the worker")
     return room / "worker"
 
 
-def started(worker, core, run, more=()):
+def start(worker, core, run, more=()):
     """A process of the worker for one run, which waits for lines."""
     words, environment = ["taskset", "-c", str(core), worker, str(run)], {**os.environ, **dict(more)}
     return subprocess.Popen(words, env=environment, stdin=subprocess.PIPE, stdout=subprocess.PIPE, text=True)
@@ -85,7 +81,7 @@ def ask(process, word):
     return line
 
 
-def measured(process, run):
+def results(process, run):
     """What a process has measured so far: its rows, and the engines that it refused."""
     rate, rows, refused = float(ask(process, "p").split()[1]), [], []
     for line in iter(process.stdout.readline, "end\n"):
@@ -94,6 +90,21 @@ def measured(process, run):
             refused.append((words[1], words[2], run))
             continue
         _, peer, how, kind, key, call, amount, ticks = words
-        values = [peer, how, kind, run, int(key), call, int(amount), float(ticks), float(ticks) / rate, None]
+        values = [peer, how, kind, run, int(key), call, int(amount), float(ticks), float(ticks) / rate]
         rows.append(dict(zip(tables.HEAD, values)))
+    return rows, refused
+
+
+def rows_of_runs(program, options):
+    """The rows of all runs, and the engines that were refused."""
+    processes = [start(program, options.core, number, more) for number, (_, more) in enumerate(RUNS)]
+    for _ in range(options.rounds):
+        for process in processes:
+            ask(process, "r")
+    rows, refused = [], []
+    for (name, _), process in zip(RUNS, processes):
+        measured, others = results(process, name)
+        rows, refused = rows + measured, refused + others
+        process.stdin.close()
+        process.wait()
     return rows, refused

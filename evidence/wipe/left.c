@@ -1,6 +1,6 @@
-/* Makes calls on a stack of its own, each under several keys and on the same blocks, and counts what then differs between the keys
-   (README.md). CALLS names the exports, as X(ev_left_aes_128_value_dropped) ..; one line for each, with tabs: its name, and the most that
-   it left at any length. */
+/* Makes calls on a stack of its own, each under several keys and on the same blocks. Then it counts the bytes that differ between the
+   keys (README.md). CALLS names the exports, as X(ev_left_aes_128_value_dropped) .. It prints a line for each export, with tabs: its name,
+   and the largest count of each kind at any length. */
 #define _GNU_SOURCE
 #include <stdint.h>
 #include <stdio.h>
@@ -26,7 +26,7 @@ static export *called;
 #define EMPTY(n) "pxor %xmm" #n ", %xmm" #n "\n"
 #define STORE(n) "movdqa %%xmm" #n ", 16 * " #n "(%0)\n"
 #define STORE_UPPER(n) "vextracti128 $1, %%ymm" #n ", 256 + 16 * " #n "(%0)\n"
-/* Makes a call with empty vector registers, and stores what they hold before anything else runs. */
+/* Makes a call with empty vector registers, and stores their content before anything else runs. */
 static void enter(void) {
     if (has_upper_halves)
         __asm__ volatile("vzeroall");
@@ -36,7 +36,7 @@ static void enter(void) {
     __asm__ volatile(SIXTEEN(STORE) "cmpl $0, %1\n je 1f\n" SIXTEEN(STORE_UPPER) "1:\n"
         : : "r"(registers), "m"(has_upper_halves) : "memory", "cc");
 }
-/* Makes a call on the stack, and copies what the stack and the registers hold afterwards. */
+/* Makes a call on the stack, and copies the stack and the registers afterwards. */
 static void run(int number) {
     memset(stack, FILL, STACK);
     getcontext(&away);
@@ -79,14 +79,14 @@ __attribute__((noinline)) static void planted_128_zeros(const uint8_t *k, uint8_
 }
 
 /* What is counted: runs of bytes that differ, as long as a whole schedule; all bytes that differ, on the stack and in registers; blocks of
-   zeros that were worked. */
-enum what { COPIES, BYTES, IN_REGISTERS, ZERO_BLOCKS, WHATS };
-static int differs(const uint8_t *const *of, size_t at) {
+   zeros that were encrypted or decrypted. */
+enum counted { COPIES, BYTES, IN_REGISTERS, ZERO_BLOCKS, COUNTED };
+static int differs(const uint8_t *const *copies, size_t at) {
     int found = 0;
-    for (int k = 1; k < KEYS; k++) found |= of[k][at] != of[0][at];
+    for (int k = 1; k < KEYS; k++) found |= copies[k][at] != copies[0][at];
     return found;
 }
-static void at_count(int seen[WHATS]) {
+static void count_left(int seen[COUNTED]) {
     static const uint8_t none[BLOCK];
     const uint8_t *in_registers[KEYS];
     size_t schedule = BLOCK * (size / 4 + 7);
@@ -111,14 +111,14 @@ static void at_count(int seen[WHATS]) {
 /* A call's name says the size of the key, and what it takes. */
 static void report(const char *name, export *it) {
     static const size_t others[] = {7, 109, 231, 375};
-    int most[WHATS] = {0}, on_bytes = strstr(name, "stream") != 0, is_long = on_bytes || strstr(name, "slice");
+    int most[COUNTED] = {0}, on_bytes = strstr(name, "stream") != 0, is_long = on_bytes || strstr(name, "slice");
     called = it;
     size = strstr(name, "_128_") ? 16 : strstr(name, "_192_") ? 24 : 32;
     for (size_t i = 0; i < (on_bytes ? EVERY + 4 : is_long ? EVERY : 1); i++) {
-        int seen[WHATS] = {0};
+        int seen[COUNTED] = {0};
         count = !is_long ? 1 : !on_bytes ? i : i < EVERY ? BLOCK * i : others[i - EVERY];
-        at_count(seen);
-        for (int what = 0; what < WHATS; what++) most[what] = seen[what] > most[what] ? seen[what] : most[what];
+        count_left(seen);
+        for (int kind = 0; kind < COUNTED; kind++) most[kind] = seen[kind] > most[kind] ? seen[kind] : most[kind];
     }
     printf("%s\t%d\t%d\t%d\t%d\n", name, most[COPIES], most[BYTES], most[IN_REGISTERS], most[ZERO_BLOCKS]);
 }

@@ -1,43 +1,43 @@
-"""The builds of the libraries and of the program: what differs in each, and how it is proved and built."""
+"""Proves and builds the libraries and the program, and says what differs in each build."""
 import dataclasses
 import os
 import re
 import shutil
-import subprocess
 import sys
 
 import toolchain
-from crates import TOP, sum_of
+from crates import TOP, run, sum_of
 
 from . import targets
 from .headers import Header
 from .published import PROGRAM, Assembly
 
-# What the builds that take no byte shuffle have in the place of the form of keys, by crate.
-NARROW = TOP / "tools/dist_parts/narrow"
+# The form of keys of the builds that use no byte shuffle, by crate.
+FORMS_WITHOUT_SHUFFLE = TOP / "tools/dist_parts/without_shuffle"
 WIDTH = "//! Words of {}.\n\npub type BuildWidth = {};\n"
-# What differs in a copy of aes_narrow for words of 64 bits, of which eight hold planes of four blocks.
+# What differs in a copy of aes_narrow for words of 64 bits. Eight of them hold the planes of four blocks.
 WORDS_OF_64 = (
     ("src/kept_word.rt", "KeptWord = u32;\n", "KeptWord = u64;\n"),
     ("specs/KeptWord.antt", "kept_bits = word_bits 32\n", "kept_bits = word_bits 64\n"),
     ("specs/KeptWord.antt", "kept_blocks = 2\n", "kept_blocks = 4\n"),
 )
-# What differs in a copy of gcm_c for processors on which the lower half of a product of two words always takes the same time: H stands
-# there as four words, and is multiplied by such products.
+# What differs in a copy of gcm_c for processors on which the lower half of a product of two words always takes the same time. There H is
+# four words, and is multiplied by such products.
 OF_PRODUCTS = (
-    ("src/form.rt", "TagRoom = gcm::SubkeyRoom;\n", "TagRoom = gcm::SubkeyWordsRoom;\n"),
+    ("src/form.rt", "GhashRoom = gcm::SubkeyRoom;\n", "GhashRoom = gcm::SubkeyWordsRoom;\n"),
     ("specs/Form.antt", "{subkey_alone, IsAlone}\n", "{subkey_of_words, AreSubkeyWords}\n"),
     ("specs/Form.antt", "List (List ℕ)\nno_room = replicate 1 (replicate 16 0)\n", "List ℕ\nno_room = replicate 4 0\n"),
     ("specs/Form.antt", "List (List ℕ) → Type 0\nIsRoom = IsAlone\n", "List ℕ → Type 0\nIsRoom = AreSubkeyWords\n"),
     ("specs/Form.antt", "List (List ℕ) → ℕ\nsubkey_of = subkey_alone\n", "List ℕ → ℕ\nsubkey_of = subkey_of_words\n"),
 )
 # For a processor without a byte shuffle the prover's compiler stores tables in memory, and reads them at secret places. So an assembly
-# file has shuffles, or is of a build that takes none.
+# file has shuffles, or is of a build that uses none.
 SHUFFLES = re.compile(r"^\t(?:(?:v?pshufb|tbl|vrgather\.vv)\t|i8x16\.swizzle)", re.M)
 # The kit's clang compiles the module that the prover's compiler writes.
 KIT_CLANG = toolchain.KIT / "toolchain/bin/clang"
-# Stands for the kit's clang: does what it does, keeps the module, and compiles it a second time, to text. GNU's assembler doesn't
-# know the table of .addrsig. On ARM it leaves x18 alone, which belongs to the system on Android, macOS and Windows.
+# A script that is called instead of the kit's clang. It does what clang does, keeps the module, and compiles it a second time, to text.
+# GNU's assembler doesn't know the table of .addrsig. On ARM the code doesn't use x18, which belongs to the system on Android, macOS and
+# Windows.
 CLANG = """#!/bin/sh
 set -e
 case " $* " in *' -c -x ir '*) ;; *) exec {clang} "$@" {reserved} ;; esac
@@ -53,18 +53,9 @@ exec {clang} "$@" {reserved} -fno-addrsig -S -o {text}
 """
 
 
-def run(words, what, **how):
-    """Runs a command that has to succeed, and returns what it wrote."""
-    done = subprocess.run([str(it) for it in words], stdin=subprocess.DEVNULL, stdout=subprocess.PIPE,
-        stderr=subprocess.STDOUT, text=True, errors="replace", **how)
-    if done.returncode:
-        sys.exit(f"dist: {what} failed:\n{done.stdout[-3000:]}")
-    return done.stdout
-
-
 def llvm(tool, *words, **how):
-    """Runs a tool of LLVM, all of which are in the kit's clang."""
-    return run([tool, *words], tool, executable=KIT_CLANG, **how)
+    """Runs a tool of LLVM. The kit's clang has all of them."""
+    return run([tool, *words], f"dist: {tool}", executable=KIT_CLANG, **how)
 
 
 def clang(*words):
@@ -77,9 +68,9 @@ def held_by(file):
     return [it for it in parts if not it.startswith((".strtab:", ".symtab:", ".llvm_addrsig:"))]
 
 
-def proved(words, what, folder):
+def prove_and_build(words, what, folder):
     """Proves a copy of a crate and builds it: returns the verdict."""
-    verdict = re.findall(r"^logic=.*$", run(words, f"the build of {what}", cwd=folder), re.M)[-1]
+    verdict = re.findall(r"^logic=.*$", run(words, f"dist: the build of {what}", cwd=folder), re.M)[-1]
     if not verdict.startswith("logic=proved "):
         sys.exit(f"dist: {what} is not proved: {verdict}")
     print(f"dist: built {what}", file=sys.stderr, flush=True)
@@ -97,49 +88,50 @@ def change(folder, changes):
 
 def widen(folder):
     """Gives a copy of a crate the wide width."""
-    (folder / "src/width.rt").write_text(WIDTH.format("256 bits", "aes_hybrid::widths::Wide"))
+    (folder / "src/width.rt").write_text(WIDTH.format("256 bits", "aes_hybrid::widths::Width256"))
 
 
-def narrow(folder):
-    """Gives a copy of a crate the form of keys that takes no byte shuffle."""
+def without_shuffle(folder):
+    """Gives a copy of a crate the form of keys that uses no byte shuffle."""
     (folder / "src/width.rt").write_text(WIDTH.format("planes", "aes_narrow::kept_word::KeptWord"))
-    shutil.copyfile(NARROW / folder.name / "form.rt.txt", folder / "src/form.rt")
-    shutil.copyfile(NARROW / folder.name / "Form.antt.txt", folder / "specs/Form.antt")
+    shutil.copyfile(FORMS_WITHOUT_SHUFFLE / folder.name / "form.rt.txt", folder / "src/form.rt")
+    shutil.copyfile(FORMS_WITHOUT_SHUFFLE / folder.name / "Form.antt.txt", folder / "specs/Form.antt")
 
 
-def narrow_of_products(folder):
-    narrow(folder)
+def by_products(folder):
+    without_shuffle(folder)
     change(folder, OF_PRODUCTS)
 
 
 @dataclasses.dataclass(frozen=True)
 class Variant:
-    """A way to build for a machine: what stands behind a library's name, the processor, what is changed in a copy of the crate, and the
-    targets whose assembly is made of its module."""
+    """A way to build for a machine: the suffix of the library's file name, the processor, what is changed in a copy of the crate, and the
+    targets whose assembly is made from its module."""
 
     folder: str
     suffix: str = ""
     cpu: str = ""
     changed: callable = None
     targets: tuple = ()
-    # Whether it takes a byte shuffle, whether its own assembly is in dist/, and whether it is built over words of 64 bits.
+    # Whether it uses a byte shuffle, whether its own assembly is in dist/, and whether it is built over words of 64 bits.
     has_shuffle: bool = True
     is_published: bool = True
     is_of_64: bool = False
 
 
-# Assembly for these is made of the module that multiplies by products, if the library multiplies.
-BY_PRODUCTS = (targets.ARM, targets.CORTEX_M3, targets.CORTEX_M3.small())
-WITHOUT_SHUFFLE = (targets.WINDOWS_V1, targets.ARM, *(it for of in (targets.CORTEX_M0, targets.CORTEX_M3, targets.RISCV32)
-    for it in (of, of.small())), targets.WASM32_NARROW)
+# Assembly for these is made from the module that multiplies by products, if the library multiplies.
+TARGETS_BY_PRODUCTS = (targets.ARM, targets.CORTEX_M3, targets.CORTEX_M3.small())
+OF_32_BITS = (targets.CORTEX_M0, targets.CORTEX_M3, targets.RISCV32)
+TARGETS_WITHOUT_SHUFFLE = (targets.WINDOWS_V1, targets.ARM, *(form for target in OF_32_BITS for form in (target, target.small())),
+                           targets.WASM32_NARROW)
 V2 = Variant("x86_64", "_v2", targets=(targets.RISCV64, targets.WINDOWS_V2, targets.WASM32))
 V3 = Variant("x86_64", "_v3", "x86-64-v3", widen, (targets.WINDOWS_V3,))
-V1 = Variant("x86_64", "_v1", "x86-64", narrow, WITHOUT_SHUFFLE, has_shuffle=False)
-# In words of 64 bits a key takes a larger struct, which only 64-bit RISC-V has.
-W64 = Variant("x86_64", "_w64", "x86-64", narrow, (targets.RISCV64_NARROW,), has_shuffle=False, is_published=False, is_of_64=True)
-PRODUCTS = Variant("x86_64", "_products", "x86-64", narrow_of_products, BY_PRODUCTS, has_shuffle=False, is_published=False)
+V1 = Variant("x86_64", "_v1", "x86-64", without_shuffle, TARGETS_WITHOUT_SHUFFLE, has_shuffle=False)
+# In words of 64 bits a key needs a larger struct, which only 64-bit RISC-V has.
+W64 = Variant("x86_64", "_w64", "x86-64", without_shuffle, (targets.RISCV64_NARROW,), has_shuffle=False, is_published=False, is_of_64=True)
+PRODUCTS = Variant("x86_64", "_products", "x86-64", by_products, TARGETS_BY_PRODUCTS, has_shuffle=False, is_published=False)
 ARM = Variant("aarch64")
-V1_OF_GCM = dataclasses.replace(V1, targets=tuple(it for it in WITHOUT_SHUFFLE if it not in BY_PRODUCTS))
+V1_OF_GCM = dataclasses.replace(V1, targets=tuple(it for it in TARGETS_WITHOUT_SHUFFLE if it not in TARGETS_BY_PRODUCTS))
 VARIANTS = {
     "aes": (V2, V3, V1, W64, ARM),
     "gcm": (V2, V3, V1_OF_GCM, W64, PRODUCTS, ARM),
@@ -148,15 +140,15 @@ VARIANTS = {
 
 
 class Words64:
-    """A copy of aes_narrow for words of 64 bits, proved, and what a command names in the place of the crate's own library."""
+    """A copy of aes_narrow for words of 64 bits, proved, and what a command names instead of the crate's own library."""
 
     def __init__(self, crate, room):
         folder, made = room / "crate", room / f"{crate.name}.rlib"
         shutil.copytree(crate.folder, folder)
         change(folder, WORDS_OF_64)
-        toolchain.begun(crate, room / "kept")
+        toolchain.copy_kept_work(crate, room / "kept")
         words = toolchain.build_words(crate, "--incremental", f"{room}/kept", "-o", f"{made}")
-        proved(words, f"{crate.name} for words of 64 bits", folder)
+        prove_and_build(words, f"{crate.name} for words of 64 bits", folder)
         self.names = {f"{crate.name}={crate.rlib}": f"{crate.name}={made}"}
         self.names[f"dependency={os.path.dirname(crate.rlib)}"] = f"dependency={room}"
 
@@ -180,9 +172,9 @@ class Build:
         """A folder of links to the kit's toolchain, with the clang above."""
         made, there = self.room / "toolchain", toolchain.KIT / "toolchain"
         (made / "bin").mkdir(parents=True)
-        for it in [*there.iterdir(), *(there / "bin").iterdir()]:
-            if it.name not in ("bin", "clang"):
-                (made / it.relative_to(there)).symlink_to(it)
+        for path in [*there.iterdir(), *(there / "bin").iterdir()]:
+            if path.name not in ("bin", "clang"):
+                (made / path.relative_to(there)).symlink_to(path)
         reserved = "-ffixed-x18" if self.variant.folder == "aarch64" else ""
         (made / "bin/clang").write_text(CLANG.format(clang=KIT_CLANG, text=self.text, reserved=reserved))
         (made / "bin/clang").chmod(0o755)
@@ -198,21 +190,21 @@ class Build:
         flags = ["--target", f"{variant.folder}-unknown-linux-gnu", *(["--cpu", variant.cpu] if variant.cpu else []), "--backend", "llvm"]
         flags += ["--toolchain", str(self.toolchain()), "--incremental", f"{self.room}/kept", "-o", f"{self.made}"]
         words = toolchain.build_words(crate, *flags)
-        self.verdict = proved(words_64.named_in(words) if variant.is_of_64 else words, self.assembly.name, copy)
-        self.texts = {it: it.published(text) for it, text in self.compiled()}
-        for it, text in self.texts.items():
-            if it.library != PROGRAM and bool(SHUFFLES.search(text)) != variant.has_shuffle:
+        self.verdict = prove_and_build(words_64.named_in(words) if variant.is_of_64 else words, self.assembly.name, copy)
+        self.texts = {assembly: assembly.published(text) for assembly, text in self.assemblies()}
+        for assembly, text in self.texts.items():
+            if assembly.library != PROGRAM and bool(SHUFFLES.search(text)) != variant.has_shuffle:
                 said = "no" if variant.has_shuffle else "a"
-                sys.exit(f"dist: {it.name}.s has {said} byte shuffle, so that tables would be read at secret places")
+                sys.exit(f"dist: {assembly.name}.s has {said} byte shuffle, so that tables would be read at secret places")
         return self
 
-    def compiled(self):
+    def assemblies(self):
         """The assembly as the compiler writes it: its own, and that for the targets."""
         if self.variant.is_published:
             yield self.assembly, self.text.read_text()
-        for it in self.variant.targets:
+        for target in self.variant.targets:
             calls = Header(self.assembly.library).calls
-            yield Assembly(self.assembly.library, it.folder, it.suffix), it.compiled(clang, f"{self.text}.bc", calls)
+            yield Assembly(self.assembly.library, target.folder, target.suffix), target.compile(clang, f"{self.text}.bc", calls)
 
     def lines(self):
         """Its lines in BUILD."""
@@ -226,7 +218,7 @@ class Build:
         """Whether the assembly in dist/, assembled as the compiler wrote it, is what the compiler made."""
         source, assembled = self.room / "compiled.s", self.room / "text.o"
         source.write_text(self.assembly.as_compiled(self.text.read_text()))
-        # Told this processor, the assembler pads with the no-ops that the compiler takes for each x86-64.
+        # Told this processor, the assembler pads with the no-ops that the compiler uses for each x86-64.
         words = ["-target", f"{self.variant.folder}-unknown-linux-gnu", *(["-march=x86-64-v2"] if self.variant.folder == "x86_64" else [])]
         clang(*words, "-c", source, "-o", assembled)
         if self.kind == "object":
@@ -235,10 +227,10 @@ class Build:
         llvm("llvm-ar", "x", self.made, cwd=self.room)
         return len(members) == 1 and held_by(assembled) == held_by(self.room / members[0])
 
-    def compared(self, said):
+    def comparisons(self, said):
         """What was compared with dist/, whose BUILD has the lines `said`: whether it is the same, and what to say if not."""
         yield self.line_of_made() in said, f"{self.name} is of another {self.kind} than these crates make"
-        for it, text in self.texts.items():
-            yield it.path.read_text() == text, f"{it.name}.s isn't what the compiler writes"
+        for assembly, text in self.texts.items():
+            yield assembly.path.read_text() == text, f"{assembly.name}.s isn't what the compiler writes"
         is_same = not self.variant.is_published or self.has_same_code()
         yield is_same, f"{self.assembly.name}.s, assembled, is not the {self.kind} that these crates make"

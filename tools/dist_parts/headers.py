@@ -1,4 +1,4 @@
-"""What is made of the headers alone: the choice between builds, the list of a DLL's exports, and the declarations for Rust."""
+"""Makes files from the headers: the choice between builds, the list of a DLL's exports, and the declarations for Rust."""
 import re
 import textwrap
 
@@ -17,7 +17,7 @@ COMMENT = re.compile(r"/\*.*?\*/", re.S)
 
 
 def in_lines(words, width, first, others):
-    """Words in lines, each of which ends behind a comma."""
+    """Words in lines, each of which ends after a comma."""
     words = words.replace(", ", ",\n").replace(" ", "\0")
     return [it.replace("\0", " ") for it in textwrap.wrap(words, width, initial_indent=first, subsequent_indent=others)]
 
@@ -50,7 +50,7 @@ class Header:
 
     def choice(self):
         """The file choose_LIBRARY.c: for each call, a function that jumps to that of one of several builds."""
-        lines = ['/* Made by tools/dist from the header: the exports of a static library of both builds. */', '#include "choose.h"']
+        lines = ['/* Made by tools/dist from the header: the exports of a static library of several builds. */', '#include "choose.h"']
         lines += [f'#include "{self.name}"', ""]
         for result, name, parameters in self.assembled():
             names = [re.search(r"(\w+)(?:\[\w+\])?$", it)[1] for it in parameters]
@@ -88,12 +88,12 @@ class Header:
         if "struct fotsgure_aes *" in self.text and self.library != "aes":
             lines += ["use crate::aes::fotsgure_aes;", ""]
         lines += [*(f"pub const {name}: u32 = {number};" for name, number in self.numbers.items()), ""]
-        lines += [line for it in WORD.findall(self.text) for line in word_in_rust(*it)]
-        lines += [line for it in STRUCT.findall(self.text) for line in self.struct_in_rust(*it)]
+        lines += [line for word in WORD.findall(self.text) for line in word_in_rust(*word)]
+        lines += [line for struct in STRUCT.findall(self.text) for line in self.struct_in_rust(*struct)]
         for name, size, word in SIZE.findall(self.text):
             times = f" * core::mem::size_of::<{word}>()" if word else ""
             lines += [f"const _: () = assert!(core::mem::size_of::<{name}>() == {size}{times});"]
-        calls = [line for it in self.assembled() for line in self.call_in_rust(*it)]
+        calls = [line for call in self.assembled() for line in self.call_in_rust(*call)]
         return "\n".join([*lines, "", "library! {", f'    "{self.library}":', *calls, "}", ""])
 
     def files(self):

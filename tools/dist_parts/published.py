@@ -1,9 +1,9 @@
-"""Assembly as the compiler writes it, and as it is published in dist/.
+"""Converts the compiler's assembly into the published form, and back.
 
 The assembly of a library for 64 bits calls libc's functions at addresses that the loader writes before the program runs. It has marks for
-processors that take an indirect call or jump to certain places alone, and says of what sources it is. All but that for WebAssembly, which
-has no registers and plain names, has names of its own (symbols.py) and empties registers (registers.py). The program's assembly is as the
-compiler writes it, since it keeps no secrets and calls more of libc.
+processors that accept an indirect call or jump only to certain places, and names its sources. It has names of its own (symbols.py) and
+empties registers (registers.py), except for WebAssembly, which has no registers and plain names. The program's assembly is as the compiler
+writes it, since it keeps no secrets and calls more of libc.
 """
 import dataclasses
 import re
@@ -29,9 +29,9 @@ CALLS = {
     },
     "riscv64": {"call\t{}": "la\tt1, {0}\n\tjalr\tt1", "tail\t{}": "la\tt1, {0}\n\tjr\tt1"},
 }
-# The marks (Intel's CET, ARM's BTI): an instruction at the beginning of each export, a prefix of jumps by tables, a note for the linker,
-# which marks what is made of marked files alone: the object of a Rust crate is not, since it has Rust's functions too. Its words are the
-# sizes of its name and of what follows, its type, "GNU"; then the property, its size, its bits and nothing.
+# The marks (Intel's CET, ARM's BTI): an instruction at the beginning of each export, a prefix of jumps by tables, and a note for the
+# linker, which marks only what is made of marked files. The object of a Rust crate has no note, since it has Rust's functions too. The
+# words of the note are the sizes of its name and of what follows, its type, and "GNU"; then the property, its size, its bits and nothing.
 ENTRIES = {"x86_64": "\tendbr64\n", "aarch64": "\thint\t#34\n"}
 BY_TABLE = re.compile(r"^\t(notrack )?(jmpq\t\*%)", re.M)
 NOTE = """
@@ -44,9 +44,9 @@ NOTE = """
 	.endif
 """
 NOTES = {"x86_64": NOTE.format(kind="@", property=0xc0000002, bits=3), "aarch64": NOTE.format(kind="%", property=0xc0000000, bits=1)}
-# What each object says of itself, so that an installed library and a program can be asked: a note, which linkers keep. It is loaded with
-# the program, but not on machines of 32 bits, where a linker's script might put it before the table of vectors. On Windows, where there are
-# no notes, the words are among the constants.
+# A note in which each object names its sources, so that they can be read from an installed library or program. Linkers keep it. It is
+# loaded with the program, but not on machines of 32 bits, where a linker's script might put it before the table of vectors. Windows has no
+# notes, so there the words are among the constants.
 SOURCES = """
 	.section	.note.fotsgure,"{flags}",%note
 	.p2align	2, 0x0
@@ -73,8 +73,8 @@ def sum_of_library(library):
 
 @dataclasses.dataclass(frozen=True)
 class Assembly:
-    """An assembly file below dist/: its library, or the program; its folder; and what stands behind the library's name in the names of the
-    file and of its functions. The file of the first build for x86-64 is called without it."""
+    """An assembly file below dist/: its library, or the program; its folder; and the suffix of the library's name, in the names of the file
+    and of its functions. The file of the build for x86-64-v2 is called without it."""
 
     library: str
     folder: str
@@ -99,7 +99,8 @@ class Assembly:
 
     def calls_of_libc(self):
         """How each function of libc is called: by the compiler, and as it is published."""
-        return [(it.format(name), by_table.format(name)) for name in LIBC for it, by_table in CALLS.get(self.folder, {}).items()]
+        pairs = CALLS.get(self.folder, {}).items()
+        return [(by_address.format(name), by_table.format(name)) for name in LIBC for by_address, by_table in pairs]
 
     def bound_early(self, text):
         for direct, by_table in self.calls_of_libc():

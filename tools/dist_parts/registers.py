@@ -1,10 +1,10 @@
-"""Exports that leave nothing in the registers that a call may change, but their result.
+"""Makes exports empty the registers that a call may change, except that of their result.
 
-A compiler can be told so ("zero-call-used-regs"), but what it then empties is what the function itself uses, not what the functions that
-it calls use, or else the numbers of x87 too; and for RISC-V it does nothing. So the assembly of a library is changed, before each return of
-an export: it zeros each vector register that the ABI doesn't keep for the caller, and the general registers, except the result and those
-that belong to the system. Functions that exports jump to do the same, since they return to the caller. On Cortex-M these lines stand behind
-a function, and its returns become jumps to them. A jump takes no more bytes than a return, so every branch of the function still reaches.
+A compiler has an option for this ("zero-call-used-regs"). But it either leaves out the registers of the functions that a function calls, or
+also empties the numbers of x87. For RISC-V it does nothing. So the assembly of a library is changed: before each return of an export it
+zeros each vector register that the ABI doesn't keep for the caller, and the general registers, except the result and those that belong to
+the system. Functions that exports jump to do the same, since they return to the caller. On Cortex-M these lines come after the function,
+and its returns become jumps to them. A jump has no more bytes than a return, so every branch of the function still reaches.
 """
 import dataclasses
 import re
@@ -19,16 +19,16 @@ GENERAL = {
 GENERAL |= {"thumb": GENERAL["arm"], "riscv32": GENERAL["riscv64"]}
 # How a general register is emptied.
 EACH = {"x86_64": "\txorl\t%{0}, %{0}", "windows_x86_64": "\txorl\t%{0}, %{0}", "aarch64": "\tmov\t{0}, xzr", "riscv64": "\tli\t{0}, 0",
-    "riscv32": "\tli\t{0}, 0", "arm": "\tmov\t{0}, #0", "thumb": "\tmovs\t{0}, #0"}
+        "riscv32": "\tli\t{0}, 0", "arm": "\tmov\t{0}, #0", "thumb": "\tmovs\t{0}, #0"}
 LABEL = re.compile(r'("[^"]*"|\w+):')
 EXPORT = re.compile(r"(fotsgure_\w+):")
 # A jump to another function of the library, at the end of one.
 LEAP = re.compile(r'\t(?:jmp|b|tail)\t("[^"]*")')
-# (On 32-bit ARM also by what takes the address from the stack, with registers that are the caller's.)
+# (On 32-bit ARM also by an instruction that takes the address from the stack, with registers that are the caller's.)
 RETURN = re.compile(r"\t(?:retq|ret|bx\tlr|pop(?:\.w)?\t\{.*\bpc\}|ldm.*\bpc\})$")
 # A jump to libc, which would leave registers as it does.
 LEFT_TO_LIBC = re.compile(r"\t(?:jmpq\t\*\w|jr\tt1|br\tx16|(?:b|tail)\tmem)")
-# What Windows takes for the end of a function, in which nothing else may stand.
+# What Windows recognizes as the end of a function, which may have nothing else in it.
 ENDING = re.compile(r"\t(?:popq\t%|addq\t\$\d+, %rsp)")
 
 
@@ -49,7 +49,7 @@ def endings(lines):
             found.setdefault(inside, set()).add(leap[1])
     ending = more = {it[1] for it in map(EXPORT.match, lines) if it}
     while more:
-        more = {to for it in more for to in found.get(it, ())} - ending
+        more = {to for register in more for to in found.get(register, ())} - ending
         ending = ending | more
     return ending
 
@@ -85,13 +85,13 @@ class Registers:
         return [*(self.vectors() if self.has_vectors else []), *general]
 
     def at_return(self, line):
-        """The lines before a return. On 32-bit ARM one that takes the address from the stack leaves in lr what was computed there."""
+        """The lines before a return. On 32-bit ARM a return that takes the address from the stack leaves a computed value in lr."""
         return [*self.emptying(), *(["\tmov\tlr, r1"] if re.search(r"\bpc\}", line) else [])]
 
     def emptied(self, text):
         """The assembly of a library whose exports empty registers."""
         lines = text.split("\n")
-        ending, seen, out, behind = endings(lines), set(), [], {}
+        ending, seen, out, after = endings(lines), set(), [], {}
         for inside, line in functions(lines):
             at = len(out)
             if inside in ending and LEFT_TO_LIBC.match(line):
@@ -99,12 +99,12 @@ class Registers:
             if inside in ending and (RETURN.match(line) or LEAP.match(line)):
                 seen.add(inside)
             if self.folder == "thumb" and line.startswith(".Lfunc_end"):
-                for end, label in behind.items():
+                for end, label in after.items():
                     out += [f"{label}:", *self.at_return(end), end]
-                behind = {}
+                after = {}
             elif inside in ending and RETURN.match(line):
                 if self.folder == "thumb":
-                    line = "\tb\t" + behind.setdefault(line, f".Lreturn_{at}")
+                    line = "\tb\t" + after.setdefault(line, f".Lreturn_{at}")
                 else:
                     while self.folder == "windows_x86_64" and ENDING.match(out[at - 1]):
                         at -= 1

@@ -1,4 +1,4 @@
-"""Names that belong to one assembly file alone, so that one object can hold several, as that of a Rust crate does.
+"""Gives each assembly file names of its own, so that one object can hold several files, as that of a Rust crate does.
 
 Each name begins with a prefix, which is the library and its build, as `aes_v3`:
  - the label .LBB0_1 becomes .Laes_v3_BB0_1;
@@ -31,15 +31,15 @@ def of_functions(text):
     found = re.findall(r'^"([^"\n]+)":', text, re.M)
     names = [plain(it) for it in found]
     numbered = [f"{it}.{names[:at].count(it) + 1}" if names.count(it) > 1 else it for at, it in enumerate(names)]
-    for it in numbered:
-        if numbered.count(it) > 1:
-            raise SystemExit(f"dist: {it} would be the name of two functions")
+    for name in numbered:
+        if numbered.count(name) > 1:
+            raise SystemExit(f"dist: {name} would be the name of two functions")
     return dict(zip(found, numbered))
 
 
 def macro(folder, prefix, suffix):
     """The macro by which an assembly file exports, under a name with a suffix. In a Rust crate, which defines `in_rust`, the label itself
-    is exported: a library in C beside it has other names. On x86-64, `chosen` is for static libraries of both builds: without it no name
+    is exported: a library in C beside it has other names. On x86-64, `chosen` is for static libraries of several builds: without it no name
     has a suffix."""
     label, is_windows = f"{prefix}.\\name", folder == "windows_x86_64"
     name = f"\\name\\(){suffix}" if suffix else "\\name"

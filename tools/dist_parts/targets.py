@@ -1,15 +1,15 @@
-"""Assembly for targets that the prover's compiler doesn't know, made of the module that it gives to clang for x86-64.
+"""Makes assembly for targets that the prover's compiler doesn't know, from the module that it gives to clang for x86-64.
 
-That module has the layout of every 64-bit little-endian machine and no types of C, and asks for nothing but memcpy, memmove and memset. The
+That module has the layout of every 64-bit little-endian machine and no types of C, and calls nothing but memcpy, memmove and memset. The
 kit's clang compiles it for another target after these changes, and no others:
  - All but Windows: the processor's name is left out.
  - RISC-V with vectors and WebAssembly with simd128: the byte shuffle of x86-64 is defined by vrgather or swizzle. The other targets have no
-   shuffle, and are made of modules that have none.
+   shuffle, and are made from modules that have none.
  - RISC-V of 64 bits: a result of 32 bits is extended by its sign, as that ABI says.
- - Pointers of 32 bits: the changes of narrowed.py. The stack isn't probed.
- - WebAssembly: names have letters, digits and _ alone, for its assembler.
- - Windows: functions have the table for unwinding that its ABI asks for, touch the stack as that system does, and leave alone what
-   is below it. But for exports they call each other as on Linux: on Windows a function keeps vector registers for its caller, so it
+ - Pointers of 32 bits: the changes of pointers32.py. The stack isn't probed.
+ - WebAssembly: names have only letters, digits and _, for its assembler.
+ - Windows: functions have the table for unwinding that its ABI asks for, touch the stack as that system does, and don't use what
+   is below it. Except exports they call each other as on Linux: on Windows a function keeps vector registers for its caller, so it
    would leave values of GHASH on the stack. The wipe of the stack empties the two registers that memset may save. Exports have the
    suffix of their build.
 """
@@ -18,7 +18,7 @@ import pathlib
 import re
 import sys
 
-from . import narrowed
+from . import pointers32
 
 # The options that the kit's compiler gives to clang, without those of a target.
 OPTIONS = """-mllvm -no-trap-after-noreturn -mllvm -trap-unreachable -mllvm -no-x86-call-frame-opt -mllvm -disable-machine-licm
@@ -51,13 +51,13 @@ define internal <16 x i8> @byte_shuffle(<16 x i8> %table, <16 x i8> %places) alw
 # The two registers that memset may save, emptied.
 EMPTIES = 'call void asm sideeffect "xorl %edi, %edi; xorl %esi, %esi", "~{rdi},~{rsi},~{flags}"()'
 # What GNU's assembler doesn't know: the versions of RISC-V's extensions, and the second version of Windows' tables. (variant_cc is for
-# calls by way of the loader, and no export has it.) And what an assembly file doesn't say of itself: for which processor of ARM it
+# calls through the loader, and no export has it.) And what an assembly file doesn't say of itself: for which processor of ARM it
 # is, and how its callers pass floating-point numbers. The assembler is told the one, and no call has the other.
 LEFT_OUT = re.compile(r"^\t\.(?:attribute|variant_cc|seh_startepilogue|seh_endepilogue|eabi_attribute|cpu|fpu|arch)\b.*\n", re.M)
 # Functions that small code has once each, where the quick code has them in each caller: the circuits of the S-boxes, the column mixing of
 # each round of a period, the exchanges of bits, the steps of the key expansion, and those of counter mode.
 ONCE = r"""aes_planes::soft::(?:sbox::(?:inv_)?sub_bytes(?:_nots)?|mix_columns::(?:inv_)?mix_columns_[0-3]|word::transpose::transpose
-    |shifts::(?:swap_columns|delta_swap_1)|copies::(?:store_)?round_key|key_columns::\w+)
+    |shifts::(?:swap_columns|delta_swap_1)|round_keys::(?:store_)?round_key|key_columns::\w+)
     |aes_soft::soft::(?:plane_words::(?:substitute|PlaneWordsFourWords::\w+)|key_layout::store)
     |aes_ctr::(?:add_blocks::add_(?:blocks|part)|counter_blocks::WholeBlockCounterBlocks::put|keystream::fill_by_backend
     |add_in_batches::add_(?:to_one|batch|by_backend))""".replace("\n    ", "")
@@ -90,7 +90,7 @@ def with_signs(text):
 
 
 def for_windows(text):
-    # (Clang takes `inline-asm` for the name of a function there, and without it calls ___chkstk_ms of the compiler's library.)
+    # (Clang reads `inline-asm` as the name of a function there, and without it calls ___chkstk_ms of the compiler's library.)
     text = text.replace(' "probe-stack"="inline-asm"', "")
     text = re.sub(r'^(attributes #\d+ = \{ .*?nounwind)(?= "stack-probe-size")', r"\1 noredzone uwtable", text, flags=re.M)
     text = re.sub(r'^(define internal |.*\bcall )(?=[^"@]*@"\w+::)', r"\1x86_64_sysvcc ", text, flags=re.M)
@@ -99,8 +99,8 @@ def for_windows(text):
 
 @dataclasses.dataclass(frozen=True)
 class Target:
-    """The folder of its assembly, what clang calls it, its options, what stands behind a library's name in its assembly, the definition of
-    the byte shuffle, and whether its code is to be small."""
+    """The folder of its assembly, what clang calls it, its options, the suffix of the library's file names, the definition of the byte
+    shuffle, and whether its code is to be small."""
 
     folder: str
     triple: str
@@ -122,10 +122,10 @@ class Target:
         if self.folder == "riscv64":
             return with_signs(text)
         text = with_each_once(text) if self.is_small else text
-        text = narrowed.for_32(re.sub(r' "(?:probe-stack|stack-probe-size)"="[^"]*"', "", text), calls)
+        text = pointers32.for_32(re.sub(r' "(?:probe-stack|stack-probe-size)"="[^"]*"', "", text), calls)
         return re.sub(r'@"([^"]+)"', lambda name: "@" + re.sub(r"\W", "_", name[1]), text) if self.folder == "wasm32" else text
 
-    def compiled(self, clang, module, calls):
+    def compile(self, clang, module, calls):
         """The assembly for the target, of a module in the file of that name; `clang` runs the kit's."""
         own = ("-Wno-override-module", "-x", "ir", "-S")
         changed, to = (pathlib.Path(f"{module}.{self.folder}{self.suffix}{it}") for it in (".ll", ".s"))

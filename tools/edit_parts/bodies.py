@@ -8,7 +8,7 @@ USE = re.compile(r"(?:(?:pub |ghost )?use [^;]*; ?)+$")
 
 
 class Function:
-    """A function with a body: where it stands, and what the prover calls it. Lines are counted from 1."""
+    """A function with a body: where it is, and what the prover calls it. Lines are counted from 1."""
 
     def __init__(self, path, lines, head, start, end):
         indent, self.is_const, self.name = FUNCTION.match(lines[head]).groups()
@@ -25,8 +25,8 @@ class Function:
         self.module = module[:-1] if module[-1] in ("mod", "lib", "main") else module
 
     def prover_path(self):
-        """Its path as the prover takes it, where the text tells that, or else that of its module. A method's stands in the module of
-        its type, wherever the impl is, so it is named by the end of its path."""
+        """Its path as the prover accepts it, if the text shows it, or else the path of its module. A method's path is in the module of
+        its type, wherever the impl is. So a method is named by the end of its path."""
         if self.type:
             return f"{self.folder}::{self.name}" if self.folder else self.module_path()
         return "::".join([*self.module, self.name])
@@ -43,13 +43,13 @@ class Function:
             return False
         if not self.type:
             return parts[1:-2] == self.module
-        # A method's proof stands below the module of its type, wherever the impl is. Of several impls of a trait the name goes on.
+        # A method's proof is below the module of its type, wherever the impl is. If a trait has several impls, the name is longer.
         of = parts[-3]
         return bool(self.folder) and (of.startswith(self.folder) if self.trait else of == self.folder)
 
 
 def owner(lines, head, indent):
-    """The trait and the type of the impl that a line stands in; of a trait's own block its name alone; outside of both nothing."""
+    """The trait and the type of the impl that a line is in. A trait's own block has only its name, and outside of both there is nothing."""
     blocks = [at for at in range(head) for found in [BLOCK.match(lines[at])] if found and len(found[1]) < indent]
     if not blocks or BLOCK.match(lines[blocks[-1]])[2] == "mod":
         return "", ""
@@ -97,9 +97,9 @@ def edits_in(file):
 
 
 class Edit:
-    """What a crate's file of edits says of one bug, and pairs of texts, each 'old:' standing once in its file. A line 'same:' in place of
-    'bug:' says that both texts of each pair mean the same, so that no prover may refuse it. For an edit that changes more than
-    bodies, a line 'at: src/FILE FUNCTION' names the function that has to refuse it."""
+    """What a crate's file of edits says of one bug, and pairs of texts. Each 'old:' is in its file exactly once. A line 'same:' in place of
+    'bug:' says that both texts of each pair mean the same, so that no prover may refuse it. If an edit changes more than bodies, a line
+    'at: src/FILE FUNCTION' names the function that has to refuse it."""
 
     def __init__(self, name, text):
         self.name, self.text, self.pairs, self.fault, self.is_control = name, text, [], None, False
@@ -118,7 +118,7 @@ class Edit:
                 self.pairs.append((path, old, text.removeprefix(" ")))
 
     def planted(self, folder, texts, changes=None):
-        """The given texts of files of a crate's folder with this edit made too, or None where an 'old:' doesn't stand once in its file.
+        """The given texts of files of a crate's folder with this edit made too, or None if an 'old:' isn't in its file exactly once.
         What it changes is added to `changes`: a file, its text, and the pair."""
         made = dict(texts)
         for path, old, new in self.pairs:
@@ -147,9 +147,9 @@ class Edit:
         except OSError as error:
             self.fault = f"{error.filename} can't be read"
         else:
-            self.fault = None if is_made else "an 'old:' doesn't stand once in its file, or is its 'new:'"
+            self.fault = None if is_made else "an 'old:' isn't in its file exactly once, or is its 'new:'"
             if self.at and (self.is_within or not self.functions):
-                self.fault = "'at:' names no function, or it changes bodies alone and needs no 'at:'"
+                self.fault = "'at:' names no function, or the edit changes only bodies and needs no 'at:'"
 
     def has_place(self, texts, path, line):
         """Whether a line of a file, where the crate has these texts, belongs to one of the functions that have to refuse it."""

@@ -1,6 +1,6 @@
 """Judges what the prover says of a wrong body: whether it refused it at a value of a function.
 
-evidence/PLANTED_BODIES.md says what counts. A refusal in words that aren't known here doesn't.
+evidence/PLANTED_BODIES.md says what counts. A refusal for an unknown reason doesn't.
 """
 import re
 
@@ -11,8 +11,8 @@ NAME_ALONE = "only because a proof file names what the edit took away"
 # It writes 'record `R`', and on the next line, which the log doesn't have, that R has no such field.
 MISSING = re.compile(r"has no field|is not in scope|has no `|is no name|was not admitted|error: `[^`]*`: record `")
 NOT_COVERED = re.compile(r"does not cover|is not made yet|has no proof")
-# The goal that a slice ends within what it is a slice of, whose line may also say that `search` found no proof; a law whose
-# proof is itself, or a definition that is.
+# The goal that the bounds of a slice hold, whose line may also say that `search` found no proof; and a law or a definition that
+# cites itself.
 BOUND = re.compile(r"\(`slice_bounds-[^`]*`\)")
 CYCLE = re.compile(r"import cycle|expected a measure")
 # A goal that is left open at a place of the code, a law that doesn't hold of its members, and a written proof of a goal that
@@ -39,13 +39,13 @@ def why_no_value(said):
     if not said or NOT_COVERED.search(said):
         return "is refused at no value, as where the prover does not cover the edited function"
     if not (GOAL.match(said) or PROOF.match(said)):
-        return "is refused in words that are not known here"
+        return "is refused for an unknown reason"
     return None
 
 
 def faults_of_log(lines, edits):
-    """Each edit in must-fail that a log doesn't show to be refused at a value, and whether the gate counted it as passed. An edit of which
-    the log says nothing is one, since then the toolchain has changed its words."""
+    """The edits in must-fail that a log doesn't show to be refused at a value, and whether the gate counted each as passed. An edit that
+    the log doesn't name is a fault too, since then the toolchain has changed its words."""
     told = {found[1]: found[2] for found in map(EDIT.match, lines) if found}
     if edits and not told:
         yield "every edit has no line in the log", False
@@ -57,7 +57,7 @@ def faults_of_log(lines, edits):
         elif text.startswith(BAD):
             yield f"{edit} can't be tried: {text}", False
         elif not text.startswith((REFUSED, *FAILED)):
-            yield f"{edit} is spoken of in words that are not known here: {text}", False
+            yield f"{edit} has an unknown verdict in the log: {text}", False
     # Of a crate that isn't proved no edit is tried, and the gate fails.
     tried = {edit.split("/")[0] for edit in told}
     yield from ((f"{edit} has no line in the log", False) for edit in sorted(edits - told.keys()) if edit.split("/")[0] in tried)

@@ -1,16 +1,16 @@
 """Makes the calls in the reference of the nine types, docs/TYPES.md: each item's signature, description and errors come from the sources,
-and what stands behind 'Proved too:' from the page. It also fails if a call is left out, or if one that decrypts says something else than
+and the text after 'Proved too:' from the page. It also fails if a call is left out, or if a call that decrypts has another description than
 the one that encrypts.
 """
 import re
 import textwrap
-from pathlib import Path
 
-ROOT = Path(__file__).resolve().parent.parent.parent
-PAGE = ROOT / "docs/TYPES.md"
-SOURCES = ROOT / "crates/aes_cipher/src"
-# The files of the calls, of which all those in the folder cipher are on the page. Each call of `decrypt` says of decryption, word for word,
-# what another says of encryption, so the page leaves it out.
+from crates import TOP
+
+PAGE = TOP / "docs/TYPES.md"
+SOURCES = TOP / "crates/aes_cipher/src"
+# The files of the calls. The page has all calls of those in the folder cipher. It leaves out the calls of `decrypt`, each of which says of
+# decryption, word for word, what another says of encryption.
 ENCRYPTS, DECRYPTS, COUNTED = "cipher/encrypt.rt", "cipher/decrypt.rt", "aes/counted.rt"
 FILES = ("cipher/init.rt", ENCRYPTS, "cipher/round_keys.rt", "aes.rt", COUNTED)
 ITEM = re.compile(r"^- `(\w+)[(<](?:.*\n(?=  ))*.*$", re.M)
@@ -67,9 +67,9 @@ def item(found, calls):
     return textwrap.fill(words + more[1] + more[2], 118, subsequent_indent="  ", break_long_words=False, break_on_hyphens=False)
 
 
-def looked_at():
+def report():
     by_file = {path: calls_of(path) for path in FILES}
-    calls = {name: call for of in by_file.values() for name, call in of.items()}
+    calls = {name: call for calls in by_file.values() for name, call in calls.items()}
     page = PAGE.read_text(encoding="utf-8")
     named = [it[1] for it in ITEM.finditer(page)]
     faults = [fault for path, mirror in ((ENCRYPTS, DECRYPTS), (COUNTED, COUNTED)) for fault in mirror_faults(by_file[path], mirror)]

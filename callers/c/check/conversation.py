@@ -25,7 +25,7 @@ def frames(stream):
 
 
 def passes_on(source, target, fault, seen):
-    """Reads one pipe and writes another. `fault` makes of a number and a message what is sent in its place, or None to end."""
+    """Reads one pipe and writes another. `fault` returns for a number and its message what is sent instead, or None to end."""
     with open(source, "rb") as incoming, open(target, "wb", buffering=0) as outgoing:
         for number, frame in enumerate(frames(incoming)):
             seen.append(frame)
@@ -39,7 +39,7 @@ def passes_on(source, target, fault, seen):
 
 
 def run(folder, key, asks, answers, there, back):
-    """What both programs come to with faults in both directions: (status, output, error) of each, and what was sent."""
+    """Runs both programs with faults in both directions: (status, output, error) of each, and what was sent."""
     pipes = [str(folder / name) for name in ("there", "back", "there2", "back2")]
     for pipe in pipes:
         pathlib.Path(pipe).unlink(missing_ok=True)
@@ -67,7 +67,7 @@ def unchanged(number, frame, *_):
     return frame
 
 
-# Faults of what is sent to the one who answers: messages are counted from 1 on, behind the greeting.
+# Faults of what is sent to the one who answers: messages are counted from 1 on, after the greeting.
 THERE = {
     "a bit is changed": (lambda n, it: it[:-1] + bytes([it[-1] ^ 1]) if n == 2 else it, REFUSED),
     "a message is repeated": (lambda n, it: it * 2 if n == 1 else it, REFUSED),

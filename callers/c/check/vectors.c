@@ -1,8 +1,10 @@
-/* NIST's vectors of GCM, CBC and key wrap through the libraries: `vectors FILE ..` reads files as NIST publishes them, as
- * gcmEncryptExtIV128.rsp, CBCMMT128.rsp or KWP_AE_128.txt. Of GCM each message is sealed and opened again, and refused with a bit changed in each of its parts;
- * a tag that fails in the file is refused. NIST has tags of 4 to 15 bytes too: fotsgure_gcm_open refuses those by their
- * length, fotsgure_gcm_accept_short takes them if they are right, and they have to be the beginning of the tag of 16
- * bytes. No call may write beside its buffers. The last line is `N passed, M failed`. */
+/* NIST's vectors of GCM, CBC and key wrap through the libraries: `vectors FILE ..` reads files as NIST publishes them, such
+ * as gcmEncryptExtIV128.rsp, CBCMMT128.rsp or KWP_AE_128.txt. The last line is `N passed, M failed`.
+ *
+ * Each message of GCM is sealed and opened again. It is refused with a bit changed in any of its parts. A tag that fails in
+ * the file is refused. NIST also has tags of 4 to 15 bytes. fotsgure_gcm_open refuses them by their length, and
+ * fotsgure_gcm_accept_short accepts them if they are right: the beginning of the tag of 16 bytes. No call may write outside
+ * its buffers. */
 #include <fotsgure_aes.h>
 #include <fotsgure_gcm.h>
 
@@ -93,7 +95,7 @@ static int changes_are_refused(const struct record *r, const uint8_t tag[16])
     return 1;
 }
 
-/* What the call for short tags says of the cipher text in one piece. What it takes is decrypted. */
+/* What the call for short tags says of the cipher text in one piece. If the tag is accepted, the text is decrypted. */
 static enum fotsgure_gcm_status accept_short(const struct record *r, size_t fixed_length, const uint8_t *tag,
     size_t length)
 {
@@ -108,8 +110,8 @@ static enum fotsgure_gcm_status accept_short(const struct record *r, size_t fixe
     return status == FOTSGURE_GCM_DONE ? fotsgure_gcm_decrypt(&gcm, &message, at, r->cipher.count) : status;
 }
 
-/* A tag of another length: fotsgure_gcm_open refuses it by its length; the call for short tags takes it, unless it is
- * wrong or changed, or the length that is fixed is another. */
+/* A tag of another length: fotsgure_gcm_open refuses it by its length. The call for short tags accepts it, unless it is
+ * wrong or changed, or the fixed length is another. */
 static int check_short(const struct record *r)
 {
     uint8_t other[16];
@@ -218,8 +220,8 @@ static int from_hex(struct bytes *bytes, const char *digits)
     return 1;
 }
 
-/* Takes a line of a record in. */
-static int take(struct record *r, const char *line)
+/* Reads a line of a record. Returns 0 if its bytes are too many. */
+static int read_line(struct record *r, const char *line)
 {
     const struct { const char *name; struct bytes *value; } fields[] = {
         {"Key = ", &r->key}, {"KEY = ", &r->key}, {"K = ", &r->key}, {"IV = ", &r->iv}, {"AAD = ", &r->additional},
@@ -251,7 +253,7 @@ static int read_file(const char *name)
                 check(&record, name, number);
             memset(&record, 0, sizeof record);
             begun = 1;
-        } else if (!take(&record, line)) {
+        } else if (!read_line(&record, line)) {
             printf("line %zu of %s is too long\n", number, name);
             failed++;
         }

@@ -136,7 +136,7 @@ void counter_mode(const Row &row) {
     Bytes bytes = plain;
     moved.apply(bytes.data() + 3, 61);
     expect(std::equal(bytes.begin() + 3, bytes.end(), cipher.begin() + 3) && moved.position() == 64,
-        "a moved stream goes on", key.size());
+        "a moved stream continues", key.size());
     expect(throws<std::logic_error>([&] { ctr.apply(one); }) && one[0] == 0, "what was moved from has no key",
         key.size());
     expect(says("there is no key", [&] { ctr.apply(one); }), "no key is named", key.size());

@@ -102,7 +102,7 @@ function memory(results, { AesGcm }) {
   results.expect("200 keys", new Set(made).size === 200 && keys.every((it, i) => digits(it.seal(nonce, COUNTED)) === made[i]));
 }
 
-function besideNode(results, { Aes, AesGcm }, node) {
+function compareWithNode(results, { Aes, AesGcm }, node) {
   for (let i = 0; i < 400; i++) {
     const key = node.randomBytes([16, 24, 32][i % 3]), nonce = node.randomBytes(1 + (i % 40));
     const data = node.randomBytes(i % 53), text = node.randomBytes((i * i) % 1200), whole = text.subarray(0, text.length & -16);
@@ -125,6 +125,6 @@ export function check(fotsgure, node) {
   sealed(results, fotsgure, fotsgure.AesGcmSiv, SIV);
   arguments_(results, fotsgure);
   memory(results, fotsgure);
-  if (node) besideNode(results, fotsgure, node);
+  if (node) compareWithNode(results, fotsgure, node);
   return results;
 }

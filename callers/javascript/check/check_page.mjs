@@ -3,7 +3,7 @@ import { check } from "./check.mjs";
 import * as fotsgure from "./fotsgure.mjs";
 
 async function said() {
-  const [aes, gcm] = await Promise.all(["aes", "gcm"].map((it) => WebAssembly.compileStreaming(fetch(`${it}.wasm`))));
+  const [aes, gcm] = await Promise.all(["aes", "gcm"].map((name) => WebAssembly.compileStreaming(fetch(`${name}.wasm`))));
   fotsgure.load({ aes, gcm });
   const { passed, failed } = check(fotsgure);
   return [...failed.slice(0, 10), `${passed} passed, ${failed.length} failed`].join("\n");

@@ -1,4 +1,4 @@
-// AES by Node's crypto, which takes it from OpenSSL: round trips, wrong tags and truncated texts.
+// AES by Node's crypto, which uses OpenSSL's: round trips, wrong tags and truncated texts.
 // usage: OPENSSL_CONF=FILE node --openssl-shared-config node.js
 const crypto = require('crypto');
 

@@ -73,7 +73,7 @@ settings_stay() (
     under merged openssl list -providers | grep -w legacy && merged algorithms &&
         grep -x 'default_properties = ?fips=yes , ?x.y=z,?provider=fotsgure' "$work/merged.cnf"
 )
-# A system that demands `fips=yes` isn't given a file that takes this away; nor one that withholds the provider default that one.
+# A system may demand `fips=yes`, or withhold the provider default. Then it isn't given a file that changes this.
 demands_stay() {
     local properties
     for properties in '?x.y=z , fips=yes' 'fips = yes' 'a=b, fips=yes'; do

@@ -1,5 +1,5 @@
 /* Prints a file of configuration that gives programs AES from the module, and keeps the settings of another file. libcrypto reads
- * that one: so what it includes counts, and so do its variables and quotes. */
+ * the other file. So the files that it includes count, and its variables and quotes too. */
 #include "command.h"
 
 #include <openssl/conf.h>
@@ -28,7 +28,7 @@ static int is_whole(const char *path)
     return 0;
 }
 
-/* A value by its name in that very section: NCONF_get_string would look into the default section too. */
+/* A value by its name in this section alone. NCONF_get_string would look into the default section too. */
 static const char *value_of(const CONF *conf, const char *section, const char *name, const char *otherwise)
 {
     const STACK_OF(CONF_VALUE) *values = NCONF_get_section(conf, section);

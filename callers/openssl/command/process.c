@@ -1,5 +1,5 @@
-/* Says whether a process has loaded the module, which is then among the files that are mapped into its memory, and how many keys it has
- * set with it: what the module counts is read there. */
+/* Says whether a process has loaded the module, and how many keys it has set with it. A loaded module is among the files that are mapped
+ * into the memory of the process. The number of keys is read from that memory. */
 #define _DEFAULT_SOURCE
 #include "command.h"
 #include "../module/served.h"
@@ -10,7 +10,7 @@
 #include <string.h>
 #include <unistd.h>
 
-#define DELETED " (deleted)" /* what Linux adds to the path of a file that is gone, or that another one took the place of */
+#define DELETED " (deleted)" /* what Linux adds to the path of a file that is gone, or was replaced */
 
 /* The module in a process, by the lines of its maps. */
 struct found {

@@ -14,7 +14,7 @@ static const char *name_of(const OSSL_PROVIDER *provider)
     return provider ? OSSL_PROVIDER_get0_name(provider) : "none";
 }
 
-/* Encrypts 32 bytes, which every mode takes, key wrap too. */
+/* Encrypts 32 bytes, a length that every mode allows, also key wrap. */
 static int encrypts(const EVP_CIPHER *cipher)
 {
     const unsigned char zeros[32] = {0};

@@ -1,6 +1,6 @@
 /* ECB, CBC and CTR (SP 800-38A): what OpenSSL's interface asks for, around calls of the proved library. Padding, and
- * the MAC of a record of TLS, are taken off in constant time: neither a branch nor an address depends on the padding,
- * but for what the interface itself shows. */
+ * the MAC of a record of TLS, are removed in constant time: neither a branch nor an address depends on the padding,
+ * except for what the interface itself shows. */
 #include "provider.h"
 
 /* Processes whole blocks in place, and in counter mode any number of bytes. */
@@ -8,7 +8,7 @@ static int process(struct context *c, byte *text, size_t length)
 {
     size_t count = length / BLOCK;
     enum fotsgure_aes_status status;
-    COUNTED(c->algorithm, 2, length);
+    COUNTED(c->algorithm, BYTES_OF_TEXT, length);
     if (is_mode(c, EVP_CIPH_CTR_MODE))
         status = fotsgure_aes_add_keystream(&c->aes, &c->ctr, text, length);
     else if (is_mode(c, EVP_CIPH_CBC_MODE))
@@ -39,7 +39,7 @@ static size_t padding_length(const byte last[BLOCK])
     return n & less(n, BLOCK + 1) & ends_in(last, BLOCK, n, n, BLOCK);
 }
 
-/* Takes padding (n + 1 bytes of n: RFC 5246, 6.2.3.2) and MAC off a decrypted record. If the padding is wrong, libssl
+/* Removes padding (n + 1 bytes of n: RFC 5246, 6.2.3.2) and MAC from a decrypted record. If the padding is wrong, libssl
  * gets a wrong MAC. */
 static int open_record(struct context *c, byte *record, size_t *length)
 {
@@ -93,7 +93,7 @@ int block_cipher(void *context, byte *out, size_t *out_length, size_t out_size, 
 
 /* Moves what was kept and the first of `in` to `out`, `ready` bytes in all, and keeps the rest. Nothing of `in` is
  * overwritten before it is read, however the two overlap. */
-static void take(struct context *c, byte *out, const byte *in, size_t length, size_t ready)
+static void keep_rest(struct context *c, byte *out, const byte *in, size_t length, size_t ready)
 {
     size_t before = c->kept_length, taken = ready - before;
     byte rest[BLOCK];
@@ -126,7 +126,7 @@ int block_update(void *context, byte *out, size_t *out_length, size_t out_size, 
         c->kept_length = total;
         return 1;
     }
-    take(c, out, in, length, total - keep);
+    keep_rest(c, out, in, length, total - keep);
     *out_length = total - keep;
     return process(c, out, total - keep);
 }

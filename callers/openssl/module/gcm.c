@@ -62,7 +62,7 @@ static int record(struct context *c, byte *out, size_t *out_length, const byte *
     if (out != in || length < EXPLICIT + TAG || !is_counted(c))
         return 0;
     c->stage = ENDED;
-    COUNTED(c->algorithm, 2, count);
+    COUNTED(c->algorithm, BYTES_OF_TEXT, count);
     if (c->encrypts) {
         memcpy(out, nonce + nonce_length - EXPLICIT, EXPLICIT);
         status = fotsgure_gcm_seal(&c->gcm, nonce, nonce_length, c->header, HEADER, text, count, text + count);
@@ -78,7 +78,7 @@ static int record(struct context *c, byte *out, size_t *out_length, const byte *
 /* Decrypted text is given out before the tag is compared: that is OpenSSL's contract. */
 static int process(struct context *c, byte *out, const byte *in, size_t length)
 {
-    COUNTED(c->algorithm, out ? 2 : 3, length);
+    COUNTED(c->algorithm, out ? BYTES_OF_TEXT : BYTES_OF_ADDITIONAL_DATA, length);
     if (!out)
         return fotsgure_gcm_additional(&c->gcm, &c->message, in, length) == FOTSGURE_GCM_DONE;
     if (out != in)

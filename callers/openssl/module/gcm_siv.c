@@ -1,6 +1,6 @@
-/* AES-GCM-SIV (RFC 8452) over the proved library. A message takes two passes over its text, so all of the text comes in
- * one call, as OpenSSL's own provider wants it. Its additional data may come in pieces, and is kept until then. No text is
- * given out before its tag was compared: so the tag to compare has to be set before the text comes. */
+/* AES-GCM-SIV (RFC 8452) over the proved library. A message needs two passes over its text. So all of the text comes in one
+ * call, as OpenSSL's own provider wants it. Its additional data may come in pieces, and is kept until then. No text is given
+ * out before its tag was compared. So the tag to compare has to be set before the text comes. */
 #include "provider.h"
 
 #include <stdlib.h>
@@ -39,7 +39,7 @@ static int keep(struct context *c, const byte *in, size_t length)
 static int process(struct context *c, byte *out, const byte *in, size_t length)
 {
     enum fotsgure_gcm_status status;
-    COUNTED(c->algorithm, 2, length);
+    COUNTED(c->algorithm, BYTES_OF_TEXT, length);
     c->stage = ENDED;
     if (!c->encrypts && c->tag_length != TAG)
         return fail(c, PROV_R_INVALID_TAG);

@@ -1,10 +1,10 @@
 /* A provider for OpenSSL 3 and later, "fotsgure": AES in ECB, CBC, CTR, GCM, GCM-SIV and key wrap over the proved C libraries
  * fotsgure_aes and fotsgure_gcm. docs/OPENSSL.md says how to build it and switch it on, and what of it is proved.
  *
- * No branch and no address depends on a key or on data, but for what OpenSSL's interface itself shows: whether a tag, a
- * padding or a wrapped key was right, and the length of an unpadded text.
+ * No branch and no address depends on a key or on data, except for what OpenSSL's interface itself shows. That is whether a
+ * tag, a padding or a wrapped key was right, and the length of an unpadded text.
  *
- * The module takes nothing from libcrypto. What it needs comes through the table that OpenSSL hands to
+ * The module calls nothing of libcrypto. What it needs comes through the table that OpenSSL hands to
  * OSSL_provider_init. So it also loads into programs that have OpenSSL inside them. */
 #include "provider.h"
 #include "served.h"
@@ -23,7 +23,7 @@ static void *new_context(void *provider, const struct algorithm *algorithm)
     c->iv_length = algorithm->iv_length;
     if (algorithm->first_iv)
         memcpy(c->iv, algorithm->first_iv, c->iv_length);
-    COUNTED(algorithm, 0, 0);
+    COUNTED(algorithm, CONTEXTS_MADE, 1);
     return c;
 }
 
@@ -101,7 +101,7 @@ static int set_key(struct context *c, const byte *key, size_t length)
 {
     if (length != c->algorithm->key_length)
         return 0;
-    COUNTED(c->algorithm, 1, 0);
+    COUNTED(c->algorithm, KEYS_SET, 1);
     atomic_fetch_add_explicit(&served.keys, 1, memory_order_relaxed);
     c->has_key = 1;
     if (is_mode(c, EVP_CIPH_GCM_MODE))
@@ -111,7 +111,7 @@ static int set_key(struct context *c, const byte *key, size_t length)
     return fotsgure_aes_set_key(&c->aes, key, length) == FOTSGURE_AES_DONE;
 }
 
-/* A key, an initialization vector or nonce, both, or neither. Without a new vector, CBC takes the same again, and
+/* A key, an initialization vector or nonce, both, or neither. Without a new vector, CBC begins with the same again, and
  * counter mode continues with the next block. In GCM, another key ends a message that has begun. */
 static int begin(struct context *c, const byte *key, size_t key_length, const byte *iv, size_t iv_length,
     const OSSL_PARAM params[])
@@ -189,24 +189,26 @@ LIST(gettable_provider_params, (void *provider), TEXT(NAME), TEXT(VERSION),
  * take text, and its constants. Key wrap begins with the values of SP 800-38F, 6.2 and 6.3. */
 #define OID(last) ":2.16.840.1.101.3.4.1." #last
 #define BUFFERED block_update, block_cipher, block_final
-#define WRAP wrap_update, NULL, block_final, EVP_CIPH_WRAP_MODE
-#define KW "\xa6\xa6\xa6\xa6\xa6\xa6\xa6\xa6"
-#define KWP "\xa6\x59\x59\xa6"
+#define WRAP wrap_update, NULL, block_final, .mode = EVP_CIPH_WRAP_MODE, .block = 8
+#define KW .iv_length = 8, .first_iv = "\xa6\xa6\xa6\xa6\xa6\xa6\xa6\xa6"
+#define KWP .iv_length = 4, .first_iv = "\xa6\x59\x59\xa6", .padded = 1
 #define ALGORITHMS(DO, bits, k, of_ecb, of_cbc, of_kw, of_gcm, of_kwp) \
-    DO(ecb##bits, "AES-" #bits "-ECB" OID(of_ecb), BUFFERED, EVP_CIPH_ECB_MODE, k, BLOCK, 0, NULL, 0, 0) \
-    DO(cbc##bits, "AES-" #bits "-CBC:AES" #bits OID(of_cbc), BUFFERED, EVP_CIPH_CBC_MODE, k, BLOCK, BLOCK, NULL, 0, 0) \
+    DO(ecb##bits, "AES-" #bits "-ECB" OID(of_ecb), BUFFERED, .mode = EVP_CIPH_ECB_MODE, .key_length = k, .block = BLOCK) \
+    DO(cbc##bits, "AES-" #bits "-CBC:AES" #bits OID(of_cbc), BUFFERED, \
+        .mode = EVP_CIPH_CBC_MODE, .key_length = k, .block = BLOCK, .iv_length = BLOCK) \
     DO(ctr##bits, "AES-" #bits "-CTR", block_cipher, block_cipher, block_final, \
-        EVP_CIPH_CTR_MODE, k, 1, BLOCK, NULL, 0, 0) \
+        .mode = EVP_CIPH_CTR_MODE, .key_length = k, .block = 1, .iv_length = BLOCK) \
     DO(gcm##bits, "AES-" #bits "-GCM:id-aes" #bits "-GCM" OID(of_gcm), gcm_update, gcm_cipher, gcm_final, \
-        EVP_CIPH_GCM_MODE, k, 1, FOTSGURE_GCM_NONCE, NULL, 0, 0) \
-    DO(kw##bits, "AES-" #bits "-WRAP:id-aes" #bits "-wrap:AES" #bits "-WRAP" OID(of_kw), WRAP, k, 8, 8, KW, 0, 0) \
+        .mode = EVP_CIPH_GCM_MODE, .key_length = k, .block = 1, .iv_length = FOTSGURE_GCM_NONCE) \
+    DO(kw##bits, "AES-" #bits "-WRAP:id-aes" #bits "-wrap:AES" #bits "-WRAP" OID(of_kw), \
+        WRAP, KW, .key_length = k) \
     DO(kwp##bits, "AES-" #bits "-WRAP-PAD:id-aes" #bits "-wrap-pad:AES" #bits "-WRAP-PAD" OID(of_kwp), \
-        WRAP, k, 8, 4, KWP, 0, 1) \
-    DO(inverse_kw##bits, "AES-" #bits "-WRAP-INV:AES" #bits "-WRAP-INV", WRAP, k, 8, 8, KW, 1, 0) \
-    DO(inverse_kwp##bits, "AES-" #bits "-WRAP-PAD-INV:AES" #bits "-WRAP-PAD-INV", WRAP, k, 8, 4, KWP, 1, 1)
+        WRAP, KWP, .key_length = k) \
+    DO(inverse_kw##bits, "AES-" #bits "-WRAP-INV:AES" #bits "-WRAP-INV", WRAP, KW, .key_length = k, .inverse = 1) \
+    DO(inverse_kwp##bits, "AES-" #bits "-WRAP-PAD-INV:AES" #bits "-WRAP-PAD-INV", WRAP, KWP, .key_length = k, .inverse = 1)
 #define GCM_SIV(DO, bits, k) \
-    DO(gcm_siv##bits, "AES-" #bits "-GCM-SIV", gcm_siv_update, gcm_siv_cipher, gcm_siv_final, EVP_CIPH_GCM_SIV_MODE, k, 1, \
-        FOTSGURE_GCM_SIV_NONCE, NULL, 0, 0)
+    DO(gcm_siv##bits, "AES-" #bits "-GCM-SIV", gcm_siv_update, gcm_siv_cipher, gcm_siv_final, \
+        .mode = EVP_CIPH_GCM_SIV_MODE, .key_length = k, .block = 1, .iv_length = FOTSGURE_GCM_SIV_NONCE)
 #define ALL(DO) \
     GCM_SIV(DO, 128, 16) GCM_SIV(DO, 256, 32) \
     ALGORITHMS(DO, 128, 16, 1, 2, 5, 6, 8) \

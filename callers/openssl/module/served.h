@@ -1,4 +1,4 @@
-/* How many keys a process has set by the module. The module keeps the number in its memory, behind a mark, and fotsgure-openssl finds it
+/* How many keys a process has set by the module. The module keeps the number in its memory, after a mark, and fotsgure-openssl finds it
  * there. */
 #ifndef FOTSGURE_SERVED_H
 #define FOTSGURE_SERVED_H

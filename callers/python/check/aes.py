@@ -72,7 +72,7 @@ for key, digits in F_ROWS:
 expect(all(refused(lambda: Aes(bytes(size))) for size in range(34) if size not in (16, 24, 32)),
     "other lengths are refused")
 
-# What has no bytes is refused, and not taken as zeros, as bytes(16) and bytes([0] * 16) would be.
+# What has no bytes is refused, and not read as zeros, as bytes(16) and bytes([0] * 16) would be.
 aes = Aes(bytes(range(16)))
 for thing in (16, 0, -1, True, 1.5, None, [0] * 16, (0,) * 16, [256] * 16, range(16), "0123456789abcdef", object()):
     expect(refused(lambda: Aes(thing), TypeError), f"{thing!r} is no key")
@@ -86,7 +86,7 @@ for position in (-1, -16, 2 ** 64, 2 ** 64 + 16, 2 ** 200):
 for position in (1.0, "1", None, b"1"):
     expect(refused(lambda: aes.keystream(F_IV, position), TypeError), f"{position!r} is no position")
 expect(aes.keystream(F_IV, 2 ** 64 - 1).position == 2 ** 64 - 1, "the last position")
-# Whatever has bytes is taken by all of them.
+# All calls accept whatever has bytes.
 words, text = array.array("I", range(16)), array.array("I", range(16)).tobytes()
 expect(words.itemsize == 4 and aes.encrypt(words) == aes.encrypt(text) and len(aes.encrypt(words)) == 64, "an array")
 expect(words.tobytes() == text, "an array is not changed in place")

@@ -1,6 +1,6 @@
-"""The modules for Python, GCM and AESGCM: test cases 2, 4 and 16 of the submission of GCM (McGrew and Viega, appendix
-B), texts of 0 to 300 bytes there and back, every refusal, arguments that are no bytes, threads, forks, and the package
-cryptography 48 beside AESGCM if it is installed. The last line is `N passed, M failed`."""
+"""The modules for Python, fotsgure.gcm and fotsgure.aead. It tries test cases 2, 4 and 16 of the submission of GCM (McGrew and
+Viega, appendix B); texts of 0 to 300 bytes there and back; every refusal; arguments that are no bytes; threads and forks. It
+compares AESGCM with that of the package cryptography 48 if it is installed. The last line is `N passed, M failed`."""
 import array
 import copy
 import ctypes
@@ -149,7 +149,7 @@ with Gcm(KEY) as gcm:
         expect(raises(ValueError, message.decrypt, b"!"), "more than was verified, in a second piece")
     expect(raises(ValueError, message.encrypt, b""), "the end of a with wipes a message")
 
-# What has no bytes is refused, and not taken as zeros, as bytes(16) and bytes([0] * 16) would be.
+# What has no bytes is refused, and not read as zeros, as bytes(16) and bytes([0] * 16) would be.
 NOTHINGS = (16, 12, 0, -1, True, 1.5, [0] * 16, (0,) * 12, [256] * 12, range(12), "0123456789ab", object())
 gcm, tag = Gcm(KEY, bytes(12)), bytes(16)
 for thing in (None, *NOTHINGS):
@@ -174,7 +174,7 @@ for thing in (gcm, GcmSiv(KEY), gcm.begin(NONCE)):
             words = str(error)
         expect(words.startswith("cannot pickle or copy a key"), f"{call} of {thing}: {words}")
         words = "no error"
-# Whatever has bytes is taken by all of them.
+# All calls accept whatever has bytes.
 words, text = array.array("I", range(9)), array.array("I", range(9)).tobytes()
 expect(words.itemsize == 4 and gcm.seal(words[:3], words, words) == gcm.seal(text[:12], text, text), "arrays")
 expect(gcm.open(words[:3], bytearray(gcm.seal(text[:12], text)), memoryview(b"")) == text, "a bytearray, a memoryview")
@@ -225,8 +225,8 @@ if child == 0:
 expect(os.waitpid(child, 0)[1] == 0, "a forked child has no counter and no message, and seals under a nonce of its own")
 done.set()
 thread.join()
-expect(gcm.seal_next(PLAIN)[0] == bytes(12) and gcm.counter == bytes(11) + b"\1", "the parent goes on")
-expect(len(message.encrypt(PLAIN)) == len(PLAIN), "the parent's message goes on")
+expect(gcm.seal_next(PLAIN)[0] == bytes(12) and gcm.counter == bytes(11) + b"\1", "the parent continues")
+expect(len(message.encrypt(PLAIN)) == len(PLAIN), "the parent's message continues")
 
 # One message in four threads: no two of its pieces have the same keystream.
 sys.setswitchinterval(1e-5)

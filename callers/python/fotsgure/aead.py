@@ -1,10 +1,10 @@
 """AESGCM and AESGCMSIV as version 48 of the package cryptography has them (hazmat.primitives.ciphers.aead), over the
 proved library: change the import alone.
 
-It has that package's calls, types of errors and words of ValueErrors and BufferErrors, and raises its InvalidTag if the
-package is there, and else its own. It accepts more types as bytes: the head of fotsgure.gcm lists them. If `decrypt_into`
-raises InvalidTag, the buffer is as it was; that package has then written text there that nobody authenticated. RFC 8452
-has no keys of 24 bytes, and so AESGCMSIV has none.
+It has that package's calls and types of errors, and the words of its ValueErrors and BufferErrors. It raises that package's
+InvalidTag if the package is installed, and else one of its own. It accepts more types as bytes: the head of fotsgure.gcm
+lists them. If `decrypt_into` raises InvalidTag, the buffer is unchanged. That package has then written text into it that
+nobody authenticated. RFC 8452 has no keys of 24 bytes, and so AESGCMSIV has none.
 """
 import operator
 import os
@@ -21,7 +21,7 @@ except ImportError:
 
 
 class _Aead(Secret):
-    """What both have."""
+    """What AESGCM and AESGCMSIV share: how a key is drawn and checked, and the calls on messages."""
 
     _mode: Union[Gcm, GcmSiv]
     _sizes: Tuple[int, ...] = (128, 192, 256)
@@ -44,13 +44,13 @@ class _Aead(Secret):
         return view
 
     def encrypt(self, nonce: Bytes, data: Bytes, associated_data: Optional[Bytes]) -> bytes:
-        """Encrypts: returns the encrypted data and the tag of 16 bytes behind it."""
+        """Encrypts: returns the encrypted data followed by the tag of 16 bytes."""
         message = _views(nonce, data, associated_data)
         self._check(*message)
         return self._mode.seal(*message)
 
     def encrypt_into(self, nonce: Bytes, data: Bytes, associated_data: Optional[Bytes], buf: Bytes) -> int:
-        """Writes what `encrypt` returns into a buffer of just so many bytes, and returns how many."""
+        """Writes what `encrypt` returns into a buffer of exactly that length, and returns the length."""
         message, place = _views(nonce, data, associated_data), _writable(buf)
         self._check(*message)
         _fits(place, message[1].nbytes + 16)
@@ -63,7 +63,7 @@ class _Aead(Secret):
         return self._opened(*message)
 
     def decrypt_into(self, nonce: Bytes, data: Bytes, associated_data: Optional[Bytes], buf: Bytes) -> int:
-        """Writes what `decrypt` returns into a buffer of just so many bytes, and returns how many."""
+        """Writes what `decrypt` returns into a buffer of exactly that length, and returns the length."""
         message, place = _views(nonce, data, associated_data), _writable(buf)
         self._check(*message)
         if message[1].nbytes < 16:

@@ -4,8 +4,8 @@
         aes.encrypt(blocks); aes.decrypt(blocks)           bytes in, bytes out; a bytearray in place
         stream = aes.keystream(iv); stream.apply(data)     counter mode, however data is cut
 
-What counts as bytes is said at the head of fotsgure.gcm. FOTSGURE_AES names the library's file; without it the one
-that pip built is taken, or the loader searches. Python copies bytes as it likes, so only the key schedule is wiped.
+The head of fotsgure.gcm says what counts as bytes. FOTSGURE_AES names the library's file. Without it, the module loads the
+library that pip built, or the loader searches for one. Python copies bytes as it likes, so only the key schedule is wiped.
 """
 import ctypes
 from typing import Any, Tuple, Union

@@ -18,9 +18,9 @@ A key is os.urandom(32), kept where nobody else reads it. A password is no key. 
 Random ones have 12 bytes or more; if any nonce of a key is random or has another length than 12 bytes, use a new key
 before 2^32 messages. In AES-GCM-SIV a nonce that is used twice only shows whether the two messages are the same.
 
-What counts as bytes: bytes, a bytearray, and whatever else has a length and a C-contiguous buffer of one dimension or
-more that holds numbers or single bytes, as a memoryview, an array.array or an array of numpy. Its bytes are used. A
-view with gaps raises BufferError, and anything else TypeError: a number is no bytes, not even one of numpy or ctypes.
+What counts as bytes: bytes, a bytearray, a memoryview, an array.array, an array of numpy. Any object does that has a length
+and a C-contiguous buffer of numbers or single bytes, in one dimension or more. Its bytes are used. A view with gaps raises
+BufferError. Anything else raises TypeError: a number is no bytes, not even one of numpy or ctypes.
 
 FOTSGURE_GCM names the library's file. Without it, the module loads the library that pip built, or the loader searches for one.
 Python copies bytes as it likes, so only the prepared key is wiped.
@@ -98,8 +98,8 @@ def _check(status: int, changed: Sequence[int] = ()) -> None:
 
 
 class GcmSiv(Secret):
-    """A key of AES-GCM-SIV, of 16 or 32 bytes. Threads may share it. `wipe`, or the end of a `with`, wipes what was
-    prepared of it, not the bytes given. It waits for calls that run, and later ones raise ValueError."""
+    """A key of AES-GCM-SIV, of 16 or 32 bytes. Threads may share it. `wipe`, or the end of a `with`, wipes the prepared
+    key, not the bytes given. It waits for calls that run, and later ones raise ValueError."""
 
     def __init__(self, key: Bytes) -> None:
         key = bytes_of(key)
@@ -107,8 +107,7 @@ class GcmSiv(Secret):
         _check(_c.fotsgure_gcm_siv_set_key(self._key, key, len(key)))
 
     def seal_random(self, text: Bytes, additional: Optional[Bytes] = None) -> Tuple[bytes, bytes]:
-        """Encrypts under a nonce that is drawn at random: returns that nonce, and the encrypted text with its tag behind
-        it."""
+        """Encrypts under a nonce that is drawn at random: returns that nonce, and the encrypted text followed by its tag."""
         text, additional = bytes_of(text), bytes_or_none(additional)
         nonce, buffer, tag = room(bytes(12)), room(text), room(bytes(16))
         with self._uses:
@@ -116,7 +115,7 @@ class GcmSiv(Secret):
         return written(nonce, 12), written(buffer, len(text)) + written(tag, 16)
 
     def seal(self, nonce: Bytes, text: Bytes, additional: Optional[Bytes] = None) -> bytes:
-        """Encrypts under a nonce of yours, of 12 bytes: returns the encrypted text and the tag behind it."""
+        """Encrypts under a nonce of yours, of 12 bytes: returns the encrypted text followed by the tag."""
         nonce, text, additional = bytes_of(nonce), bytes_of(text), bytes_or_none(additional)
         _check(0 if len(nonce) == 12 else _NONCE_LENGTH)
         buffer, tag = room(text), room(bytes(16))
@@ -125,7 +124,7 @@ class GcmSiv(Secret):
         return written(buffer, len(text)) + written(tag, 16)
 
     def open(self, nonce: Bytes, sealed: Bytes, additional: Optional[Bytes] = None) -> bytes:
-        """Decrypts what `seal` or `seal_random` returned, or raises Refused: also if a nonce hasn't 12 bytes, or the tag
+        """Decrypts what `seal` or `seal_random` returned, or raises Refused: also if the nonce doesn't have 12 bytes, or the tag
         isn't whole."""
         nonce, sealed, additional = bytes_of(nonce), bytes_of(sealed), bytes_or_none(additional)
         text, tag = sealed[:-16], sealed[-16:]
@@ -147,7 +146,7 @@ class GcmSiv(Secret):
 
 
 class Gcm(Secret):
-    """A key of 16, 24 or 32 bytes. `wipe`, or the end of a `with`, wipes what was prepared of it, not the bytes given. It
+    """A key of 16, 24 or 32 bytes. `wipe`, or the end of a `with`, wipes the prepared key, not the bytes given. It
     waits for calls that run, and later ones raise ValueError. `counter` is the next nonce of `seal_next`, and None
     without one. Store it before a message is sent, and give it to the next Gcm of the same key. Threads may share a Gcm,
     but let one at a time call `seal_next` and store `counter`, so that the highest is stored last. In a process that was
@@ -170,7 +169,7 @@ class Gcm(Secret):
             return bytes(self._counter.next)
 
     def seal(self, nonce: Bytes, text: Bytes, additional: Optional[Bytes] = None) -> bytes:
-        """Encrypts: returns the encrypted text and the tag behind it."""
+        """Encrypts: returns the encrypted text followed by the tag."""
         nonce, text, additional = bytes_of(nonce), bytes_of(text), bytes_or_none(additional)
         buffer, tag = room(text), room(bytes(16))
         with self._uses:
@@ -252,7 +251,7 @@ class Message(Secret):
         return written(buffer, len(data))
 
     def additional(self, data: Bytes) -> None:
-        """Takes a piece of the additional data, all of which comes before the text."""
+        """Takes a piece of the additional data. All of it comes before the text."""
         self._takes(_c.fotsgure_gcm_additional, data)
 
     def encrypt(self, text: Bytes) -> bytes:
@@ -266,7 +265,7 @@ class Message(Secret):
         return written(tag, 16)
 
     def verify(self, sealed: Bytes) -> None:
-        """Takes a piece of an encrypted text, whose tag is to be compared."""
+        """Takes a piece of an encrypted text, whose tag `accept` compares later."""
         self._takes(_c.fotsgure_gcm_verify, sealed)
 
     def accept(self, tag: Bytes) -> None:
@@ -279,7 +278,7 @@ class Message(Secret):
 
     def decrypt(self, sealed: Bytes) -> bytes:
         """Decrypts a piece of the text whose tag was right: the same text once more, from its beginning on. More than
-        was verified raises ValueError; count the bytes of both passes to see whether all of it came."""
+        was verified raises ValueError. Count the bytes of both passes to see whether all of it came."""
         return self._turns(_c.fotsgure_gcm_decrypt, sealed)
 
     def decrypt_unverified(self, sealed: Bytes) -> bytes:

@@ -20,9 +20,9 @@ Call = Tuple[str, list, Optional[type]]
 
 
 def load(name: str, version: int, calls: Iterable[Call]) -> ctypes.CDLL:
-    """The library of that name: from the file that the variable of its name in capitals names, or beside this file, where
-    pip puts one, or where the loader searches. `version` is 100 times the first number plus the second: before 1.0,
-    structs may grow with either."""
+    """Loads the library of that name. An environment variable with the name in capitals names its file. Without it the
+    file is next to this one, where pip puts it, or else where the loader searches. `version` is 100 times the first
+    number plus the second: before 1.0, structs may grow with either."""
     numbers = f"{version // 100}.{version % 100}"
     # On Windows a file is searched for, in PATH.
     wanted, file = (f"lib{name}-{numbers}.dll",) * 2 if os.name == "nt" else (name, f"lib{name}.so.{numbers}")
@@ -52,7 +52,7 @@ _ITEMS = frozenset("cbB?hHiIlLqQnNefd")
 
 def view_of(data: Bytes) -> memoryview:
     """A view of data whose buffer is C-contiguous, has one dimension or more, and holds numbers or single bytes. A view
-    with gaps is a BufferError. Anything else is a TypeError: an integer, a number of numpy or ctypes, a list, text, an
+    with gaps raises BufferError. Anything else raises TypeError: an integer, a number of numpy or ctypes, a list, text, an
     array of objects."""
     try:
         view = memoryview(data)
@@ -101,8 +101,8 @@ class Secret:
 
 
 class Turn:
-    """Lets one thread at a time use what returns each value only once (a counter, a message, a keystream), and only in
-    the process that made it: a fork copies it, and both copies would return the same values."""
+    """Lets one thread at a time use what returns each value only once: a counter, a message, a keystream. It can be used
+    only in the process that made it. A fork copies it, and both copies would return the same values."""
 
     def __init__(self, what: str) -> None:
         self._what, self._process, self._lock = what, os.getpid(), threading.RLock()

@@ -6,7 +6,7 @@ use std::fmt;
 /// Cipher block chaining under a key that is lent (SP 800-38A, 6.2), on whole blocks. However blocks are cut into calls, the
 /// result is the same.
 ///
-/// It doesn't show whether a message was changed, and a program that reveals whether padding was right reveals messages:
+/// It doesn't show whether a message was changed. A program that reveals whether padding was right reveals messages. So
 /// first check a tag over the initialization vector and the encrypted blocks. Draw the vector at random for each message.
 ///
 /// ```
@@ -35,17 +35,19 @@ impl<'a> Cbc<'a> {
 
     /// Encrypts the next blocks of a message in place.
     pub fn encrypt(&mut self, blocks: &mut [[u8; 16]]) {
-        let (at, count) = (blocks.as_mut_ptr().cast(), blocks.len());
         // SAFETY: the references are valid for the call, and two of them are mutable, so that they don't overlap.
-        let status = unsafe { c::fotsgure_aes_cbc_encrypt(self.aes.as_c(), &mut self.cbc, at, count) };
+        let status = unsafe {
+            c::fotsgure_aes_cbc_encrypt(self.aes.as_c(), &mut self.cbc, blocks.as_mut_ptr().cast(), blocks.len())
+        };
         assert_eq!(status, c::FOTSGURE_AES_DONE);
     }
 
     /// Decrypts the next blocks of a message in place.
     pub fn decrypt(&mut self, blocks: &mut [[u8; 16]]) {
-        let (at, count) = (blocks.as_mut_ptr().cast(), blocks.len());
-        // SAFETY: as above.
-        let status = unsafe { c::fotsgure_aes_cbc_decrypt(self.aes.as_c(), &mut self.cbc, at, count) };
+        // SAFETY: as in `encrypt`.
+        let status = unsafe {
+            c::fotsgure_aes_cbc_decrypt(self.aes.as_c(), &mut self.cbc, blocks.as_mut_ptr().cast(), blocks.len())
+        };
         assert_eq!(status, c::FOTSGURE_AES_DONE);
     }
 }

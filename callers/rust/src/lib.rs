@@ -24,7 +24,8 @@
 //!
 //! # Where it works
 //!
-//! On x86-64 (Linux, Android, the BSDs, Windows), on 64-bit ARM and RISC-V, and on 32-bit ARM (Linux). rustc assembles the code, so no C compiler is needed. No instructions for AES are used, and no tables in memory.
+//! On x86-64 (Linux, Android, the BSDs, Windows), on 64-bit ARM and RISC-V, and on 32-bit ARM (Linux). rustc assembles the
+//! code, so no C compiler is needed. No instructions for AES are used, and no tables in memory.
 //!
 //! Keys are on the heap, so that a move leaves no copy, and are wiped when a value is dropped.
 
@@ -44,7 +45,7 @@ use std::mem::MaybeUninit;
 
 /// Returns the version of the assembly: 10000 times the first number, 100 times the second, plus the third.
 pub fn version() -> u32 {
-    // SAFETY: the call takes nothing.
+    // SAFETY: the call has no arguments.
     unsafe { c::fotsgure_aes_version() }
 }
 
@@ -128,17 +129,15 @@ impl Aes {
 
     /// Encrypts every block in place (Cipher, FIPS 197, 5.1).
     pub fn encrypt_blocks(&self, blocks: &mut [[u8; 16]]) {
-        let (at, count) = (blocks.as_mut_ptr().cast(), blocks.len());
         // SAFETY: the struct has a key, which `new` set; the slice is borrowed for the call.
-        let status = unsafe { c::fotsgure_aes_encrypt_blocks(self.as_c(), at, count) };
+        let status = unsafe { c::fotsgure_aes_encrypt_blocks(self.as_c(), blocks.as_mut_ptr().cast(), blocks.len()) };
         assert_eq!(status, c::FOTSGURE_AES_DONE);
     }
 
     /// Decrypts every block in place (InvCipher, FIPS 197, 5.3).
     pub fn decrypt_blocks(&self, blocks: &mut [[u8; 16]]) {
-        let (at, count) = (blocks.as_mut_ptr().cast(), blocks.len());
-        // SAFETY: as above.
-        let status = unsafe { c::fotsgure_aes_decrypt_blocks(self.as_c(), at, count) };
+        // SAFETY: as in `encrypt_blocks`.
+        let status = unsafe { c::fotsgure_aes_decrypt_blocks(self.as_c(), blocks.as_mut_ptr().cast(), blocks.len()) };
         assert_eq!(status, c::FOTSGURE_AES_DONE);
     }
 
@@ -207,9 +206,8 @@ impl Keystream<'_> {
     ///
     /// [`KeystreamEnd`] if the position would pass 2^64 - 1.
     pub fn apply(&mut self, bytes: &mut [u8]) -> Result<(), KeystreamEnd> {
-        let (at, count) = (bytes.as_mut_ptr(), bytes.len());
         // SAFETY: the references are valid for the call, and two of them are mutable, so that they don't overlap.
-        done(unsafe { c::fotsgure_aes_add_keystream(self.aes.as_c(), &mut self.ctr, at, count) })
+        done(unsafe { c::fotsgure_aes_add_keystream(self.aes.as_c(), &mut self.ctr, bytes.as_mut_ptr(), bytes.len()) })
     }
 
     /// Encrypts or decrypts bytes into a buffer of the same length, and moves the position on.
@@ -223,9 +221,17 @@ impl Keystream<'_> {
     /// Panics if the slices differ in length.
     pub fn apply_to(&mut self, input: &[u8], output: &mut [u8]) -> Result<(), KeystreamEnd> {
         assert_eq!(input.len(), output.len(), "input and output differ in length");
-        let (from, to, count) = (input.as_ptr(), output.as_mut_ptr(), output.len());
-        // SAFETY: as above.
-        done(unsafe { c::fotsgure_aes_add_keystream_to(self.aes.as_c(), &mut self.ctr, from, count, to, count) })
+        // SAFETY: as in `apply`.
+        done(unsafe {
+            c::fotsgure_aes_add_keystream_to(
+                self.aes.as_c(),
+                &mut self.ctr,
+                input.as_ptr(),
+                input.len(),
+                output.as_mut_ptr(),
+                output.len(),
+            )
+        })
     }
 
     /// How many bytes of the keystream come before the next.
@@ -239,7 +245,7 @@ impl Keystream<'_> {
     }
 }
 
-/// What a call says that adds keystream under a key.
+/// The result of a call that adds keystream under a key.
 fn done(status: u32) -> Result<(), KeystreamEnd> {
     match status {
         c::FOTSGURE_AES_DONE => Ok(()),

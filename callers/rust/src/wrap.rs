@@ -64,10 +64,12 @@ impl KeyWrap {
     ///
     /// [`NotWrapped::Length`].
     pub fn wrap(&self, key: &[u8], output: &mut [u8]) -> Result<(), NotWrapped> {
-        let (from, input_count) = (key.as_ptr(), semiblocks(key)?);
-        let (to, output_count) = (output.as_mut_ptr(), semiblocks(output)?);
-        // SAFETY: the struct has a key; the slices are borrowed for the call, and have as many semiblocks.
-        wrapped(unsafe { c::fotsgure_aes_wrap(self.0.as_c(), from, input_count, to, output_count) })
+        let input_count = semiblocks(key)?;
+        let output_count = semiblocks(output)?;
+        // SAFETY: the struct has a key. The slices are borrowed for the call, and have as many semiblocks.
+        wrapped(unsafe {
+            c::fotsgure_aes_wrap(self.0.as_c(), key.as_ptr(), input_count, output.as_mut_ptr(), output_count)
+        })
     }
 
     /// Unwraps it again into an output that has 8 bytes less (6.2).
@@ -76,10 +78,12 @@ impl KeyWrap {
     ///
     /// [`NotWrapped::Length`], [`NotWrapped::Refused`].
     pub fn unwrap(&self, wrapped_key: &[u8], output: &mut [u8]) -> Result<(), NotWrapped> {
-        let (from, input_count) = (wrapped_key.as_ptr(), semiblocks(wrapped_key)?);
-        let (to, output_count) = (output.as_mut_ptr(), semiblocks(output)?);
-        // SAFETY: as above.
-        wrapped(unsafe { c::fotsgure_aes_unwrap(self.0.as_c(), from, input_count, to, output_count) })
+        let input_count = semiblocks(wrapped_key)?;
+        let output_count = semiblocks(output)?;
+        // SAFETY: as in `wrap`.
+        wrapped(unsafe {
+            c::fotsgure_aes_unwrap(self.0.as_c(), wrapped_key.as_ptr(), input_count, output.as_mut_ptr(), output_count)
+        })
     }
 
     /// Wraps a key of any number of bytes but 0, below 2^32 (KWP, 6.3). The output has 8 bytes more than the next multiple
@@ -89,25 +93,33 @@ impl KeyWrap {
     ///
     /// [`NotWrapped::Length`].
     pub fn wrap_padded(&self, key: &[u8], output: &mut [u8]) -> Result<(), NotWrapped> {
-        let (from, length) = (key.as_ptr(), key.len());
-        let (to, output_count) = (output.as_mut_ptr(), semiblocks(output)?);
-        // SAFETY: as above.
-        wrapped(unsafe { c::fotsgure_aes_wrap_padded(self.0.as_c(), from, length, to, output_count) })
+        let output_count = semiblocks(output)?;
+        // SAFETY: as in `wrap`.
+        wrapped(unsafe {
+            c::fotsgure_aes_wrap_padded(self.0.as_c(), key.as_ptr(), key.len(), output.as_mut_ptr(), output_count)
+        })
     }
 
-    /// Unwraps it again into an output that has 8 bytes less, and returns how many bytes the key has: the first ones of
-    /// the output, which zeros follow (6.3).
+    /// Unwraps it again into an output that has 8 bytes less, and returns how many bytes the key has (6.3). They are the
+    /// first ones of the output, and zeros follow them.
     ///
     /// # Errors
     ///
     /// [`NotWrapped::Length`], [`NotWrapped::Refused`].
     pub fn unwrap_padded(&self, wrapped_key: &[u8], output: &mut [u8]) -> Result<usize, NotWrapped> {
-        let (from, input_count) = (wrapped_key.as_ptr(), semiblocks(wrapped_key)?);
-        let (to, output_count) = (output.as_mut_ptr(), semiblocks(output)?);
+        let input_count = semiblocks(wrapped_key)?;
+        let output_count = semiblocks(output)?;
         let mut length = 0;
-        // SAFETY: as above.
+        // SAFETY: as in `wrap`.
         wrapped(unsafe {
-            c::fotsgure_aes_unwrap_padded(self.0.as_c(), from, input_count, to, output_count, &mut length)
+            c::fotsgure_aes_unwrap_padded(
+                self.0.as_c(),
+                wrapped_key.as_ptr(),
+                input_count,
+                output.as_mut_ptr(),
+                output_count,
+                &mut length,
+            )
         })?;
         Ok(length)
     }

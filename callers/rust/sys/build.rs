@@ -1,5 +1,5 @@
-//! Says which assembly of dist is for the target, as `dist/machine.h` does for C compilers: the folder, and what follows a
-//! library's name there. The folder dist is in this package if it was packed, and else that of the repository.
+//! Says which assembly of dist is for the target, as `dist/machine.h` does for C compilers: the folder, and the suffix of
+//! the library's file name there. The folder dist is in this package if it was packed, and else that of the repository.
 
 use std::env;
 use std::path::Path;

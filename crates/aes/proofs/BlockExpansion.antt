@@ -35,12 +35,12 @@ four_words a b c d = slice_index a 0 ∷ slice_index a 1 ∷ slice_index a 2 ∷
 
 -- four words, each the sum of a block's word and the one made before, are the sums of the block's
 -- columns
-pub summed_is : (x s a b c d : List ℕ) → a ≡ fips.add_words (word_at x 0) s
+pub summed_words_are : (x s a b c d : List ℕ) → a ≡ fips.add_words (word_at x 0) s
     → b ≡ fips.add_words (word_at x 4) a
     → c ≡ fips.add_words (word_at x 8) b → d ≡ fips.add_words (word_at x 12) c
     → four_words a b c d ≡ summed_from x s
 unfolding fips.state fips.build fips.build_from
-summed_is x s a b c d ea eb ec ed =
+summed_words_are x s a b c d ea eb ec ed =
     let fb = eb ∙ ap (fips.add_words (word_at x 4)) ea in
     let fc = ec ∙ ap (fips.add_words (word_at x 8)) fb in
     let fd = ed ∙ ap (fips.add_words (word_at x 12)) fc in

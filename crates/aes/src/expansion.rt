@@ -104,20 +104,20 @@ impl FourWords for BlockKeys {
     }
 }
 
-// SubWord of the last of four words: a round under the zero key, with its mixing taken back.
-// ShiftRows takes the column apart: row r of it stands r columns to the left.
+// SubWord of the last of four words, by a round under the zero key whose MixColumns is undone.
+// ShiftRows separates the bytes of the column: the byte of row r is then r columns to the left.
 #[tactic(auto, using(crate::proofs::BlockExpansion::last_word_substituted))]
 fn substituted_word(words: Block) -> KeyWord
     ensures { result ≡ fips.word (λ r. fips.byte_at (fips.sub_bytes words) r 3) }
 {
-    laws::is_block(words);
+    laws::block_has_16_bytes(words);
     let mut block = words;
     cipher_round(&mut block, &ZERO_KEY);
     inv_mix_columns(&mut block);
     [block[12], block[9], block[6], block[3]]
 }
 
-// Each column of the result is the sum of the columns up to it and of a word.
+// Returns columns. Each is the sum of a word and of the block's columns up to that place.
 fn summed_columns(before: Block, start: KeyWord) -> Block
     ensures { result ≡ fips.state
         (λ r c. summed fips.field_add (fips.byte_at before r) (slice_index start r) c) }

@@ -17,7 +17,7 @@ use aes_soft::soft::PlaneCipher;
 use aes_soft::soft::blocks::{
     decrypt_with_backend, encrypt_with_backend, process_block_under, process_blocks_under,
 };
-use aes_soft::soft::plane_room::{PlaneRoom, expand_words_in_room, reads_key, words_in_room};
+use aes_soft::soft::plane_room::{PlaneRoom, expand_in_room, keys_in_room, words_hold_a_key};
 use std::marker::PhantomData;
 
 /// AES with a key of the size K, in the directions D.
@@ -75,13 +75,13 @@ impl<K: KeySize> StoredKeys for Fixsliced<K> {
         }
     }
 
-    fn has_key(&self) {
-        reads_key(words_in_room::<K>(&self.room));
+    fn key_has_its_size(&self) {
+        words_hold_a_key(keys_in_room::<K>(&self.room));
     }
 }
 
 impl<K: KeySize> Fixsliced<K> {
-    /// No effect; states what is wiped: zeros stand in all the room.
+    /// No effect; states that the room of a wiped value is all zeros.
     pub fn wiped_is_zero(&self)
         ensures { ⟦<Fixsliced<K> as StoredKeys>⟧.IsWiped self.now
             → self.now.room ≡ replicate 120 0 }
@@ -97,23 +97,23 @@ impl<K: KeySize> MadeFrom<Fixsliced<K>> for Fixsliced<K> {
 
 impl<K: KeySize, D: PlaneCipher> Processes<D> for Fixsliced<K> {
     fn process_one(&self, block: &mut Block) {
-        process_block_under::<D>(words_in_room::<K>(&self.room), block);
+        process_block_under::<D>(keys_in_room::<K>(&self.room), block);
     }
 
     fn process_slice(&self, blocks: &mut [Block]) {
-        process_blocks_under::<D>(words_in_room::<K>(&self.room), blocks, &mut Layers::new());
+        process_blocks_under::<D>(keys_in_room::<K>(&self.room), blocks, &mut Layers::new());
     }
 }
 
 impl<K: KeySize> Encrypts for Fixsliced<K> {
     fn encrypt_with_backend_for<F: BlockCipherEncClosure>(&self, _blocks: usize, f: &mut F) {
-        encrypt_with_backend(words_in_room::<K>(&self.room), f);
+        encrypt_with_backend(keys_in_room::<K>(&self.room), f);
     }
 }
 
 impl<K: KeySize> Decrypts for Fixsliced<K> {
     fn decrypt_with_backend_for<F: BlockCipherDecClosure>(&self, _blocks: usize, f: &mut F) {
-        decrypt_with_backend(words_in_room::<K>(&self.room), f);
+        decrypt_with_backend(keys_in_room::<K>(&self.room), f);
     }
 }
 
@@ -123,14 +123,14 @@ impl<K: KeySize> CountsLayers for Fixsliced<K> {
     ghost layers_for = { λ count. layers_for (K.SIZE / 4 + 6) count };
 
     fn expand_counted(&mut self, new_key: &[u8], layers: &mut Layers) {
-        expand_words_in_room::<K>(self.room.value_mut(), new_key, layers);
+        expand_in_room::<K>(self.room.value_mut(), new_key, layers);
     }
 
     fn encrypt_blocks_counted(&self, blocks: &mut [Block], layers: &mut Layers) {
-        process_blocks_under::<Encrypt>(words_in_room::<K>(&self.room), blocks, layers);
+        process_blocks_under::<Encrypt>(keys_in_room::<K>(&self.room), blocks, layers);
     }
 
     fn decrypt_blocks_counted(&self, blocks: &mut [Block], layers: &mut Layers) {
-        process_blocks_under::<Decrypt>(words_in_room::<K>(&self.room), blocks, layers);
+        process_blocks_under::<Decrypt>(keys_in_room::<K>(&self.room), blocks, layers);
     }
 }

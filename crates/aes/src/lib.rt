@@ -14,7 +14,8 @@ pub use names::{
     Aes128, Aes128Dec, Aes128Enc, Aes192, Aes192Dec, Aes192Enc, Aes256, Aes256Dec, Aes256Enc,
 };
 
-/// A block: sixteen bytes, that of row `r` and column `c` at place `r + 4 * c` (FIPS 197, 3.4).
+/// A block of sixteen bytes. The byte of row `r` and column `c` is at place `r + 4 * c` (FIPS 197,
+/// 3.4).
 pub type Block = [u8; 16];
 
 /// Returns whether AES instructions of the processor are used. This library never uses them.

@@ -1,4 +1,4 @@
-//! `Aes128`, `Aes128Enc`, `Aes128Dec` and so on: by these names users know the types.
+//! The names of the nine types: `Aes128`, `Aes128Enc`, `Aes128Dec` and so on.
 
 use crate::fixsliced::FixslicedAes;
 use aes_cipher::aes::{Bits128, Bits192, Bits256, BothWays};

@@ -1,5 +1,5 @@
-//! Statuses and the version by number, and the size of structs, as contracts, so that a slip in a
-//! constant or a definition is refused. The call has no effect.
+//! The numbers of statuses and of the version, and the sizes of structs, as contracts. With them
+//! the prover refuses a mistake in a constant or a definition. The call has no effect.
 
 ghost use Rattle.std.specs.Prelude.{◌≡◌};
 

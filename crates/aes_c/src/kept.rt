@@ -1,4 +1,4 @@
-//! The struct that a caller keeps: a key is set, and wiped.
+//! Sets and wipes the key in the struct that a caller keeps.
 
 ghost use Rattle.std.specs.Prelude.{◌≡◌, ◌≢◌, ◌↔◌, length};
 ghost use Rattle.aes_cipher.specs.KeySizes.{IsKeySize};
@@ -10,8 +10,9 @@ use aes_cipher::aes::is_key_size;
 use aes_cipher::zeroize::Zeroize;
 
 /// Expands a key into the struct (KeyExpansion, FIPS 197, 5.2). Returns `DONE` exactly if the key
-/// has 16, 24 or 32 bytes, else `KEY_LENGTH`; the struct then holds no key. Nothing of what it held
-/// before is left in either case: it has the round keys of the new key, and zeros after them.
+/// has 16, 24 or 32 bytes. Otherwise it returns `KEY_LENGTH`, and the struct then holds no key. In
+/// both cases nothing is left of what the struct held before. After `DONE` the struct has the round
+/// keys of the new key, and zeros after them.
 #[unsafe(no_mangle)]
 pub extern "C" fn fotsgure_aes_set_key(aes: &mut Aes, key: &[u8]) -> u32
     ensures done { result ≡ DONE ↔ IsKeySize (length key.now) }
@@ -22,8 +23,8 @@ pub extern "C" fn fotsgure_aes_set_key(aes: &mut Aes, key: &[u8]) -> u32
     ensures after { result ≡ DONE → IsZeroAfter aes.new }
     ensures none { result ≢ DONE → aes.new ≡ no_key }
 {
-    // Nothing is read of a struct that may be uninitialized. No compiler removes zeros here: the
-    // caller owns the struct, and can read what the call leaves in it.
+    // Nothing of the struct is read, since it may be uninitialized. No compiler can remove the
+    // zeros here: the caller owns the struct, and can read what the call leaves in it.
     if !is_key_size(key.len()) {
         *aes = Aes::zero();
         return KEY_LENGTH;
@@ -41,14 +42,14 @@ pub extern "C" fn fotsgure_aes_key_length(aes: &Aes) -> usize
     aes.key.key_length()
 }
 
-/// Overwrites the struct with zeros: it then holds no key.
+/// Overwrites the struct with zeros. It then holds no key.
 #[unsafe(no_mangle)]
 pub extern "C" fn fotsgure_aes_wipe(aes: &mut Aes)
     ensures made { IsMade aes.new }
     ensures none { aes.new ≡ no_key }
 {
-    // A wipe looks at what it overwrites, and the struct may be uninitialized: so zeros are written
-    // first.
+    // A wipe reads what it overwrites, and the struct may be uninitialized. Therefore zeros are
+    // written first.
     *aes = Zeroize::zero();
     aes.zeroize();
 }

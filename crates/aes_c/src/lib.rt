@@ -1,7 +1,7 @@
 //! AES for C, and for languages that call C: `dist/include/fotsgure_aes.h` declares these calls.
 //!
-//! The header states what a `requires` asks of callers; nothing checks a call from C. Keys of 16,
-//! 24 and 32 bytes go through the same exports, since the struct knows how long its key is.
+//! The header states what a `requires` asks of callers; nothing checks a call from C. The same
+//! exports serve keys of 16, 24 and 32 bytes, since the struct knows how long its key is.
 #![tactic(auto)]
 
 ghost use Rattle.std.specs.Prelude.{◌≡◌};
@@ -52,7 +52,7 @@ pub use wrapping::{
     fotsgure_aes_unwrap, fotsgure_aes_unwrap_padded, fotsgure_aes_wrap, fotsgure_aes_wrap_padded,
 };
 
-/// Returns the version of the library; programs compare it with that of their header.
+/// Returns the version of the library. Programs compare it with the version in their header.
 #[unsafe(no_mangle)]
 pub extern "C" fn fotsgure_aes_version() -> u32
     ensures { result ≡ VERSION }

@@ -10,8 +10,8 @@ use crate::status::{DONE, NO_KEY, NONCE_LENGTH, REFUSED, TAG_LENGTH, TOO_LONG};
 use aes_cipher::zeroize::wipe_stack;
 use ccm::{InvalidMessage, NotDecrypted, decrypt, encrypt};
 
-// The most bytes of stack of a call that encrypts or decrypts a message. Values of the chain are
-// left there, blocks of the keystream, and the right tag of a message that is refused.
+// The most bytes of stack that a call needs to encrypt or decrypt a message. The call leaves values
+// of the chain there, blocks of the keystream, and the right tag of a message that is refused.
 const MESSAGE_STACK: usize = 1024;
 
 // Returns the status of lengths that no message has.
@@ -28,9 +28,9 @@ fn status_of(invalid: InvalidMessage) -> u32
     }
 }
 
-/// Encrypts a text in place under a nonce, and writes the tag of the text and of the additional data
-/// (CCM, SP 800-38C, 6.1). Returns `NO_KEY`, `TAG_LENGTH`, `NONCE_LENGTH` or `TOO_LONG`, the first
-/// of them that applies, and else `DONE`.
+/// Encrypts a text in place under a nonce, and writes the tag of the text and of the additional
+/// data (CCM, SP 800-38C, 6.1). Returns `NO_KEY`, `TAG_LENGTH`, `NONCE_LENGTH` or `TOO_LONG`, the
+/// first of them that applies, and else `DONE`.
 #[unsafe(no_mangle)]
 pub extern "C" fn fotsgure_aes_ccm_seal(
     aes: &Aes,
@@ -66,9 +66,9 @@ pub extern "C" fn fotsgure_aes_ccm_seal(
     }
 }
 
-/// Decrypts a text in place if the tag is right (CCM, SP 800-38C, 6.2); a text that is refused is
-/// encrypted again. Returns `NO_KEY`, `TAG_LENGTH`, `NONCE_LENGTH`, `TOO_LONG` or `REFUSED`, the
-/// first of them that applies, and else `DONE`.
+/// Decrypts a text in place if the tag is right (CCM, SP 800-38C, 6.2). A text that is refused is
+/// encrypted again, so that it is unchanged. Returns `NO_KEY`, `TAG_LENGTH`, `NONCE_LENGTH`,
+/// `TOO_LONG` or `REFUSED`, the first of them that applies, and else `DONE`.
 #[unsafe(no_mangle)]
 pub extern "C" fn fotsgure_aes_ccm_open(
     aes: &Aes,

@@ -53,9 +53,9 @@ pub extern "C" fn fotsgure_aes_decrypt_blocks_with(key: &[u8], blocks: &mut [Blo
     status
 }
 
-/// Adds to each byte the keystream's byte at its place and moves the position on, as
-/// `fotsgure_aes_add_keystream`, under a key. Returns `KEY_LENGTH` exactly if the key doesn't have
-/// 16, 24 or 32 bytes, and else `KEYSTREAM_END` or `DONE`.
+/// Adds to each byte the keystream's byte at its place and moves the position on. It does what
+/// `fotsgure_aes_add_keystream` does, but under a key that is passed as bytes. Returns `KEY_LENGTH`
+/// exactly if the key doesn't have 16, 24 or 32 bytes, and else `KEYSTREAM_END` or `DONE`.
 #[unsafe(no_mangle)]
 pub extern "C" fn fotsgure_aes_add_keystream_with(
     key: &[u8],

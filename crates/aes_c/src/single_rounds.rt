@@ -1,8 +1,8 @@
-//! Single rounds of the cipher and its inverse, on one block or on eight. A round protects nothing by
-//! itself.
+//! Single rounds of the cipher and its inverse, on one block or on eight. A round protects nothing
+//! by itself.
 //!
-//! Each is computed in a call of its own, never inlined, so that its stack can be wiped: blocks and
-//! round keys are left there.
+//! Each round is computed in a call of its own, which is never inlined. The call leaves blocks and
+//! round keys on its stack, which is wiped afterwards.
 
 ghost use Rattle.std.specs.Prelude.{◌≡◌};
 ghost use Rattle.aes_planes.specs.Fips197 as fips;

@@ -15,7 +15,7 @@ use aes_ctr::add_keystream;
 pub struct Ctr {
     /// The initial counter block, whole.
     pub iv: [u8; 16],
-    /// How many bytes of the keystream come before the next.
+    /// How many bytes of the keystream come before the next one.
     pub position: u64,
 }
 
@@ -36,9 +36,9 @@ fn refusal(aes: &Aes, position: u64, count: usize) -> u32
     DONE
 }
 
-/// Adds to each byte the keystream's byte at its place, the first of them at the position, and
-/// moves the position on (SP 800-38A, 6.5). Returns `KEYSTREAM_END` exactly if the position would
-/// pass 2^64 - 1, else `NO_KEY` if there is no key, and `DONE` in all other cases.
+/// Adds the keystream to bytes, from the position on, and moves the position on by as many bytes
+/// (SP 800-38A, 6.5). Returns `KEYSTREAM_END` exactly if the position would pass 2^64 - 1, else
+/// `NO_KEY` if the struct holds no key, and `DONE` in all other cases.
 #[unsafe(no_mangle)]
 pub extern "C" fn fotsgure_aes_add_keystream(aes: &Aes, ctr: &mut Ctr, bytes: &mut [u8]) -> u32
     requires made { IsMade aes.now }
@@ -62,8 +62,8 @@ pub extern "C" fn fotsgure_aes_add_keystream(aes: &Aes, ctr: &mut Ctr, bytes: &m
     status
 }
 
-/// Writes to one buffer the bytes of another plus the keystream's, and moves the position on.
-/// Returns `UNEQUAL_COUNTS` exactly if the buffers differ in length, and else what
+/// Writes to one buffer the sum of another and the keystream, and moves the position on. Returns
+/// `UNEQUAL_COUNTS` exactly if the buffers differ in length, and else what
 /// `fotsgure_aes_add_keystream` returns.
 #[unsafe(no_mangle)]
 pub extern "C" fn fotsgure_aes_add_keystream_to(

@@ -11,9 +11,9 @@ use aes_cipher::cipher::Block;
 use aes_cipher::zeroize::wipe_stack;
 use cmac::{is_tag_start, tag};
 
-// The most bytes of stack of a call that makes a tag. Subkeys are left there, values of the chain,
-// and the right tag of a message that is refused. With vectors whose length isn't known when code is
-// compiled, as on RISC-V, frames take more than the 512 bytes that are enough elsewhere.
+// The most bytes of stack that a call needs to make a tag. The call leaves subkeys there, values of
+// the chain, and the right tag of a message that is refused. 512 bytes suffice for most builds.
+// More are needed where the length of vectors isn't known when code is compiled, as on RISC-V.
 const TAG_STACK: usize = 768;
 
 // How many bytes a tag has at least, and at most.
@@ -21,8 +21,8 @@ const SHORTEST: usize = 4;
 
 const LONGEST: usize = 16;
 
-/// Writes the tag of a message (CMAC, SP 800-38B, 6.2). Returns `DONE` exactly if the struct holds a
-/// key, else `NO_KEY`.
+/// Writes the tag of a message (CMAC, SP 800-38B, 6.2). Returns `DONE` exactly if the struct holds
+/// a key, else `NO_KEY`.
 #[unsafe(no_mangle)]
 pub extern "C" fn fotsgure_aes_cmac(aes: &Aes, message: &[u8], output: &mut Block) -> u32
     requires made { IsMade aes.now }
@@ -40,9 +40,9 @@ pub extern "C" fn fotsgure_aes_cmac(aes: &Aes, message: &[u8], output: &mut Bloc
 }
 
 /// Compares a tag, or the first bytes of one, with that of a message, without an early exit (SP
-/// 800-38B, 6.3). Returns `NO_KEY` exactly if the struct holds no key, else `TAG_LENGTH` if the tag
-/// has fewer than 4 bytes or more than 16, else `REFUSED` if it is wrong, and `DONE` in all other
-/// cases.
+/// 800-38B, 6.3). Returns `NO_KEY` exactly if the struct holds no key. Else returns `TAG_LENGTH` if
+/// the tag has fewer than 4 bytes or more than 16. Else returns `REFUSED` if the tag is wrong, and
+/// `DONE` if it is right.
 #[unsafe(no_mangle)]
 pub extern "C" fn fotsgure_aes_cmac_verify(aes: &Aes, message: &[u8], claimed: &[u8]) -> u32
     requires made { IsMade aes.now }

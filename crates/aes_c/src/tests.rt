@@ -17,8 +17,8 @@ use super::{
 };
 use aes_cipher::zeroize::Zeroize;
 
-// FIPS 197, appendix C: the bytes 00 01 02 and so on, whose beginnings are the keys, the block, and
-// its encryption.
+// The bytes 00, 01, 02 and so on. The keys of FIPS 197, appendix C, are the first 16, 24 and 32 of
+// them. The constants below have the block there, and its encryptions.
 const COUNTED: [u8; 33] = [
     0x00, 0x01, 0x02, 0x03, 0x04, 0x05, 0x06, 0x07, 0x08, 0x09, 0x0a, 0x0b, 0x0c, 0x0d, 0x0e, 0x0f,
     0x10, 0x11, 0x12, 0x13, 0x14, 0x15, 0x16, 0x17, 0x18, 0x19, 0x1a, 0x1b, 0x1c, 0x1d, 0x1e, 0x1f,
@@ -39,8 +39,8 @@ fn no_key() -> Aes
     Zeroize::zero()
 }
 
-// Whether nine blocks, a batch and one more, come out as the standard says and come back, in place
-// and in one call.
+// Whether nine blocks, a batch and one more, are encrypted as the standard says and decrypted
+// again. The key is that of a struct, and then one that is passed with the call.
 fn in_place(key: &[u8], wanted: u128) -> bool {
     let plain = [PLAIN.to_be_bytes(); 9];
     let cipher = [wanted.to_be_bytes(); 9];
@@ -58,8 +58,8 @@ fn in_place(key: &[u8], wanted: u128) -> bool {
         && blocks == plain
 }
 
-// Whether a block goes from buffer to buffer as the standard says, and comes back, also in one
-// call.
+// Whether a block is encrypted as the standard says, and decrypted again, from buffer to buffer.
+// Some of the calls are passed the key itself.
 fn between_buffers(key: &[u8], wanted: u128) -> bool {
     let plain = [PLAIN.to_be_bytes()];
     let mut aes = no_key();

@@ -1,5 +1,4 @@
-//! The width of the words on which the exports process many blocks. This one is for every processor
-//! of a target; for processors with vectors of 256 bits the library is proved and built with `Wide`
-//! in its place.
+//! The width of the words on which the exports process many blocks, for every processor of a
+//! target. The build for vectors of 256 bits is proved with `Width256` here.
 
-pub type BuildWidth = aes_hybrid::widths::Narrow;
+pub type BuildWidth = aes_hybrid::widths::Width128;

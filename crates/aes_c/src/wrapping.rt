@@ -16,8 +16,8 @@ use key_wrap::{InvalidCount, NotUnwrapped, Semiblock, unwrap, unwrap_padded, wra
 const WRAPPING_STACK: usize = 512;
 
 /// Wraps a key from one buffer to another (KW-AE, SP 800-38F, 6.2). Returns `NO_KEY` exactly if the
-/// struct holds no key, else `INVALID_COUNT` if the key has fewer than two semiblocks or too many,
-/// or the output isn't one longer, and `DONE` in all other cases.
+/// struct holds no key. Else returns `INVALID_COUNT` if the key has fewer than two semiblocks or
+/// too many, or if the output isn't one semiblock longer. Returns `DONE` in all other cases.
 #[unsafe(no_mangle)]
 pub extern "C" fn fotsgure_aes_wrap(aes: &Aes, key: &[Semiblock], output: &mut [Semiblock]) -> u32
     requires made { IsMade aes.now }
@@ -40,9 +40,9 @@ pub extern "C" fn fotsgure_aes_wrap(aes: &Aes, key: &[Semiblock], output: &mut [
 }
 
 /// Unwraps a key from one buffer to another (KW-AD, SP 800-38F, 6.2). Returns `NO_KEY` exactly if
-/// the struct holds no key, else `INVALID_COUNT` if no key becomes this many semiblocks, or the
-/// output isn't one shorter, else `REFUSED` if the key was not wrapped under this one, and `DONE`
-/// in all other cases. After `REFUSED` the output is zeros.
+/// the struct holds no key. Else returns `INVALID_COUNT` if no key becomes this many semiblocks, or
+/// if the output isn't one semiblock shorter. Else returns `REFUSED` if the key was not wrapped
+/// under this one, and `DONE` in all other cases. After `REFUSED` the output is zeros.
 #[unsafe(no_mangle)]
 pub extern "C" fn fotsgure_aes_unwrap(
     aes: &Aes,
@@ -75,8 +75,9 @@ pub extern "C" fn fotsgure_aes_unwrap(
 }
 
 /// Pads and wraps a key from one buffer to another (KWP-AE, SP 800-38F, 6.3). Returns `NO_KEY`
-/// exactly if the struct holds no key, else `INVALID_COUNT` if the key has no byte or too many, or
-/// the output isn't one semiblock longer than the key fills, and `DONE` in all other cases.
+/// exactly if the struct holds no key. Else returns `INVALID_COUNT` if the key has no byte or too
+/// many, or if the output isn't one semiblock longer than the key fills. Returns `DONE` in all
+/// other cases.
 #[unsafe(no_mangle)]
 pub extern "C" fn fotsgure_aes_wrap_padded(aes: &Aes, key: &[u8], output: &mut [Semiblock]) -> u32
     requires made { IsMade aes.now }
@@ -99,11 +100,12 @@ pub extern "C" fn fotsgure_aes_wrap_padded(aes: &Aes, key: &[u8], output: &mut [
 }
 
 /// Unwraps a key that was wrapped with padding, from one buffer to another (KWP-AD, SP 800-38F,
-/// 6.3), and sets how many bytes it has: the first ones of the output, which zeros follow. Returns
-/// `NO_KEY` exactly if the struct holds no key, else `INVALID_COUNT` if no key becomes this many
-/// semiblocks, or the output isn't one shorter, else `REFUSED` if the key was not wrapped with
-/// padding under this one, and `DONE` in all other cases. After `REFUSED` the output is zeros, and
-/// in all cases but `DONE` the length is 0.
+/// 6.3). Sets `key_bytes` to how many bytes the key has. They are the first bytes of the output,
+/// and zeros follow. Returns `NO_KEY` exactly if the struct holds no key. Else returns
+/// `INVALID_COUNT` if no key becomes this many semiblocks, or if the output isn't one semiblock
+/// shorter. Else returns `REFUSED` if the key was not wrapped with padding under this one, and
+/// `DONE` in all other cases. After `REFUSED` the output is zeros, and in all cases but `DONE` the
+/// length is 0.
 #[unsafe(no_mangle)]
 pub extern "C" fn fotsgure_aes_unwrap_padded(
     aes: &Aes,

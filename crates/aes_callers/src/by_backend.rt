@@ -18,8 +18,8 @@ pub struct ByBackend<B: RoundKeysUser> {
 impl<B: RoundKeysUser> RoundKeysUser for ByBackend<B> {
     ghost round_keys = { λ cipher. B.round_keys cipher.backend };
 
-    fn has_round_keys(&self) {
-        self.backend.has_round_keys();
+    fn round_keys_are_blocks(&self) {
+        self.backend.round_keys_are_blocks();
     }
 
     ghost two_round_keys = { λ cipher. B.two_round_keys cipher.backend };

@@ -1,5 +1,5 @@
-//! What each of the nine names of each crate means: the value of a key that is an array, and a
-//! block under that key.
+//! Shows what each of the nine names of each crate means: makes the value of a key that is an
+//! array, and processes a block under that key.
 
 ghost use Rattle.std.specs.Prelude.{◌≡◌};
 ghost use Rattle.aes_planes.specs.Fips197 as fips;

@@ -1,4 +1,4 @@
-//! The value at the end of a chain, by a definition that counts its steps: the loop's invariant is
+//! The value at the end of a chain, by a definition that counts its steps. The loop's invariant is
 //! the definition.
 
 ghost use Rattle.std.specs.Prelude.{◌≡◌, ℕ, List, [], ◌∷◌, length, replicate};
@@ -22,14 +22,15 @@ pub fn chaining_value<C: BlockCipherEncrypt>(cipher: &C, blocks: &[Block]) -> Bl
     value
 }
 
-/// Returns the same under a key: a contract that names the key has it as the expansion.
+/// Returns the chaining value under a key. The contract names the key, by its expansion.
 pub fn chaining_value_under(key: &[u8; 16], blocks: &[Block]) -> Block
     ensures { result ≡ value_after (fips.key_expansion key.now) blocks.now (length blocks.now) }
 {
     chaining_value(&Aes128Enc::new(key), blocks)
 }
 
-/// The value after no block, and after two, so that a slip in the definition is refused.
+/// States the value after no block and after two, so that the prover refuses a mistake in the
+/// definition.
 #[tactic(auto, unfolding(crate::specs::ChainingValue::value_after))]
 pub fn value_examples()
     ensures none { (w : List (List ℕ)) → value_after w [] 0 ≡ replicate 16 0 }

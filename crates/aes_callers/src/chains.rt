@@ -16,9 +16,9 @@ pub fn cbc_there_and_back<C: BlockCipherEncrypt + BlockCipherDecrypt>(
     ensures { blocks.new ≡ blocks.old }
 {
     chains_back();
-    laws::is_block(*iv);
-    laws::are_blocks(blocks);
-    cipher.has_round_keys();
+    laws::block_has_16_bytes(*iv);
+    laws::blocks_have_16_bytes(blocks);
+    cipher.round_keys_are_blocks();
     let mut encrypting = Cbc { previous: *iv };
     encrypting.encrypt_blocks(cipher, blocks);
     let mut decrypting = Cbc { previous: *iv };

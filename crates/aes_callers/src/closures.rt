@@ -1,19 +1,16 @@
-//! Closures as users write them, which work with a backend of any batch size, each for both
-//! directions.
+//! Closures as users write them. Each works with a backend of any batch size, in both directions.
 
 ghost use Rattle.std.specs.Prelude.{◌≡◌, length};
 ghost use Rattle.aes_planes.specs.Each.{Each};
 ghost use Rattle.aes_planes.specs.Fips197 as fips;
 
-pub(crate) mod one_way;
-
 use aes_cipher::cipher::{
-    BlockCipherDecBackend, BlockCipherDecClosure, BlockCipherDecrypt, BlockCipherEncBackend,
-    BlockCipherEncClosure, BlockCipherEncrypt, Decrypt, Encrypt, RoundKeysUser,
+    BackendIn, BlockCipherDecBackend, BlockCipherDecClosure, BlockCipherDecrypt,
+    BlockCipherEncBackend, BlockCipherEncClosure, BlockCipherEncrypt, Decrypt, Direction, Encrypt,
+    RoundKeysUser, process_by_backend,
 };
 use aes_planes::laws;
 use aes_planes::soft::word::Block;
-use one_way::{process_all, process_first_then_all};
 
 /// Does nothing with the backend, and leaves its own field unchanged.
 #[derive(Drop)]
@@ -71,7 +68,7 @@ impl<'a> BlockCipherEncClosure for Row<'a> {
         × (after.blocks.ghost_name ≡ before.blocks.ghost_name) };
 
     fn call<B: BlockCipherEncBackend>(&mut self, backend: &B) {
-        process_all::<Encrypt, B>(backend, self.blocks);
+        process_by_backend::<Encrypt, B>(backend, self.blocks);
     }
 }
 
@@ -81,7 +78,17 @@ impl<'a> BlockCipherDecClosure for Row<'a> {
         × (after.blocks.ghost_name ≡ before.blocks.ghost_name) };
 
     fn call<B: BlockCipherDecBackend>(&mut self, backend: &B) {
-        process_all::<Decrypt, B>(backend, self.blocks);
+        process_by_backend::<Decrypt, B>(backend, self.blocks);
+    }
+}
+
+// Processes the first block alone, then all others.
+fn process_first_then_all<D: Direction, B: BackendIn<D>>(backend: &B, blocks: &mut [Block])
+    ensures { Each (D.processed (B.round_keys backend.now)) blocks.old blocks.new }
+{
+    if let Some((first, rest)) = blocks.split_first_mut() {
+        backend.process_block(first);
+        process_by_backend::<D, B>(backend, rest);
     }
 }
 
@@ -124,8 +131,8 @@ pub fn twice_there_and_back<C: BlockCipherEncrypt + BlockCipherDecrypt>(
     ensures { result ≡ block }
 {
     laws::sums_of_blocks();
-    cipher.has_round_keys();
-    cipher.has_inverse_ciphers();
+    cipher.round_keys_are_blocks();
+    cipher.ciphers_undo_each_other();
     let mut twice = Twice { block };
     cipher.encrypt_with_backend(&mut twice);
     cipher.decrypt_with_backend(&mut twice);

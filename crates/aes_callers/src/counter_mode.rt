@@ -29,13 +29,13 @@ pub fn there_and_back<C: KeyInit + BlockCipherEncrypt + Drop>(
     Ok(())
 }
 
-/// Adds the keystream to a message that lies in two parts: joined, they are the joined message plus
-/// the keystream.
+/// Adds the keystream to a message that is in two parts. Joined, the parts are then the joined
+/// message plus the keystream.
 ///
 /// # Errors
 ///
-/// `KeystreamEnd` exactly if the keystream ends before the second part does; the first may be
-/// changed by then.
+/// `KeystreamEnd` exactly if the keystream ends before the second part does. The first part may
+/// then be changed.
 pub fn apply_to_parts<C: BlockCipherEncrypt>(
     mode: &mut Ctr128BE<C>,
     head: &mut [u8],
@@ -57,7 +57,8 @@ pub fn apply_to_parts<C: BlockCipherEncrypt>(
 ///
 /// # Errors
 ///
-/// `KeystreamEnd` exactly if the keystream ends before the message does, which is then what it was.
+/// `KeystreamEnd` exactly if the keystream ends before the message does. The message is then
+/// unchanged.
 pub fn apply_at<C: BlockCipherEncrypt>(
     cipher: &C,
     iv: Block,
@@ -73,7 +74,8 @@ pub fn apply_at<C: BlockCipherEncrypt>(
     mode.try_apply(message)
 }
 
-/// Adds the keystream to a message and gives the cipher back, which encrypts a block then.
+/// Adds the keystream to a message. Then counter mode gives the cipher back, and the cipher
+/// encrypts a block.
 ///
 /// # Errors
 ///

@@ -17,7 +17,7 @@ pub fn there_and_back_by<C: BlockCipherEncrypt + BlockCipherDecrypt>(
     ensures there { result ≡ fips.cipher_with (C.round_keys cipher.now) block.old }
     ensures back { block.new ≡ block.old }
 {
-    cipher.has_inverse_ciphers();
+    cipher.ciphers_undo_each_other();
     cipher.encrypt_block(block);
     let there = *block;
     cipher.decrypt_block(block);
@@ -60,9 +60,9 @@ pub fn blocks_there_and_back<C: BlockCipherEncrypt + BlockCipherDecrypt>(
 )
     ensures { blocks.new ≡ blocks.old }
 {
-    laws::are_blocks(blocks);
+    laws::blocks_have_16_bytes(blocks);
     laws::inverse_ciphers_on_blocks();
-    cipher.has_round_keys();
+    cipher.round_keys_are_blocks();
     cipher.encrypt_blocks(blocks);
     cipher.decrypt_blocks(blocks);
 }
@@ -71,5 +71,5 @@ pub fn blocks_there_and_back<C: BlockCipherEncrypt + BlockCipherDecrypt>(
 pub fn has_sized_key<C: KeyInit>(cipher: &C)
     ensures { length (C.own_key cipher.now) ≡ C.KEY_SIZE }
 {
-    cipher.has_key();
+    cipher.key_has_its_size();
 }

@@ -1,12 +1,12 @@
-//! How many S-box layers it takes to work on a slice of blocks, at each size of keys.
+//! How many S-box layers run for a slice of blocks, at each size of keys.
 
 ghost use Rattle.std.specs.Prelude.{◌≡◌, ◌+◌, length};
 
 use aes::{Aes128, Aes192Dec, Aes256Enc, Block};
 use aes_planes::soft::sbox::Layers;
 
-/// Processes the same blocks with a value of each size, and counts the layers of each. They depend
-/// only on the number of blocks: a batch of eight takes as many as a single block.
+/// Processes the same blocks with a value of each size, and counts the layers of each. The counts
+/// depend only on the number of blocks: a batch of eight needs as many layers as a single block.
 pub fn count_layers(
     blocks: &mut [Block],
     short: &Aes128,

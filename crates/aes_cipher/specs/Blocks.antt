@@ -3,11 +3,12 @@ use Rattle.std.specs.Prelude.{◌≡◌, ◌⊎◌, ℕ, ◌-◌, ◌/◌, ◌%�
 use Rattle.std.specs.Prelude.{slice_index_or}
 use Rattle.std.specs.Simd.{first_chunks}
 
--- the blocks that bytes hold, one after another: sixteen bytes each, and those after the last whole block left out
+-- the blocks that bytes hold, one after another: sixteen bytes each, and those after the last whole
+-- block left out
 abbrev pub blocks_of : List ℕ → List (List ℕ)
 blocks_of bytes = first_chunks 16 (length bytes / 16) bytes
 
--- a string with zeros behind it, as few as fill its last block
+-- a string, followed by as few zeros as fill its last block
 unfoldable pub padded : List ℕ → List ℕ
 padded s = s ++ replicate ((16 - length s % 16) % 16) 0
 

@@ -5,7 +5,8 @@ use Rattle.aes_cipher.specs.contracts.zeroize.Wiped as wiped
 use Rattle.aes_cipher.specs.contracts.zeroize.must_wipe.MustWipe as must_wipe
 
 module _ (V : RattleType) (zeroize : Ghosts V.Denot) (value : MutBor V.Denot) where
-  -- once the borrow r ends, the value that is wiped when it is dropped is what was written through r
+  -- once the borrow r ends, the value that is wiped when it is dropped is what was written through
+  -- r
   abbrev pub lends_value : MutBor V.Denot → Fml
   lends_value r = Lends (wiped.the_row V zeroize) V value r (λ written. written)
 

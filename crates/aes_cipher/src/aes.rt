@@ -1,5 +1,5 @@
-//! The one type behind the nine names: AES with a key of any size, in one direction or both, over
-//! the form in which it keeps its round keys.
+//! The one type that nine names stand for: AES with a key of any size, in one direction or both,
+//! over the form in which it keeps its round keys.
 
 ghost use Rattle.std.specs.Prelude.{◌≡◌, ℕ, List, length, replicate, refl};
 ghost use Rattle.aes_planes.specs.Fips197 as fips;
@@ -86,9 +86,9 @@ impl<S: StoredKeys, D> KeySizeUser for AesCipher<S, D> {
 impl<S: StoredKeys, D> RoundKeysUser for AesCipher<S, D> {
     ghost round_keys = { fips.key_expansion };
 
-    fn has_round_keys(&self) {
+    fn round_keys_are_blocks(&self) {
         laws::expanded_keys();
-        self.keys.has_key();
+        self.keys.key_has_its_size();
     }
 
     ghost two_round_keys = { two_keys };
@@ -109,8 +109,8 @@ impl<S: StoredKeys, D> KeyInit for AesCipher<S, D> {
         }
     }
 
-    fn has_key(&self) {
-        self.keys.has_key();
+    fn key_has_its_size(&self) {
+        self.keys.key_has_its_size();
     }
 
     ghost expanded = { λ key. refl };

@@ -28,9 +28,9 @@ pub fn blocks_equal(a: &Block, b: &Block) -> bool
     difference(a, b) == 0
 }
 
-// What differs between two blocks, all bytes put together in one. A call that is never inlined: a
-// compiler that saw the sum and a branch on whether it is 0 could make a branch for each byte. It
-// returns a word, since a byte leaves the rest of its register as it was, with more of what differs.
+// Returns the bitwise or of the differences of all bytes. Never inlined: a compiler that sees both
+// the sum and a branch on whether it is 0 could make a branch for each byte. It returns a word,
+// since a byte would leave more of the differences in the rest of its register.
 #[inline(never)]
 fn difference(a: &Block, b: &Block) -> u32
     ensures { (result ≡ 0) ↔ (a.now ≡ b.now) }
@@ -44,7 +44,7 @@ fn difference(a: &Block, b: &Block) -> u32
 
 /// Returns the number as a block, its highest byte first.
 ///
-/// It goes by the number's halves as lanes, since LLVM makes fifty instructions of `to_be_bytes`.
+/// It uses the halves of the number as lanes, since LLVM makes fifty instructions of `to_be_bytes`.
 #[tactic(auto, using(crate::proofs::BlockNumbers::bytes_of_halves))]
 #[inline(always)]
 pub fn block_of_number(number: u128) -> Block
@@ -64,7 +64,7 @@ pub fn number_of_block(block: &Block) -> u128
     ensures back { to_be_bytes w128 result ≡ block.now }
 {
     numbers_as_blocks();
-    laws::is_block(*block);
+    laws::block_has_16_bytes(*block);
     u128::from_be_bytes(*block)
 }
 
@@ -106,8 +106,8 @@ pub fn numbers_as_blocks()
         → to_be_bytes w128 (from_be_bytes w128 block) ≡ block }
 {}
 
-/// No effect; states that two halves of eight bytes form a block, that it splits into them again,
-/// and that a block is its halves joined.
+/// No effect; states that two halves of eight bytes form a block, that the block splits into them
+/// again, and that a block is its halves joined.
 #[tactic(auto, using(crate::proofs::ByteBlocks::halves))]
 pub fn halves_and_blocks()
     ensures block { (first second : List ℕ) → length first ≡ 8 → fips.IsBytes first →

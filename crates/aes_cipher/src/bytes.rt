@@ -1,5 +1,4 @@
-//! Bytes as blocks, one after another: calls that encrypt and decrypt them in place, and their
-//! laws.
+//! Calls that encrypt and decrypt bytes in place, block by block, and the laws of these calls.
 
 ghost use Rattle.std.specs.Prelude.{◌≡◌, ◌≢◌, ◌↔◌, ℕ, ◌*◌, ◌+◌, ◌/◌, ◌%◌, ◌<◌, List, [], length};
 ghost use Rattle.std.specs.Prelude.{slice_index, slice_index_or, IsErr, OnOk, OnErr};
@@ -52,9 +51,9 @@ pub fn decrypt_bytes<C: BlockCipherDecrypt>(
     process_bytes::<Decrypt, C>(cipher, bytes)
 }
 
-/// No effect; states how bytes and their blocks correspond: whole blocks, joined, are the bytes;
-/// joined blocks split into those blocks again; there is a block for every sixteen bytes; byte j of
-/// block i, and byte i of joined blocks.
+/// No effect; states how bytes and their blocks correspond. Whole blocks, joined, are the bytes.
+/// Joined blocks split into those blocks again. There is a block for every sixteen bytes. Two
+/// clauses give byte j of block i, and byte i of joined blocks.
 #[tactic(auto, using(crate::proofs::ByteBlocks::byte_laws))]
 pub fn blocks_and_bytes()
     ensures joined { (bytes : List ℕ) → length bytes % 16 ≡ 0 → concat (blocks_of bytes) ≡ bytes }

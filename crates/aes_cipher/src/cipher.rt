@@ -1,6 +1,7 @@
 //! What the block ciphers of this library have in common.
 
 mod algorithm_name;
+mod backend_in;
 mod batches;
 mod decrypt;
 mod decrypt_backend;
@@ -14,6 +15,7 @@ mod round_keys;
 mod sizes;
 
 pub use algorithm_name::AlgorithmName;
+pub use backend_in::{BackendIn, process_by_backend};
 pub use batches::{
     BatchOfEight, BatchOfFour, BatchOfSixteen, BatchSize, BatchSizeUser, ParBlocksSizeUser,
 };

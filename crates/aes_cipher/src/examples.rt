@@ -1,5 +1,5 @@
-//! Definitions of this crate at values from outside, as contracts, so that a slip in one is
-//! refused. The calls have no effect.
+//! Definitions of this crate at values from outside, as contracts. With them the prover refuses a
+//! mistake in a definition. The calls have no effect.
 //!
 //! `bytes n 0x..` is the n bytes that these digits write.
 
@@ -22,7 +22,8 @@ pub fn block_examples()
     ensures none { blocks_of (bytes 15 0x000102030405060708090a0b0c0d0e) ≡ [] }
 {}
 
-/// A list of one block is followed by one with f of the block, or by itself, and by no other.
+/// `EachOrUnchanged` for one block: after it stands f of the block or the block itself, and nothing
+/// else.
 pub fn unchanged_rule()
     ensures { (f : List ℕ → List ℕ) (before after : List ℕ)
         → EachOrUnchanged f (before ∷ []) (after ∷ [])

@@ -1,4 +1,4 @@
-//! The traits of block ciphers, words that are wiped, and the one type behind the nine names.
+//! The traits of block ciphers, words that are wiped, and the one type that nine names stand for.
 #![tactic(auto)]
 
 pub mod aes;

@@ -1,9 +1,9 @@
-//! Types whose values are never copied: keys, and what gives out each nonce once.
+//! Types whose values are never copied: keys, and types that give out each nonce once.
 
 use crate::zeroize::{MustWipe, Wiped, Zeroize};
 
-/// Marks a type whose values are never copied. The mark is refused at a type that can be cloned or
-/// copied, since all of these have it: `impl NotClone for Counter {}` conflicts with that impl once
+/// Marks a type whose values are never copied. Each type that can be cloned or copied has the mark
+/// already, by the `impl` below. So `impl NotClone for Counter {}` is refused, as a conflict, once
 /// `Counter` is `Clone`.
 pub trait NotClone {}
 

@@ -54,13 +54,16 @@ pub fn zeroize_words<W: Word>(words: &mut [W])
 
 // Writes zeros over every element of a slice. `some_byte` returns some byte of an element.
 //
-// A compiler may leave out writes that nothing reads. So the two calls that are made of this one
-// are never inlined: their callers' compiled code can't tell what they wrote, nor leave them out,
-// since an atomic is exchanged in them. This one is inlined into them, where the zero is known, so
-// that LLVM writes many of it by `memset`. An element is read before the writes and after them too,
-// at a place that comes out of the atomic: it is 0, but neither of the two compilers works that
-// out. What was read goes into the atomic. It is 0 too, so that no byte of a secret stays there. No
-// clause says that the writes are kept: what was compiled is searched.
+// A compiler may leave out writes that nothing reads. Two measures prevent this. First, the two
+// calls that use this function are never inlined, and exchange an atomic. The compiled code of
+// their callers can't tell what they wrote, and can't leave them out. Second, an element is read
+// before the writes and after them, at a place that comes out of the atomic. The place is 0, but
+// neither of the two compilers finds this out. The bitwise and of the two bytes goes into the
+// atomic. It is 0, since the second byte is, so no byte of a secret stays there.
+//
+// This function is inlined into the two calls. There the zero is known, and LLVM writes many zeros
+// by `memset`. No clause says that the writes are kept; `evidence/wipe` searches memory for what is
+// left.
 #[inline(always)]
 fn wipe<E: Copy, F: Fn(E) -> u8>(elements: &mut [E], zero: E, some_byte: F)
     requires { F.IsAlwaysCallable some_byte }
@@ -86,7 +89,7 @@ fn observe<E: Copy, F: Fn(E) -> u8>(elements: &[E], place: usize, some_byte: &F)
     }
 }
 
-// Writes an element over every one of a slice.
+// Writes an element over every element of a slice.
 #[tactic(auto, using(crate::proofs::Zeros::overwritten_more, crate::proofs::Zeros::overwritten_whole))]
 #[inline(always)]
 fn overwrite<E: Copy>(elements: &mut [E], element: E)
@@ -97,9 +100,9 @@ fn overwrite<E: Copy>(elements: &mut [E], element: E)
     }
 }
 
-/// A value that is overwritten with zeros when it is dropped: what stands inside has a drop of its
-/// own, which requires that it is zero by then. It is neither `Copy` nor `Clone`. Contracts see the
-/// value.
+/// A value that is overwritten with zeros when it is dropped. The value inside has a drop of its
+/// own, which requires that it is zero by then. A `Wiped` is neither `Copy` nor `Clone`. Contracts
+/// see the value.
 pub struct Wiped<V: Zeroize> {
     inside: MustWipe<V>,
 }
@@ -114,7 +117,7 @@ impl<V: Zeroize> Wiped<V> {
     ghost use Rattle.std.specs.Borrow.{sem};
     ghost use Rattle.aes_cipher.specs.Lends.{lends_value};
 
-    /// Takes a value.
+    /// Makes a `Wiped` of a value.
     #[inline(always)]
     pub fn new(value: V) -> Wiped<V>
         ensures { result ≡ value }
@@ -159,7 +162,7 @@ impl<V: Zeroize> Wiped<V> {
 }
 
 impl<V: Zeroize + Copy> Wiped<V> {
-    /// Returns the same value once more, which is wiped by itself.
+    /// Returns a copy of the value, which is wiped separately.
     pub fn copy(&self) -> Wiped<V>
         ensures { result ≡ self.now }
     {

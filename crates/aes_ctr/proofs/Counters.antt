@@ -19,13 +19,13 @@ unfolding counter
 counter_next iv j i n is = sym (ap (λ m. (m + 1) % 2 ^ 128) is ∙ omega arith)
 
 -- one more counter block is written
-pub counted_one : (iv : List ℕ) (blocks : List (List ℕ)) (j i k n : ℕ) (block : List ℕ)
+pub counter_block_written : (iv : List ℕ) (blocks : List (List ℕ)) (j i k n : ℕ) (block : List ℕ)
     → n ≡ counter iv (j + i)
     → block ≡ to_be_bytes w128 n → i < length blocks
     → ((m : ℕ) → m < i → get_or blocks m [] ≡ counter_block iv (j + m)) → k < i + 1
     → get_or (set blocks i block) k [] ≡ counter_block iv (j + k)
 unfolding counter_block
-counted_one iv blocks j i k n block is made fits before below =
+counter_block_written iv blocks j i k n block is made fits before below =
     rw (made ∙ ap (to_be_bytes w128) is)
     (fill_by_more (λ m. counter_block iv (j + m)) blocks i [] fits before k below)
 
@@ -42,4 +42,4 @@ block_on iv j =
     on m j = omega arith
 
 -- what a loop over counter blocks uses: its first counter, the next one, and one more block written
-pub ruleset counted = (counter_first, counter_next, counted_one)
+pub ruleset counted = (counter_first, counter_next, counter_block_written)

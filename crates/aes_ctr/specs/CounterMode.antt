@@ -1,10 +1,12 @@
--- Counter mode (SP 800-38A, 6.5), its counter the whole block, counted on by one (B.1). A byte is a number below 2 ^ 8,
--- a block a list of 16 bytes; Cipher and the sum of two bytes are those of FIPS 197.
+-- Counter mode (SP 800-38A, 6.5), its counter the whole block, counted on by one (B.1). A byte is a
+-- number below 2 ^ 8, a block a list of 16 bytes; Cipher and the sum of two bytes are those of FIPS
+-- 197.
 use Rattle.std.specs.Prelude.{ℕ, ◌+◌, ◌/◌, ◌%◌, ◌^◌, List, [], ◌∷◌, length, slice_index}
 use Rattle.std.specs.Int.{w128, to_be_bytes, from_be_bytes}
 use Rattle.aes_planes.specs.Fips197 as fips
 
--- the counter after j blocks: iv, read as a number with its highest byte first, and j, modulo 2 ^ 128
+-- the counter after j blocks: iv, read as a number with its highest byte first, and j, modulo 2 ^
+-- 128
 unfoldable pub counter : List ℕ → ℕ → ℕ
 counter iv j = (from_be_bytes w128 iv + j) % 2 ^ 128
 
@@ -28,8 +30,8 @@ pieces_plus_stream stream position [] = []
 pieces_plus_stream stream position (piece ∷ pieces) =
     plus_stream stream position piece ∷ pieces_plus_stream stream (position + length piece) pieces
 
--- what contracts see of counter mode: the cipher, its round keys, the initial counter block, and the place of the
--- keystream's next byte
+-- what contracts see of counter mode: the cipher, its round keys, the initial counter block, and
+-- the place of the keystream's next byte
 pub record CounterMode (Cipher : Type 0) : Type 0 where
   pub cipher : Cipher
   pub round_keys : List (List ℕ)

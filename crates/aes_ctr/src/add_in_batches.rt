@@ -1,4 +1,5 @@
-//! Adds the keystream to bytes: what is left of a block, whole batches, and the rest.
+//! Adds the keystream to bytes: first to the end of a block, then in whole batches, and then to the
+//! rest.
 
 ghost use Rattle.std.specs.Prelude.{◌≡◌, ℕ, ◌+◌, ◌*◌, ◌/◌, ◌%◌, ◌^◌, ◌<◌, ◌≤◌, length};
 ghost use Rattle.aes_ctr.specs.CounterMode.{keystream_byte, plus_stream};
@@ -9,9 +10,7 @@ use crate::add_blocks::add_blocks;
 use crate::counter_blocks::{CounterBlocks, WholeBlock};
 use crate::keystream::{fill_by_backend, fill_with_keystream};
 use aes_cipher::cipher::{Block, BlockCipherEncBackend, BlockCipherEncClosure, BlockCipherEncrypt};
-
-// How many blocks a backend's batch may have, so that there is room for it.
-const LARGEST_BATCH: usize = 16;
+use aes_planes::soft::word::LARGEST_BATCH;
 
 // Adds to bytes of one block the keystream from one position on.
 #[tactic(auto, using(crate::proofs::Places::plus_blocks))]
@@ -43,7 +42,7 @@ fn blocks_at_once<B: BlockCipherEncBackend>() -> usize
     }
 }
 
-// Adds to the bytes of one batch the keystream from a block on. How many there are is a constant,
+// Adds to the bytes of one batch the keystream from a block on. The number of blocks is a constant,
 // so that counters and blocks of the keystream stay in registers.
 #[tactic(auto, using(crate::proofs::Places::plus_batch, std::proofs::lemmas::Grind::common_steps))]
 #[inline(always)]
@@ -66,9 +65,9 @@ fn add_batch<B: BlockCipherEncBackend, K: CounterBlocks>(
     add_blocks(blocks, 0, bytes);
 }
 
-// Adds the keystream from one position on to the bytes from place `done` on, up to the end of a
-// batch that begins with the block of the first, or to all if there are fewer. Returns the place
-// that follows.
+// Adds the keystream to the bytes from place `done` on; the first byte of all is at `position` of
+// the keystream. Stops at the end of a batch that begins with the block of byte `done`, or at the
+// end of the bytes. Returns the place that follows.
 fn add_next<B: BlockCipherEncBackend, K: CounterBlocks>(
     backend: &B,
     counters: &K,
@@ -95,8 +94,8 @@ fn add_next<B: BlockCipherEncBackend, K: CounterBlocks>(
     done + part
 }
 
-// Adds to bytes the keystream from one position on, by the backend: to the end of a block if the
-// position is inside one, then in whole batches, and then to what is left.
+// Adds to bytes the keystream from one position on, by the backend. If the position is inside a
+// block, the end of that block comes first. Then come whole batches, and then what is left.
 fn add_by_backend<B: BlockCipherEncBackend, K: CounterBlocks>(
     backend: &B,
     counters: &K,
@@ -143,8 +142,7 @@ impl<'k, 'a, K: CounterBlocks> BlockCipherEncClosure for AddStream<'k, 'a, K> {
     }
 }
 
-/// Adds to each byte the keystream's byte at its place, the first of them at a position (SP
-/// 800-38A, 6.5), with these counter blocks.
+/// Adds the keystream of these counter blocks to bytes, from a position on (SP 800-38A, 6.5).
 pub fn add_stream<C: BlockCipherEncrypt, K: CounterBlocks>(
     cipher: &C,
     counters: &K,
@@ -169,8 +167,8 @@ pub fn add_stream<C: BlockCipherEncrypt, K: CounterBlocks>(
     }
 }
 
-/// Adds to each byte the keystream's byte at its place, with the whole block as the counter. It
-/// keeps no position: `Ctr128BE` does.
+/// Adds the keystream to bytes, from a position on, with the whole block as the counter. It keeps
+/// no position: `Ctr128BE` does.
 #[tactic(auto, using(crate::proofs::Places::whole_blocks))]
 pub fn add_keystream<C: BlockCipherEncrypt>(cipher: &C, iv: &Block, position: u64, bytes: &mut [u8])
     requires { position + length bytes.old < 2 ^ 64 }

@@ -1,4 +1,4 @@
-//! Counter blocks: how a block is counted.
+//! Counter blocks, and how they are counted.
 
 ghost use Rattle.std.specs.Prelude.{◌≡◌, ℕ, List, [], ◌+◌, ◌<◌, length, slice_index_or};
 ghost use Rattle.aes_ctr.specs.CounterMode.{counter_block};
@@ -6,9 +6,9 @@ ghost use Rattle.aes_ctr.specs.CounterMode.{counter_block};
 use aes_cipher::blocks::block_of_number;
 use aes_cipher::cipher::Block;
 
-/// An initial counter block, and how those after it are counted.
+/// An initial counter block, and how the blocks after it are counted.
 pub trait CounterBlocks {
-    /// Counter block j, the initial one being that of 0.
+    /// Counter block j. The initial one is block 0.
     ghost block: { Self → ℕ → List ℕ };
 
     /// Writes counter blocks, from number `first` on.

@@ -1,4 +1,5 @@
-//! Counter mode at values from outside, as contracts, so that a slip in a definition is refused.
+//! Counter mode at values from outside, as contracts. With them the prover refuses a mistake in a
+//! definition.
 //!
 //! `bytes n 0x..` is the n bytes that these digits write.
 
@@ -25,8 +26,8 @@ pub fn counter_examples()
     ensures modulo { counter (bytes 16 0xffffffffffffffffffffffffffffffff) 2 ≡ 1 }
 {}
 
-/// Each counter block is the one before it, counted on by one, however many came before; and byte i
-/// of the keystream is a byte of the cipher of the block that it falls in (6.5).
+/// Each counter block is the one before it, counted on by one, at any place. Byte i of the
+/// keystream is a byte of the encrypted counter block that it falls in (6.5).
 #[tactic(auto, using(crate::proofs::Counters::block_on), unfolding(crate::proofs::OnLiterals::ctr_rules))]
 pub fn counter_rules()
     ensures on { (iv : List ℕ) (j : ℕ)

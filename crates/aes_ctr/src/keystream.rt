@@ -6,7 +6,7 @@ ghost use Rattle.aes_planes.specs.Fips197 as fips;
 use crate::counter_blocks::CounterBlocks;
 use aes_cipher::cipher::{Block, BlockCipherEncBackend, BlockCipherEncrypt};
 
-// Writes blocks of the keystream, from number `first` on: each counter block encrypted.
+// Writes blocks of the keystream, from number `first` on: the counter blocks, encrypted.
 pub(crate) fn fill_with_keystream<C: BlockCipherEncrypt, K: CounterBlocks>(
     cipher: &C,
     counters: &K,
@@ -21,8 +21,8 @@ pub(crate) fn fill_with_keystream<C: BlockCipherEncrypt, K: CounterBlocks>(
 }
 
 // Writes `count` blocks of the keystream, from number `first` on, with a backend: as the first of a
-// batch, or one by one. The others are left as counter blocks, or blocks of the keystream too. A
-// call of its own, so that whole batches, which don't need it, are inlined.
+// batch, or one by one. The blocks after them become counter blocks, or blocks of the keystream
+// too. This is a call of its own, so that whole batches, which don't need it, are inlined.
 #[tactic(auto, using(crate::proofs::Places::filled))]
 pub(crate) fn fill_by_backend<B: BlockCipherEncBackend, K: CounterBlocks>(
     backend: &B,
@@ -39,8 +39,8 @@ pub(crate) fn fill_by_backend<B: BlockCipherEncBackend, K: CounterBlocks>(
         (K.block counters.now (first + i)))
         ⊎ (slice_index_or blocks.new i [] ≡ K.block counters.now (first + i)) }
 {
-    // All of the batch gets counters: blocks of zeros would be encrypted with it, and their cipher
-    // is H of GCM.
+    // The whole batch gets counter blocks. Otherwise blocks of zeros could be encrypted with it,
+    // and their encryption is GCM's H.
     counters.put(first, blocks);
     if blocks.len() == B::PAR_BLOCKS {
         backend.encrypt_first_blocks(count, blocks);

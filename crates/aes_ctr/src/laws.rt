@@ -4,8 +4,9 @@ ghost use Rattle.std.specs.Prelude.{◌≡◌, ℕ, List};
 ghost use Rattle.std.specs.List.{concat};
 ghost use Rattle.aes_ctr.specs.CounterMode.{keystream_byte, plus_stream, pieces_plus_stream};
 
-/// No effect; states that it makes no difference how data is cut: pieces plus the keystream, each
-/// from where the one before ended, joined, are the joined pieces plus the keystream.
+/// No effect; states that data may be cut anywhere. The keystream is added to each piece, from
+/// where it ended for the piece before. Joined, the results are the joined pieces plus the
+/// keystream.
 #[tactic(auto, using(crate::proofs::Sums::pieces_summed))]
 pub fn stream_cut()
     ensures { (w : List (List ℕ)) (iv : List ℕ) (position : ℕ) (pieces : List (List ℕ)) →

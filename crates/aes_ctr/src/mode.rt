@@ -10,8 +10,8 @@ use aes_cipher::not_clone::NotClone;
 use std::marker::Model;
 
 /// Counter mode over a cipher (SP 800-38A, 6.5). The counter is the whole block, a number with its
-/// highest byte first, modulo 2^128. Contracts see a value as its cipher, the round keys of that,
-/// its initial counter block and its position.
+/// highest byte first, modulo 2^128. Contracts see a value as its cipher, the cipher's round keys,
+/// the initial counter block and the position.
 #[derive(Drop)]
 pub struct Ctr128BE<C: BlockCipherEncrypt> {
     cipher: C,
@@ -35,8 +35,8 @@ impl<C: BlockCipherEncrypt> Model for Ctr128BE<C> {
 impl<C: BlockCipherEncrypt> NotClone for Ctr128BE<C> {}
 
 impl<C: BlockCipherEncrypt> Ctr128BE<C> {
-    /// Counter mode over a cipher from an initial counter block on, at position 0. A cipher may be
-    /// lent: `Ctr128BE::new(&cipher, iv)`.
+    /// Makes counter mode over a cipher from an initial counter block on, at position 0. A cipher
+    /// may be lent: `Ctr128BE::new(&cipher, iv)`.
     pub fn new(cipher: C, iv: Block) -> Self
         ensures round_keys { result.round_keys ≡ C.round_keys cipher }
         ensures iv { result.iv ≡ iv }
@@ -46,8 +46,8 @@ impl<C: BlockCipherEncrypt> Ctr128BE<C> {
         Ctr128BE::new_at(cipher, iv, 0)
     }
 
-    /// Counter mode over a cipher from an initial counter block on, at a position: the next byte of
-    /// the keystream is that at this place.
+    /// Makes counter mode over a cipher from an initial counter block on, at a position: the place
+    /// of the next byte in the keystream.
     pub fn new_at(cipher: C, iv: Block, position: u64) -> Self
         ensures round_keys { result.round_keys ≡ C.round_keys cipher }
         ensures iv { result.iv ≡ iv }
@@ -61,7 +61,7 @@ impl<C: BlockCipherEncrypt> Ctr128BE<C> {
         }
     }
 
-    /// Moves to a position: the next byte of the keystream is that at this place.
+    /// Moves to a position: the place of the next byte in the keystream.
     pub fn seek(&mut self, position: u64)
         ensures position { self.new.position ≡ position }
         ensures round_keys { self.new.round_keys ≡ self.old.round_keys }
@@ -91,9 +91,9 @@ impl<C: BlockCipherEncrypt> Ctr128BE<C> {
         self.position
     }
 
-    /// Adds to each byte the keystream's byte at its place, the first of them at the position, and
-    /// moves the position on by as many bytes (SP 800-38A, 6.5). Calls one after another do what
-    /// one call does on all the bytes: see `stream_cut`.
+    /// Adds the keystream to bytes, from the position on, and moves the position on by as many
+    /// bytes (SP 800-38A, 6.5). Several calls, one after another, do what one call does on all the
+    /// bytes: see `stream_cut`.
     ///
     /// # Errors
     ///

@@ -1,4 +1,5 @@
--- A key that is kept: how many bytes it has, and its stored round keys, for one direction or for both.
+-- A key that is kept: how many bytes it has, and its stored round keys, for one direction or for
+-- both.
 use Rattle.std.specs.Prelude.{ℕ, List, replicate}
 use Rattle.aes_planes.specs.Fips197 as fips
 use Rattle.aes_cipher.specs.KeySizes.{IsKeySize}
@@ -34,7 +35,7 @@ round_keys_in kept = fips.key_expansion (key_in kept)
 pub record IsKept (kept : KeptKey) : Type 0 where
   pub schedule : HoldsKey kept → IsCipherSchedule (stored_keys kept.length kept.round_keys)
 
--- nothing of another key is left behind the round keys
+-- nothing of another key is left after the round keys
 abbrev pub IsZeroAfter : KeptKey → Type 0
 IsZeroAfter kept = AreZeroAfter kept.length kept.round_keys
 
@@ -45,6 +46,6 @@ pub record IsKeptBothWays (kept : KeptBothWays) : Type 0 where
       → AreInverse (stored_keys kept.key.length kept.decrypting)
       (stored_keys kept.key.length kept.key.round_keys)
 
--- nothing of another key is left behind the round keys of either direction
+-- nothing of another key is left after the round keys of either direction
 abbrev pub IsZeroAfterBoth : KeptBothWays → Type 0
 IsZeroAfterBoth kept = IsZeroAfter kept.key × AreZeroAfter kept.key.length kept.decrypting

@@ -1,4 +1,5 @@
-//! Backends: fours by vector permutations, and batches on planes in either direction.
+//! Backends: four blocks at a time by vector permutations, and batches on planes, in either
+//! direction.
 
 ghost use Rattle.std.specs.Prelude.{◌≡◌, ℕ, List};
 ghost use Rattle.aes_planes.specs.Fips197 as fips;
@@ -91,8 +92,8 @@ impl<'a, D: LaneRounds, W: Width> Batches<'a, D, W> {
 impl<D: LaneRounds, W: Width> RoundKeysUser for Batches<'_, D, W> {
     ghost round_keys = { fips.key_expansion };
 
-    fn has_round_keys(&self) {
-        self.few.has_round_keys();
+    fn round_keys_are_blocks(&self) {
+        self.few.round_keys_are_blocks();
     }
 
     ghost two_round_keys = { two_keys };

@@ -12,8 +12,8 @@ use aes_permute::lane_rounds::LaneRounds;
 use aes_planes::soft::word::{Batch, Block, Word};
 use aes_soft::soft::PlaneCipher;
 
-// Returns how many of `count` blocks are processed on planes. If they are few, that is none. Else
-// it is the whole batches, and also the rest if planes take less time for it.
+// Returns how many of `count` blocks are processed on planes. If they are few, none are. Otherwise
+// the whole batches are, and also the blocks after them if planes take less time for these.
 #[inline(always)]
 fn blocks_on_planes<D: LaneRounds, W: Width>(count: usize) -> usize
     ensures inside { result ≤ count }
@@ -36,7 +36,11 @@ fn blocks_on_planes<D: LaneRounds, W: Width>(count: usize) -> usize
 
 // Processes the first `count` blocks of a slice on planes, unless `count` is 0.
 #[inline(always)]
-fn process_first<D: PlaneCipher, W: Word>(keys: &[Block], blocks: &mut [Block], count: usize)
+fn process_first_on_planes<D: PlaneCipher, W: Word>(
+    keys: &[Block],
+    blocks: &mut [Block],
+    count: usize,
+)
     requires keyed { IsCipherSchedule keys.now }
     requires inside { count ≤ length blocks.old }
     ensures first { Each (D.processed (fips.key_expansion (key_of_lanes keys.now)))
@@ -51,13 +55,13 @@ fn process_first<D: PlaneCipher, W: Word>(keys: &[Block], blocks: &mut [Block], 
 
 impl<D: LaneRounds + PlaneCipher, W: Width> BorrowedCipher<'_, D, W> {
     /// Processes each block of a slice in place: whole batches on planes, and the others by vector
-    /// permutations, unless planes take less time for them too.
+    /// permutations. If planes take less time for the others too, they are processed on planes.
     #[tactic(auto, using(crate::proofs::Fronts::first_then_others))]
     pub(crate) fn process_blocks(&self, blocks: &mut [Block])
         ensures { Each (D.processed (fips.key_expansion self.now)) blocks.old blocks.new }
     {
         let whole = blocks_on_planes::<D, W>(blocks.len());
-        process_first::<D, W::PlaneWord>(self.keys(), blocks, whole);
+        process_first_on_planes::<D, W::PlaneWord>(self.keys(), blocks, whole);
         self.process_few(&mut blocks[whole..]);
     }
 }

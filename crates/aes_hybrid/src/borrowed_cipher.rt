@@ -8,7 +8,7 @@ ghost use Rattle.aes_permute.specs.Keys.{encrypting, key_of_lanes, IsCipherSched
 ghost use Rattle.aes_permute.specs.Stored.{round_keys_of};
 
 use crate::closures::{lend_to_decrypt, lend_to_encrypt};
-use crate::widths::{Narrow, Width};
+use crate::widths::{Width, Width128};
 use aes_cipher::cipher::{
     BlockCipherDecClosure, BlockCipherDecrypt, BlockCipherEncClosure, BlockCipherEncrypt, Decrypt,
     Encrypt, RoundKeysUser,
@@ -19,12 +19,12 @@ use aes_planes::laws;
 use aes_planes::soft::word::Block;
 use std::marker::{Model, PhantomData};
 
-/// Stored round keys, lent as a cipher of the direction D. `keys` are those of Cipher, and `used`
-/// those of the direction. It is also the backend for few blocks, which processes them by vector
-/// permutations. Contracts see a value as its key.
-pub struct BorrowedCipher<'a, D: LaneRounds, W = Narrow> {
+/// Stored round keys, lent as a cipher of the direction D: `keys` are the round keys of Cipher, and
+/// `direction_keys` those of the direction. This type is also the backend for few blocks, and
+/// processes them by vector permutations. Contracts see a value as its key.
+pub struct BorrowedCipher<'a, D: LaneRounds, W = Width128> {
     keys: &'a [Block],
-    used: &'a [Block],
+    direction_keys: &'a [Block],
     direction: PhantomData<D>,
     width: PhantomData<W>,
 }
@@ -34,7 +34,7 @@ impl<D: LaneRounds, W> Drop for BorrowedCipher<'_, D, W> {
     fn drop(self) {
         let BorrowedCipher {
             keys: _,
-            used: _,
+            direction_keys: _,
             direction: _,
             width: _,
         } = self;
@@ -47,20 +47,20 @@ impl<'a, D: LaneRounds, W> Model for BorrowedCipher<'a, D, W> {
     ghost view = { λ lent. key_of_lanes lent.keys.now };
 
     ghost invariant = { λ lent. IsCipherSchedule lent.keys.now
-        × (round_keys_of D.form lent.used.now ≡ D.form.used_keys (encrypting lent.keys.now)) };
+        × (round_keys_of D.form lent.direction_keys.now ≡ D.form.used_keys (encrypting lent.keys.now)) };
 }
 
 impl<'a, D: LaneRounds, W> BorrowedCipher<'a, D, W> {
     /// Lends stored round keys.
     #[inline(always)]
-    pub(crate) fn new(keys: &'a [Block], used: &'a [Block]) -> BorrowedCipher<'a, D, W>
+    pub(crate) fn new(keys: &'a [Block], direction_keys: &'a [Block]) -> BorrowedCipher<'a, D, W>
         requires keyed { IsCipherSchedule keys.now }
-        requires used { round_keys_of D.form used.now ≡ D.form.used_keys (encrypting keys.now) }
+        requires direction_keys { round_keys_of D.form direction_keys.now ≡ D.form.used_keys (encrypting keys.now) }
         ensures { result ≡ key_of_lanes keys.now }
     {
         BorrowedCipher {
             keys,
-            used,
+            direction_keys,
             direction: PhantomData,
             width: PhantomData,
         }
@@ -77,10 +77,10 @@ impl<'a, D: LaneRounds, W> BorrowedCipher<'a, D, W> {
 
     /// Returns the stored round keys of the direction.
     #[inline(always)]
-    pub(crate) fn used(&self) -> &'a [Block]
+    pub(crate) fn direction_keys(&self) -> &'a [Block]
         ensures { round_keys_of D.form result.now ≡ D.form.used_keys (fips.key_expansion self.now) }
     {
-        self.used
+        self.direction_keys
     }
 
     /// Processes a block in place by vector permutations.
@@ -88,9 +88,9 @@ impl<'a, D: LaneRounds, W> BorrowedCipher<'a, D, W> {
     pub(crate) fn process_one(&self, block: &mut Block)
         ensures { block.new ≡ D.processed (fips.key_expansion self.now) block.old }
     {
-        D::processes();
-        D::uses_all();
-        process_one::<D>(self.used, block);
+        D::rounds_follow_the_standard();
+        D::rounds_use_every_key();
+        process_one::<D>(self.direction_keys, block);
     }
 }
 
@@ -100,16 +100,16 @@ impl<D: LaneRounds, W: Width> BorrowedCipher<'_, D, W> {
     pub(crate) fn process_few(&self, blocks: &mut [Block])
         ensures { Each (D.processed (fips.key_expansion self.now)) blocks.old blocks.new }
     {
-        D::processes();
-        D::uses_all();
-        process_on_lanes::<D, W::Vectors>(self.used, blocks);
+        D::rounds_follow_the_standard();
+        D::rounds_use_every_key();
+        process_on_lanes::<D, W::Vectors>(self.direction_keys, blocks);
     }
 }
 
 impl<D: LaneRounds, W> RoundKeysUser for BorrowedCipher<'_, D, W> {
     ghost round_keys = { fips.key_expansion };
 
-    fn has_round_keys(&self) {
+    fn round_keys_are_blocks(&self) {
         laws::expanded_keys();
         // A use of a field tells the proof what holds for every value of the type.
         let _ = &self.keys;

@@ -1,5 +1,5 @@
-//! Callers' closures, called with a backend that suits a number of blocks: on planes, which are
-//! wiped before the call returns, if they are many.
+//! Calls callers' closures with a backend that suits a number of blocks. For many blocks the
+//! backend has planes, which are wiped before the call returns.
 
 ghost use Rattle.std.specs.Prelude.{◌≡◌};
 ghost use Rattle.aes_planes.specs.Fips197 as fips;
@@ -14,11 +14,12 @@ use aes_cipher::cipher::{BlockCipherDecClosure, BlockCipherEncClosure, Decrypt, 
 use aes_cipher::zeroize::wipe_stack;
 use aes_planes::soft::word::Block;
 
-// The most bytes of stack of a closure that works on batches, as those of this library's modes do.
-// From 2 KB on libc's memset is slower.
+// The most bytes of stack that a closure uses to work on batches, as the closures of this library's
+// modes do. From 2 KB on libc's memset is slower.
 const CLOSURE_STACK: usize = 2032;
 
-// Calls a closure with planes to encrypt. In a call of its own, so that its stack can be wiped.
+// Calls a closure with planes to encrypt. This is a call of its own, so that its stack can be
+// wiped.
 #[inline(never)]
 fn call_to_encrypt<W: Width, F: BlockCipherEncClosure>(
     few: &BorrowedCipher<'_, Encrypt, W>,
@@ -32,9 +33,9 @@ fn call_to_encrypt<W: Width, F: BlockCipherEncClosure>(
     f.call(&Batches::new(few, words));
 }
 
-// Lends planes to encrypt. They are wiped before the call returns, with the stack that the closure
-// took. Never inlined: few blocks need no large frame, and what a caller leaves below its own frame
-// isn't deep. It takes a slice, which is passed in registers.
+// Lends planes to encrypt. The planes, and the stack that the closure used, are wiped before the
+// call returns. Never inlined: few blocks then need no large frame, and what a caller leaves below
+// its own frame isn't deep. The round keys are a slice, which is passed in registers.
 #[inline(never)]
 fn lend_planes_to_encrypt<W: Width, F: BlockCipherEncClosure>(keys: &[Block], f: &mut F)
     requires { IsCipherSchedule keys.now }
@@ -78,7 +79,7 @@ fn call_to_decrypt<W: Width, F: BlockCipherDecClosure>(
     f.call(&Batches::new(few, words));
 }
 
-// Lends planes to decrypt. They serve both directions, and are made of the round keys of Cipher.
+// Lends planes to decrypt. Planes serve both directions, and are made of the round keys of Cipher.
 #[inline(never)]
 fn lend_planes_to_decrypt<W: Width, F: BlockCipherDecClosure>(
     keys: &[Block],
@@ -107,7 +108,7 @@ pub(crate) fn lend_to_decrypt<W: Width, F: BlockCipherDecClosure>(
     ensures { F.did f.old (fips.key_expansion few.now) f.new }
 {
     if blocks >= W::LEAST_FOR_CLOSURES {
-        lend_planes_to_decrypt::<W, F>(few.keys(), few.used(), f);
+        lend_planes_to_decrypt::<W, F>(few.keys(), few.direction_keys(), f);
     } else {
         f.call(few);
     }

@@ -1,9 +1,8 @@
-//! A struct that keeps a key, at values from outside, as contracts, so that a slip in a definition is
-//! refused. The calls have no effect.
+//! A struct that keeps a key, at values from outside, as contracts. With them the prover refuses a
+//! mistake in a definition. The calls have no effect.
 //!
-//! `bytes n 0x..` is the n bytes that these digits write. What a struct stores was computed by a
-//! separate model in Python, from the standard and the basis that `tables.rt` of `aes_permute`
-//! describes.
+//! `bytes n 0x..` is the n bytes that these digits write. A separate model in Python computed what
+//! a struct stores, from the standard and the basis that `tables.rt` of `aes_permute` describes.
 
 ghost use Rattle.std.specs.Prelude.{◌≡◌, map};
 ghost use Rattle.aes_planes.specs.BigEndian.{bytes};
@@ -80,8 +79,8 @@ pub fn struct_example()
     stored_example();
 }
 
-/// Of a struct that has nothing of another key behind its round keys, that room is zero: of a struct
-/// for both directions, in either one.
+/// If a struct has nothing of another key after its round keys, that room is zero. In a struct for
+/// both directions, the room of each direction is zero.
 pub fn zeros_after()
     ensures alone { (kept : KeptKey) → IsZeroAfter kept → AreZeroAfter kept.length kept.round_keys }
     ensures encrypting { (kept : KeptBothWays) → IsZeroAfterBoth kept

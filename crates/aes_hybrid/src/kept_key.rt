@@ -13,7 +13,7 @@ use aes_cipher::not_clone::NotClone;
 use aes_cipher::zeroize::{Zeroize, zeroize_elements};
 use aes_permute::lane_room::{LaneRoom, expand_in_room, invert_in_room, keys_in_room};
 
-/// A key that is kept to encrypt. Its blocks are as secret as the key.
+/// A key that is kept to encrypt. The blocks of the struct are as secret as the key.
 #[repr(C)]
 #[derive(Drop)]
 pub struct KeptKey {
@@ -65,8 +65,8 @@ impl KeptKey {
         }
     }
 
-    /// Expands a key into the struct (KeyExpansion, FIPS 197, 5.2). Nothing of what it held before
-    /// is read or left: its blocks are the round keys of the new key, and zeros after them.
+    /// Expands a key into the struct (KeyExpansion, FIPS 197, 5.2). Nothing of what the struct held
+    /// before is read or left: its blocks are the round keys of the new key, and zeros after them.
     #[inline(always)]
     pub fn set(&mut self, key: &[u8])
         requires { IsKeySize (length key.now) }
@@ -93,7 +93,7 @@ impl KeptKey {
     }
 }
 
-/// A key that is kept for both directions. Its blocks are as secret as the key.
+/// A key that is kept for both directions. The blocks of the struct are as secret as the key.
 #[repr(C)]
 #[derive(Drop)]
 pub struct KeptBothWays {
@@ -124,8 +124,8 @@ impl Zeroize for KeptBothWays {
 }
 
 impl KeptBothWays {
-    /// Expands a key into the struct, for both directions. Nothing of what it held before is read or
-    /// left.
+    /// Expands a key into the struct, for both directions. Nothing of what the struct held before
+    /// is read or left.
     #[inline(always)]
     pub fn set(&mut self, key: &[u8])
         requires { IsKeySize (length key.now) }

@@ -1,5 +1,5 @@
 //! AES in both forms under one list of stored round keys (FIPS 197): few blocks by vector
-//! permutations, many on bit planes. The number of blocks decides, which is no secret.
+//! permutations, many on bit planes. Only the number of blocks decides, and it is no secret.
 #![tactic(auto)]
 
 mod backends;

@@ -1,4 +1,5 @@
-//! Round keys of vector permutations as planes: the S-box of their schedule serves both forms.
+//! Makes planes of the round keys of vector permutations, so that one key schedule serves both
+//! forms.
 
 ghost use Rattle.std.specs.Prelude.{◌≡◌, ◌⊎◌, ℕ, ◌+◌, ◌*◌, ◌≤◌, false, length, map};
 ghost use Rattle.std.specs.Prelude.{replicate, take};
@@ -11,12 +12,13 @@ ghost use Rattle.aes_permute.specs.Keys.{key_of_lanes, IsCipherSchedule};
 use aes_cipher::not_clone::NotClone;
 use aes_cipher::zeroize::zeroize_words;
 use aes_permute::rounds::out_of_tower;
-use aes_planes::soft::copies::store_round_key;
+use aes_planes::soft::round_keys::store_round_key;
 use aes_planes::soft::word::{Block, Word};
 use std::simd::prelude::*;
 
-// The block that planes hold for a stored round key of Cipher between the first and the last: it
-// has the constant of the S-box twice, which is not at all, and its rows are shifted back already.
+// The block that planes hold for a stored round key of Cipher between the first and the last. The
+// constant of the S-box is added to it twice, so that it cancels out. The rows are shifted back
+// already.
 #[inline(always)]
 fn block_for_planes(stored: &Block) -> Block
     ensures { result ≡ map untower stored.now }
@@ -54,8 +56,8 @@ pub fn store_planes<W: Word>(words: &mut [W], keys: &[Block])
     store_in_every_slot(words, last, &keys[last]);
 }
 
-/// Round keys on planes, in room for those of the largest key. A drop requires zeros, so code that
-/// drops them without a wipe isn't proved.
+/// Round keys on planes, in room for those of the largest key. A drop requires zeros, so the prover
+/// refuses code that drops them without a wipe.
 pub(crate) struct PlaneKeys<W: Word> {
     room: [W; 120],
 }

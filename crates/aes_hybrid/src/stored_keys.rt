@@ -1,11 +1,11 @@
-//! The forms of the nine types: round keys of vector permutations, of which planes are made where
+//! The forms of the nine types: round keys of vector permutations, from which planes are made where
 //! there are many blocks.
 
 ghost use Rattle.std.specs.Prelude.{◌≡◌, replicate};
 ghost use Rattle.aes_permute.specs.Keys.{key_of_lanes, stored_keys, AreInverse, IsCipherSchedule};
 
 use crate::borrowed_cipher::BorrowedCipher;
-use crate::widths::{Narrow, Width};
+use crate::widths::{Width, Width128};
 use aes_cipher::aes::{Decrypts, Encrypts, KeySize, MadeFrom, Processes, StoredKeys};
 use aes_cipher::cipher::{
     BlockCipherDecClosure, BlockCipherDecrypt, BlockCipherEncClosure, BlockCipherEncrypt, Decrypt,
@@ -19,7 +19,7 @@ use std::marker::PhantomData;
 use std::slice;
 
 /// The stored round keys of Cipher alone, for encryption.
-pub struct EncryptionKeys<K: KeySize, W = Narrow> {
+pub struct EncryptionKeys<K: KeySize, W = Width128> {
     // The first blocks are the round keys, as they are stored. The others stay zero.
     room: Wiped<LaneRoom>,
     size: PhantomData<K>,
@@ -76,7 +76,7 @@ impl<K: KeySize, W> StoredKeys for EncryptionKeys<K, W> {
         }
     }
 
-    fn has_key(&self) {
+    fn key_has_its_size(&self) {
         keys_in_room(self.room.value(), K::SIZE);
     }
 }
@@ -111,9 +111,9 @@ impl<K: KeySize, W: Width> Encrypts for EncryptionKeys<K, W> {
 }
 
 /// The stored round keys of Cipher, and those of EqInvCipher, for both directions.
-pub struct BothWaysKeys<K: KeySize, W = Narrow> {
+pub struct BothWaysKeys<K: KeySize, W = Width128> {
     encrypting: EncryptionKeys<K, W>,
-    inverse: Wiped<LaneRoom>,
+    decrypting: Wiped<LaneRoom>,
 }
 
 impl<K: KeySize, W> Drop for BothWaysKeys<K, W> {
@@ -121,7 +121,7 @@ impl<K: KeySize, W> Drop for BothWaysKeys<K, W> {
     fn drop(self) {
         let BothWaysKeys {
             encrypting: _,
-            inverse: _,
+            decrypting: _,
         } = self;
     }
 }
@@ -134,64 +134,64 @@ impl<K: KeySize, W> StoredKeys for BothWaysKeys<K, W> {
     ghost key = { λ s. ⟦<EncryptionKeys<K, W> as StoredKeys>⟧.key s.encrypting };
 
     ghost AreKeyed = { λ s. ⟦<EncryptionKeys<K, W> as StoredKeys>⟧.AreKeyed s.encrypting
-        × AreInverse (stored_keys K.SIZE s.inverse) (stored_keys K.SIZE s.encrypting.room) };
+        × AreInverse (stored_keys K.SIZE s.decrypting) (stored_keys K.SIZE s.encrypting.room) };
 
     ghost IsWiped = { λ s. ⟦<EncryptionKeys<K, W> as StoredKeys>⟧.IsWiped s.encrypting
-        × (s.inverse ≡ replicate 15 (replicate 16 0)) };
+        × (s.decrypting ≡ replicate 15 (replicate 16 0)) };
 
     #[inline(always)]
     fn zeroed() -> BothWaysKeys<K, W> {
         BothWaysKeys {
             encrypting: EncryptionKeys::zeroed(),
-            inverse: Wiped::zeroed(),
+            decrypting: Wiped::zeroed(),
         }
     }
 
     #[inline(always)]
     fn wipe(&mut self) {
         self.encrypting.wipe();
-        self.inverse.wipe();
+        self.decrypting.wipe();
     }
 
     #[inline(always)]
     fn expand_key(&mut self, new_key: &[u8]) {
         self.encrypting.expand_key(new_key);
         let room = self.encrypting.room.value();
-        invert_in_room(self.inverse.value_mut(), room, K::SIZE);
+        invert_in_room(self.decrypting.value_mut(), room, K::SIZE);
     }
 
     #[inline(always)]
     fn copy(&self) -> BothWaysKeys<K, W> {
         BothWaysKeys {
             encrypting: self.encrypting.copy(),
-            inverse: self.inverse.copy(),
+            decrypting: self.decrypting.copy(),
         }
     }
 
-    fn has_key(&self) {
-        self.encrypting.has_key();
+    fn key_has_its_size(&self) {
+        self.encrypting.key_has_its_size();
     }
 }
 
 impl<K: KeySize, W> BothWaysKeys<K, W> {
-    /// No effect; states what is wiped: zeros stand in all the room, of either direction.
+    /// No effect; states that the room of a wiped value is all zeros, in both directions.
     pub fn wiped_is_zero(&self)
         ensures encrypting { ⟦<EncryptionKeys<K, W> as StoredKeys>⟧.IsWiped self.now.encrypting
             → self.now.encrypting.room ≡ replicate 15 (replicate 16 0) }
         ensures both { ⟦<BothWaysKeys<K, W> as StoredKeys>⟧.IsWiped self.now
             → (self.now.encrypting.room ≡ replicate 15 (replicate 16 0))
-            × (self.now.inverse ≡ replicate 15 (replicate 16 0)) }
+            × (self.now.decrypting ≡ replicate 15 (replicate 16 0)) }
     {}
 }
 
 impl<K: KeySize, W> MadeFrom<EncryptionKeys<K, W>> for BothWaysKeys<K, W> {
     #[inline(always)]
     fn made_from(stored: &EncryptionKeys<K, W>) -> BothWaysKeys<K, W> {
-        let mut inverse = Wiped::<LaneRoom>::zeroed();
-        invert_in_room(inverse.value_mut(), stored.room.value(), K::SIZE);
+        let mut decrypting = Wiped::<LaneRoom>::zeroed();
+        invert_in_room(decrypting.value_mut(), stored.room.value(), K::SIZE);
         BothWaysKeys {
             encrypting: stored.copy(),
-            inverse,
+            decrypting,
         }
     }
 }
@@ -221,7 +221,7 @@ impl<K: KeySize, W> BothWaysKeys<K, W> {
         ensures { result ≡ ⟦<BothWaysKeys<K, W> as StoredKeys>⟧.key self.now }
     {
         let keys = keys_in_room(self.encrypting.room.value(), K::SIZE);
-        BorrowedCipher::new(keys, keys_in_room(self.inverse.value(), K::SIZE))
+        BorrowedCipher::new(keys, keys_in_room(self.decrypting.value(), K::SIZE))
     }
 }
 

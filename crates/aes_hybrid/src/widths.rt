@@ -1,5 +1,5 @@
-//! How wide vectors and words are: a choice by type, since the processor decides which is quicker.
-//! The numbers of blocks from which planes take less time stand here too, as they were measured.
+//! How wide vectors and words are. The width is a type, since the processor decides which one is
+//! quicker. The measured numbers of blocks, from which planes take less time, are here too.
 
 ghost use Rattle.std.specs.Prelude.{◌≡◌, refl};
 
@@ -21,8 +21,8 @@ pub trait Width {
     /// How many blocks planes of `PlaneWord` hold, as a type.
     type Par: BatchSize;
 
-    /// The number of blocks from which encryption takes less time on planes, whose round keys have
-    /// yet to be made.
+    /// The number of blocks from which encryption takes less time on planes. Planes of the round
+    /// keys have to be made first.
     const LEAST_TO_ENCRYPT: usize;
 
     /// The number of blocks from which decryption takes less time on planes. Its vector
@@ -42,9 +42,9 @@ pub trait Width {
 
 /// Vectors and words of 128 bits: two blocks at a time by vector permutations, eight on planes. For
 /// every processor.
-pub struct Narrow;
+pub struct Width128;
 
-impl Width for Narrow {
+impl Width for Width128 {
     type Vectors = u8x16;
 
     type PlaneWord = BatchWord;
@@ -63,10 +63,11 @@ impl Width for Narrow {
 }
 
 /// Vectors and words of 256 bits: four blocks at a time by vector permutations, sixteen on planes.
-/// For builds for a processor that has vectors of that size; on others this is slower.
-pub struct Wide;
+/// For builds for processors that have vectors of that size. On other processors this width is
+/// slower.
+pub struct Width256;
 
-impl Width for Wide {
+impl Width for Width256 {
     type Vectors = u8x32;
 
     type PlaneWord = u8x32;

@@ -22,8 +22,8 @@ BeginsWith all front = (rest : List ℕ) × (all ≡ front ++ rest)
 abbrev pub AppendsBeginning : Option (List ℕ) → Option (List ℕ) → List ℕ → Type 0
 AppendsBeginning old new all = (front : List ℕ) × Appends old new front × BeginsWith all front
 
--- What a run does to known bytes: it answers all of the input, to its end, and returns whether some line was a fault;
--- or it fails, and has written a beginning of the answers.
+-- What a run does to known bytes: it answers all of the input, to its end, and returns whether some
+-- line was a fault; or it fails, and has written a beginning of the answers.
 abbrev pub Runs : Result Bool Failed → Option (List ℕ) → Option (List ℕ) → Option (List ℕ) → Option (List ℕ) → Type 0
 Runs (Ok fault) input left output written =
     IsAtEnd left × IfSome input (λ text. Appends output written (answers_to text) × (fault ≡ has_fault text))

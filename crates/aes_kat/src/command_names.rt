@@ -1,5 +1,4 @@
-//! The names of the commands, which the first word of a line may be, and how many words may follow
-//! each.
+//! The names of the commands, with which lines begin, and how many words may follow each.
 ghost use Rattle.std.specs.Prelude.{◌≡◌};
 ghost use Rattle.aes_kat.specs.Reply.{command_of, name_of, takes_one, takes_two};
 

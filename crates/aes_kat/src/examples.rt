@@ -1,5 +1,5 @@
-//! Replies to whole lines, as contracts, so that a slip in a definition is refused: a line for each command and
-//! each fault.
+//! Replies to whole lines, as contracts, for each command and each fault. With them the prover
+//! refuses a mistake in a definition.
 //!
 //! The answers are those that FIPS 197 prints.
 
@@ -11,7 +11,7 @@ ghost use Rattle.aes_kat.specs.Status.{status_of};
 
 use aes_planes::examples;
 
-/// Replies to `enc` and `dec`: Appendix C.1, its block encrypted, and decrypted again.
+/// Replies to `enc` and `dec`, by appendix C.1: its block encrypted, and decrypted again.
 #[tactic(auto, unfolding(crate::proofs::OnLiterals::replies_on_literals))]
 pub fn cipher_replies()
     ensures enc { reply_to (codes "enc 000102030405060708090a0b0c0d0e0f 00112233445566778899aabbccddeeff")
@@ -24,8 +24,8 @@ pub fn cipher_replies()
     examples::cipher_128();
 }
 
-/// Replies to `round`, `invround`, `mix` and `invmix`: Appendix C.1, round 1 of the cipher and of the equivalent inverse
-/// cipher, and the column mixing of both.
+/// Replies to `round`, `invround`, `mix` and `invmix`, by appendix C.1: round 1 of the cipher and
+/// of the equivalent inverse cipher, and the column mixing of both.
 #[tactic(auto, unfolding(crate::proofs::OnLiterals::replies_on_literals))]
 pub fn round_replies()
     ensures round { reply_to (codes "round 00102030405060708090a0b0c0d0e0f0 d6aa74fdd2af72fadaa678f1d6ab76fe")
@@ -40,7 +40,7 @@ pub fn round_replies()
     examples::inverse_step_examples();
 }
 
-/// The reply to `sched`: Appendix A.1, the expansion of its key.
+/// The reply to `sched`, by appendix A.1: the expansion of its key.
 #[tactic(auto, unfolding(crate::proofs::OnLiterals::replies_on_literals))]
 pub fn schedule_reply()
     ensures { reply_to (codes "sched 2b7e151628aed2a6abf7158809cf4f3c") ≡ codes "2b7e151628aed2a6abf7158809cf4f3c"
@@ -52,7 +52,8 @@ pub fn schedule_reply()
     examples::key_expansion_128();
 }
 
-/// Each fault, and of several the first: of the command, then the digits, then the key, then the block.
+/// Each fault. Of several, the first is reported: that of the command, then of the digits, of the
+/// key, of the block.
 #[tactic(auto, unfolding(crate::proofs::OnLiterals::replies_on_literals))]
 pub fn fault_replies()
     ensures unknown { reply_to (codes "encrypt 00 00") ≡ codes "error command" }
@@ -65,14 +66,15 @@ pub fn fault_replies()
     ensures is_one { is_fault (codes "mix 00") ≡ true }
 {}
 
-/// How many bytes a key has, and how many one to 64 blocks, or none, have.
+/// Which numbers of bytes are the size of a key, and which are the size of at most 64 blocks.
 pub fn size_examples()
     ensures keys { map is_key_size (8 ∷ 16 ∷ 20 ∷ 24 ∷ 32 ∷ 64 ∷ []) ≡ false ∷ true ∷ false ∷ true ∷ true ∷ false ∷ [] }
     ensures blocks { map is_size_of_blocks (0 ∷ 8 ∷ 16 ∷ 1016 ∷ 1024 ∷ 1040 ∷ [])
         ≡ true ∷ false ∷ true ∷ false ∷ true ∷ false ∷ [] }
 {}
 
-/// The answers to a text: a line end after each, an empty line answered, and nothing for the end of the last line.
+/// The answers to a text. Each ends with a line end, an empty line has an answer, and the end of
+/// the last line begins no other line.
 #[tactic(auto, unfolding(crate::proofs::OnLiterals::replies_on_literals))]
 pub fn text_answers()
     ensures text { answers_to (codes "mix 0" ++ 10 ∷ 10 ∷ codes "mix 00" ++ 10 ∷ [])
@@ -81,7 +83,7 @@ pub fn text_answers()
     ensures none { has_fault [] ≡ false }
 {}
 
-/// The exit status where every line was answered, where one was at fault, and where the run failed.
+/// The exit status if every line was answered, if one was at fault, and if the run failed.
 pub fn status_examples()
     ensures answered { status_of (Ok false) ≡ 0 }
     ensures fault { status_of (Ok true) ≡ 1 }

@@ -5,9 +5,9 @@ ghost use Rattle.aes_kat.specs.Answers.{answers_to, has_fault, Runs};
 ghost use Rattle.aes_kat.specs.declared.runs.Failed.{Failed};
 ghost use Rattle.aes_kat.specs.Lines.{parts_at, without_empty_last, lines_of, words_of, Lacks};
 
-/// The parts of a text are the only list of one or more byte lists without the separator that,
-/// joined by it, gives the text. So a line has only one list of words, and a text only one list of
-/// lines, from which an empty last one is dropped.
+/// A text is made by only one list of one or more byte lists without the separator, joined by the
+/// separator: by the parts of the text. So a line has only one list of words. A text has only one
+/// list of lines, from which an empty last line is dropped.
 #[tactic(auto, using(crate::proofs::Lines::line_laws))]
 pub fn parts_are_unique()
     ensures joined { (separator : ℕ) (text : List ℕ)
@@ -24,9 +24,9 @@ pub fn parts_are_unique()
         → lines_of text ≡ without_empty_last (first ∷ more) }
 {}
 
-/// What a run does to known bytes: if it returns, no input is left, the answers to all of it are
-/// written, and a fault is returned exactly if there is one. If it fails, the first bytes of the
-/// answers are written, however many.
+/// What a run does to known bytes. If it succeeds, no input is left, the answers to all of it are
+/// written, and a fault is returned exactly if there is one. If it fails, some first bytes of the
+/// answers are written.
 pub fn run_parts()
     ensures answered { (fault : Bool) (text old new : List ℕ) (left : Option (List ℕ))
         → Runs (Ok fault) (Some text) left (Some old) (Some new) → new ≡ old ++ answers_to text }

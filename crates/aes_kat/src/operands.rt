@@ -23,8 +23,8 @@ fn is_digit(byte: u8) -> bool
     matches!(byte, b'0'..=b'9' | b'a'..=b'f' | b'A'..=b'F')
 }
 
-// Whether every byte of a word is a digit. It reads them all: to stop early, it would have to
-// branch at each digit, and no processor foresees which of them are letters.
+// Whether every byte of a word is a digit. It reads all bytes. To stop early it would branch at
+// each digit, and no processor foresees which of the digits are letters.
 #[tactic(auto, using(std::proofs::lemmas::List::Folds::list_all_more))]
 fn are_digits(word: &[u8]) -> bool
     ensures { result ≡ list_all is_hex_digit word.now }

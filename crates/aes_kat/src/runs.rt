@@ -34,7 +34,7 @@ const LINE_END: u8 = b'\n';
 // How many bytes one read may give.
 const CHUNK: usize = 64 * 1024;
 
-// Writes all of `bytes`. A write that takes no byte fails, and so does one that was interrupted.
+// Writes all of `bytes`. It fails if a write takes no byte, and also if a write was interrupted.
 fn write_whole<W: Write>(output: &mut W, bytes: &[u8]) -> Result<(), Failed>
     ensures all { OnOk result (Appends (W.contents output.old) (W.contents output.new) bytes.now) }
     ensures beginning { OnErr result
@@ -64,8 +64,8 @@ fn append_reply_line<A: Allocator>(line: &[u8], answers: &mut Vec<u8, A>) -> Res
     Ok(fault)
 }
 
-// Answers each line that ends in `chunk`, the first of which begins with `line`, and leaves in
-// `line` the beginning of the next one.
+// Answers each line that ends in `chunk`. `line` has the beginning of the first line, and
+// afterwards the beginning of the line after the last answered one.
 fn gather<A: Allocator>(
     chunk: &[u8],
     line: &mut Vec<u8, A>,
@@ -155,9 +155,9 @@ fn zeros<A: Allocator>(alloc: A, size: usize) -> Result<Vec<u8, A>, Failed>
 ///
 /// # Errors
 ///
-/// `Failed` if a read or a write fails (an interrupted one does, and so does a write that takes no
-/// byte), if an allocation fails, or if `u64::MAX` reads don't reach the end. What was written is
-/// then a beginning of the answers.
+/// `Failed` if a read or a write fails, if an allocation fails, or if `u64::MAX` reads don't reach
+/// the end. An interrupted read or write fails, and so does a write that takes no byte. What was
+/// written is then a beginning of the answers.
 pub fn run<R: Read, W: Write>(alloc: Global, input: &mut R, output: &mut W) -> Result<bool, Failed>
     ensures { Runs result (R.remaining input.old) (R.remaining input.new)
         (W.contents output.old) (W.contents output.new) }

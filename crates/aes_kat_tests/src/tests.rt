@@ -19,7 +19,7 @@ fn answers(alloc: Global, text: &[u8]) -> (Vec<u8>, u8) {
     (output, status)
 }
 
-// Each line alone, with its line end and without, has its answer and the status.
+// Checks that each line alone, with its line end and without, has its answer and the status.
 fn check<R: Abort + AllocGlobal>(rt: &R, rows: &[(&str, &str)], status: u8) -> Result<(), Fail> {
     for (line, answer) in rows {
         let want = format!(in rt.alloc(); "{answer}\n")?;
@@ -36,7 +36,7 @@ fn check<R: Abort + AllocGlobal>(rt: &R, rows: &[(&str, &str)], status: u8) -> R
     Ok(())
 }
 
-// Each text whole has its answers and the status.
+// Checks that each whole text has its answers and the status.
 fn check_texts<R: Abort + AllocGlobal>(rt: &R, rows: &[(&str, &str, u8)]) -> Result<(), Fail> {
     for (text, want, want_status) in rows {
         let (output, status) = answers(rt.alloc(), text.as_bytes());
@@ -46,7 +46,7 @@ fn check_texts<R: Abort + AllocGlobal>(rt: &R, rows: &[(&str, &str, u8)]) -> Res
     Ok(())
 }
 
-// Equal columns stay under MixColumns; the messages are those of docs/AES-KAT.md.
+// MixColumns doesn't change columns of equal bytes. The messages are those of docs/AES-KAT.md.
 #[test]
 fn answers_line_by_line(rt: HostRuntime) -> Result<(), Fail> {
     let rows = [
@@ -69,7 +69,7 @@ fn answers_line_by_line(rt: HostRuntime) -> Result<(), Fail> {
     check_texts(&rt, &rows)
 }
 
-// Equal columns stay under MixColumns.
+// MixColumns doesn't change columns of equal bytes.
 #[test]
 fn replies_at_the_front(rt: HostRuntime) -> Result<(), Fail> {
     let mut out = [b'-'; 2048];

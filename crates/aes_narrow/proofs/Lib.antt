@@ -1,3 +1,2 @@
--- The files of lemmas: blocks in batches, and the length of a kept key.
-pub mod FilledUp
+-- The file of lemmas: the length of a kept key.
 pub mod KeyLength

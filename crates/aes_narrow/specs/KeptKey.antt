@@ -25,7 +25,7 @@ key_in kept = key_of_planes kept_bits kept_blocks (words_in kept)
 pub record IsKept (kept : KeptKey) : Type 0 where
   pub schedule : HoldsKey kept → IsFullSchedule kept_bits kept_blocks (words_in kept)
 
--- nothing of another key is left behind the round keys
+-- nothing of another key is left after the round keys
 abbrev pub IsZeroAfter : KeptKey → Type 0
 IsZeroAfter kept =
     drop (words_for kept.length) kept.round_keys ≡ replicate (120 - words_for kept.length) 0

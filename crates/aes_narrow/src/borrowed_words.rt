@@ -5,7 +5,7 @@ ghost use Rattle.aes_planes.specs.Fips197 as fips;
 ghost use Rattle.aes_planes.proofs.Standard.CipherLaws.{two_keys};
 ghost use Rattle.aes_soft.specs.Stored.{key_of_planes, IsFullSchedule};
 
-use crate::blocks::{process_filled_up, process_on_words};
+use crate::blocks::process_on_words;
 use crate::narrow_word::NarrowWord;
 use aes_cipher::cipher::{
     BatchSizeUser, BlockCipherDecBackend, BlockCipherDecClosure, BlockCipherDecrypt,
@@ -15,15 +15,16 @@ use aes_cipher::cipher::{
 use aes_cipher::zeroize::wipe_stack;
 use aes_planes::laws;
 use aes_planes::soft::word::Block;
+use aes_soft::soft::blocks::process_filled_up;
 use std::marker::Model;
 use std::slice;
 
-// How many bytes of stack a closure takes at most that works on batches, as those of this library's
+// The most bytes of stack that a closure uses to work on batches, as the closures of this library's
 // modes do.
 const CLOSURE_STACK: usize = 2032;
 
-/// Stored round keys on words, lent to encrypt and to decrypt. It is also the backend of closures,
-/// which wipes no stack. Contracts see a value as its key.
+/// Stored round keys on words, lent to encrypt and to decrypt. This type is also the backend of
+/// closures, and then wipes no stack. Contracts see a value as its key.
 pub struct BorrowedWords<'a, W: NarrowWord> {
     words: &'a [W],
 }
@@ -58,7 +59,7 @@ impl<W: NarrowWord> RoundKeysUser for BorrowedWords<'_, W> {
     ghost round_keys = { fips.key_expansion };
 
     #[tactic(auto, using(aes_soft::proofs::KeyOfPlanes::read_keys))]
-    fn has_round_keys(&self) {
+    fn round_keys_are_blocks(&self) {
         laws::expanded_keys();
         // A use of a field tells the proof what holds for every value of the type.
         let _ = &self.words;
@@ -95,7 +96,7 @@ impl<W: NarrowWord> BlockCipherDecBackend for BorrowedWords<'_, W> {
     }
 }
 
-// Calls a closure to encrypt. In a call of its own, so that its stack can be wiped.
+// Calls a closure to encrypt. This is a call of its own, so that its stack can be wiped.
 #[inline(never)]
 fn call_to_encrypt<W: NarrowWord, F: BlockCipherEncClosure>(words: &[W], f: &mut F)
     requires { IsFullSchedule W.bits W.BLOCKS words.now }

@@ -1,9 +1,9 @@
-//! Round keys as words of 32 bits store them, at values from outside, as contracts, so that a slip
-//! in a definition is refused. The calls have no effect.
+//! Round keys as words of 32 bits store them, at values from outside, as contracts. With them the
+//! prover refuses a mistake in a definition. The calls have no effect.
 //!
-//! `bytes n 0x..` is the n bytes that these digits write. The words were computed by a separate
-//! model in Python, from the standard and the layout: bit 8 r + 2 c + k of word 8 i + p is bit p of
-//! the byte in row r and column c of what is stored for round key i, for both k.
+//! `bytes n 0x..` is the n bytes that these digits write. A separate model in Python computed the
+//! words, from the standard and the layout. Bit 8 r + 2 c + k of word 8 i + p is, for both k, a bit
+//! of what is stored for round key i: bit p of the byte in row r and column c.
 
 ghost use Rattle.std.specs.Prelude.{◌≡◌, ◌∷◌, [], map, replicate, slice_set};
 ghost use Rattle.aes_planes.specs.BigEndian.{bytes};
@@ -43,8 +43,8 @@ pub fn count_examples()
     ensures { map words_for (16 ∷ 24 ∷ 32 ∷ []) ≡ 88 ∷ 104 ∷ 120 ∷ [] }
 {}
 
-/// A bit that is left in a word after the round keys is found: in the first of these words and in the
-/// last. Keys of 32 bytes leave no word over.
+/// A bit that is left in a word after the round keys is found, in the first of these words and in
+/// the last. Keys of 32 bytes leave no word over.
 pub fn left_behind_examples()
     ensures first_after_16 { ¬ IsZeroAfter (record {
       length = 16;

@@ -1,5 +1,5 @@
-//! A key as its stored round keys, in a struct that a caller keeps. It has C's layout, and so no
-//! type parameter: `kept_word` names its words.
+//! A key as its stored round keys, in a struct that a caller keeps. The struct has C's layout, and
+//! so no type parameter: `kept_word` names its words.
 
 ghost use Rattle.std.specs.Prelude.{◌≡◌, ◌↔◌, length, IsTrue};
 ghost use Rattle.aes_cipher.specs.KeySizes.{IsKeySize};
@@ -7,12 +7,12 @@ ghost use Rattle.aes_narrow.specs.KeptKey.{key_in, no_key, HoldsKey, IsKept, IsZ
 
 use crate::borrowed_words::BorrowedWords;
 use crate::kept_word::KeptWord;
-use crate::word_room::{WordRoom, expand_in_words, keys_in_words};
+use crate::word_room::{WordRoom, expand_in_room, keys_in_room};
 use aes_cipher::aes::is_key_size;
 use aes_cipher::not_clone::NotClone;
 use aes_cipher::zeroize::{Zeroize, zeroize_elements};
 
-/// A key that is kept, for both directions. Its words are as secret as the key.
+/// A key that is kept, for both directions. The words of the struct are as secret as the key.
 #[repr(C)]
 #[derive(Drop)]
 pub struct KeptKey {
@@ -22,7 +22,7 @@ pub struct KeptKey {
     pub round_keys: WordRoom<KeptWord>,
 }
 
-// With nothing between its fields.
+// The struct has nothing between its fields.
 const _: () = prove!(size_of::<KeptKey>() == 121 * size_of::<KeptWord>());
 
 impl NotClone for KeptKey {}
@@ -67,8 +67,8 @@ impl KeptKey {
         }
     }
 
-    /// Expands a key into the struct (KeyExpansion, FIPS 197, 5.2). Nothing of what it held before
-    /// is read or left: its words are the round keys of the new key, and zeros after them.
+    /// Expands a key into the struct (KeyExpansion, FIPS 197, 5.2). Nothing of what the struct held
+    /// before is read or left: its words are the round keys of the new key, and zeros after them.
     #[inline(always)]
     pub fn set(&mut self, key: &[u8])
         requires { IsKeySize (length key.now) }
@@ -78,7 +78,7 @@ impl KeptKey {
         ensures after { IsZeroAfter self.new }
     {
         self.round_keys = [0; 120];
-        expand_in_words(&mut self.round_keys, key);
+        expand_in_room(&mut self.round_keys, key);
         self.length = key.len() as KeptWord;
     }
 
@@ -90,6 +90,6 @@ impl KeptKey {
         ensures key { result ≡ key_in self.now }
         ensures size { length result ≡ self.now.length }
     {
-        BorrowedWords::new(keys_in_words(&self.round_keys, self.length as usize))
+        BorrowedWords::new(keys_in_room(&self.round_keys, self.length as usize))
     }
 }

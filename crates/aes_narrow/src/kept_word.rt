@@ -1,4 +1,4 @@
-//! The word of a key that is kept. `tools/dist` builds a copy of this crate too that has u64 here,
-//! and in `specs/KeptWord.antt` what it holds. Nothing else names the word.
+//! The word of a key that is kept. `tools/dist` also builds a copy of this crate that has u64 here.
+//! In that copy `specs/KeptWord.antt` says what u64 holds. Nothing else names the word.
 
 pub type KeptWord = u32;

@@ -1,4 +1,5 @@
-//! The words of narrow processors: 64 bits, which hold planes of four blocks, and 32 bits, of two.
+//! The words of narrow processors: eight words of 64 bits hold four blocks, and eight of 32 bits
+//! hold two.
 
 ghost use Rattle.std.specs.Prelude.{◌≡◌, ℕ, refl};
 ghost use Rattle.std.proofs.Common.{arith};

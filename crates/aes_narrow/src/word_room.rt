@@ -16,7 +16,7 @@ pub type WordRoom<W> = [W; 120];
 
 /// Returns the stored round keys of a key of `size` bytes: the first of the words.
 #[inline(always)]
-pub fn keys_in_words<W: Word>(room: &WordRoom<W>, size: usize) -> &[W]
+pub fn keys_in_room<W: Word>(room: &WordRoom<W>, size: usize) -> &[W]
     requires { IsKeySize size }
     ensures keys { result.now ≡ take (words_for size) room.now }
     ensures count { length result.now ≡ words_for size }
@@ -24,11 +24,11 @@ pub fn keys_in_words<W: Word>(room: &WordRoom<W>, size: usize) -> &[W]
     &room[..2 * size + 56]
 }
 
-// How many bytes of stack the expansion of a key takes at most.
+// The most bytes of stack of the expansion of a key.
 const EXPANSION_STACK: usize = 768;
 
-// Writes the round keys of a key, as the full layout stores them. In a call of its own, so that its
-// stack can be wiped.
+// Writes the round keys of a key, as the full layout stores them. This is a call of its own, so
+// that its stack can be wiped.
 #[inline(never)]
 fn expand_words<W: Word>(words: &mut [W], key: &[u8])
     requires one_of_three { IsKeySize (length key.now) }
@@ -41,9 +41,9 @@ fn expand_words<W: Word>(words: &mut [W], key: &[u8])
 }
 
 /// Writes the round keys of a key, as the full layout stores them: KeyExpansion (FIPS 197, 5.2).
-/// The stack that this took is wiped before the call returns.
+/// The stack that this used is wiped before the call returns.
 #[inline(always)]
-pub fn expand_in_words<W: Word>(room: &mut WordRoom<W>, key: &[u8])
+pub fn expand_in_room<W: Word>(room: &mut WordRoom<W>, key: &[u8])
     requires { IsKeySize (length key.now) }
     ensures schedule { IsFullSchedule W.bits W.BLOCKS (take (words_for (length key.now)) room.new) }
     ensures key { key_of_planes W.bits W.BLOCKS (take (words_for (length key.now)) room.new)

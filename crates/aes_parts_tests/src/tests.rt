@@ -1,4 +1,5 @@
-//! What no clause says: that the calls below the types answer, with the standards' values, on every word.
+//! What no clause says: that the calls below the types answer, with the standards' values, on every
+//! word.
 
 mod block_calls;
 mod bytes;

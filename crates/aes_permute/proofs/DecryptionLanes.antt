@@ -35,25 +35,26 @@ use Rattle.aes_permute.proofs.RoundLanes.{through, permuted, zip_sum_bytes}
 -- ---- what is looked up
 
 -- the inverse S-box of what a byte in the tower basis stands for, by two look-ups
-abbrev pub plain_inv_sbox : ℕ → ℕ
-plain_inv_sbox b = through INV_SBOX_FIRST INV_SBOX_SECOND b
+abbrev pub plain_inverse_sbox : ℕ → ℕ
+plain_inverse_sbox b = through INV_SBOX_FIRST INV_SBOX_SECOND b
 
 -- the inverse S-box is a search, so the test is on what the S-box makes of the result
-plain_inv_sbox_cases : all_below 256 (λ b. nat_lt (plain_inv_sbox b) 256
-    && (sbox (plain_inv_sbox b) == inv_untower b)) ≡ true
+plain_inverse_sbox_cases : all_below 256 (λ b. nat_lt (plain_inverse_sbox b) 256
+    && (sbox (plain_inverse_sbox b) == inv_untower b)) ≡ true
 unfolding all_below first_of second_of inv_untower sbox
-plain_inv_sbox_cases = refl
+plain_inverse_sbox_cases = refl
 
--- what is looked up for `plain_inv_sbox` is InvSubBytes
-plain_inv_sbox_is : (x : List ℕ) → IsBytes x
-    → map plain_inv_sbox x ≡ inv_sub_bytes (map inv_untower x)
+-- what is looked up for `plain_inverse_sbox` is InvSubBytes
+plain_inverse_sbox_is : (x : List ℕ) → IsBytes x
+    → map plain_inverse_sbox x ≡ inv_sub_bytes (map inv_untower x)
 unfolding inv_sub_bytes
-plain_inv_sbox_is x h =
-    maps_agree plain_inv_sbox (λ b. inv_sbox (inv_untower b)) (λ b l.
-    let t = and_parts (nat_lt (plain_inv_sbox b) 256) (sbox (plain_inv_sbox b) == inv_untower b)
-    (all_below_tells 256 (λ b. nat_lt (plain_inv_sbox b) 256
-    && (sbox (plain_inv_sbox b) == inv_untower b)) plain_inv_sbox_cases b l) in
-    sym (inv_sbox_of_sbox (plain_inv_sbox b) (ltb-true _ _ t.0))
+plain_inverse_sbox_is x h =
+    maps_agree plain_inverse_sbox (λ b. inv_sbox (inv_untower b)) (λ b l.
+    let t = and_parts (nat_lt (plain_inverse_sbox b) 256)
+    (sbox (plain_inverse_sbox b) == inv_untower b)
+    (all_below_tells 256 (λ b. nat_lt (plain_inverse_sbox b) 256
+    && (sbox (plain_inverse_sbox b) == inv_untower b)) plain_inverse_sbox_cases b l) in
+    sym (inv_sbox_of_sbox (plain_inverse_sbox b) (ltb-true _ _ t.0))
     ∙ ap inv_sbox (eqb-true _ _ t.1)) x h
     ∙ sym (map-map inv_sbox inv_untower x)
 
@@ -97,10 +98,10 @@ on_products f s x =
     map inv_untower (s (on 0) (on 1) (on 2) (on 3))
 
 -- the blocks and sums of `AreLooked` are what is looked up for the products
-looked_up : {f : LookUps} {x one four nine fifteen a b c : List ℕ}
+sums_looked_up : {f : LookUps} {x one four nine fifteen a b c : List ℕ}
     (s : List ℕ → List ℕ → List ℕ → List ℕ → List ℕ)
     → AreLooked f x one four nine fifteen a b c → map inv_untower (s a b c nine) ≡ on_products f s x
-looked_up {f = f} {x = x} s l = λ i. map inv_untower (s
+sums_looked_up {f = f} {x = x} s l = λ i. map inv_untower (s
     ((l.is_14 ∙ zip2_of_maps bit_xor f.by_1 f.by_15 x l.is_1 l.is_15) i)
     ((l.is_11 ∙ zip2_of_maps bit_xor f.by_15 f.by_4 x l.is_15 l.is_4) i)
     ((l.is_13 ∙ zip2_of_maps bit_xor f.by_4 f.by_9 x l.is_4 l.is_9) i) (l.is_9 i))
@@ -116,15 +117,15 @@ of_bytes = record {
 }
 
 -- the products with the inverse S-box
-products_made : Makes inv_untower plain_inv_sbox (products of_bytes)
+products_made : Makes inv_untower plain_inverse_sbox (products of_bytes)
 unfolding all_below first_of second_of inv_untower field_mul
 products_made = refl
 
 -- ---- the round
 
 -- the byte of row j after InvShiftRows, in column c
-abbrev pub inv_shifted : List ℕ → ℕ → ℕ → ℕ
-inv_shifted x c j = byte_at x j ((c + 4 - j) % 4)
+abbrev pub shifted_back : List ℕ → ℕ → ℕ → ℕ
+shifted_back x c j = byte_at x j ((c + 4 - j) % 4)
 
 -- the lanes that InvShiftRows brings to each place
 abbrev pub same_row : List ℕ
@@ -143,34 +144,35 @@ abbrev pub three_rows_on : List ℕ
 three_rows_on = 7 ∷ 0 ∷ 13 ∷ 10 ∷ 11 ∷ 4 ∷ 1 ∷ 14 ∷ 15 ∷ 8 ∷ 5 ∷ 2 ∷ 3 ∷ 12 ∷ 9 ∷ 6 ∷ []
 
 -- the sums that a round makes of four products of the state and a round key
-abbrev pub inv_round_of : List ℕ → List ℕ → List ℕ → List ℕ → List ℕ → List ℕ
-inv_round_of a b c d k =
+abbrev pub inverse_round_of : List ℕ → List ℕ → List ℕ → List ℕ → List ℕ → List ℕ
+inverse_round_of a b c d k =
     zip2 bit_xor (zip2 bit_xor (zip2 bit_xor (permuted a same_row) k)
     (zip2 bit_xor (permuted c two_rows_on) (permuted d three_rows_on)))
     (permuted b next_row)
 
 -- the round on lanes, from what it looks up
 abbrev on_lanes : List ℕ → List ℕ → List ℕ
-on_lanes x k = on_products of_bytes (λ a b c d. inv_round_of a b c d k) x
+on_lanes x k = on_products of_bytes (λ a b c d. inverse_round_of a b c d k) x
 
 -- the round on lanes is a sum of four products in each byte, by the places that the lanes come from
-lanes_are : (x k : List ℕ) → length x ≡ 16 → length k ≡ 16
-    → on_lanes x k ≡ rows_added inv_untower (products of_bytes) (inv_shifted x) (byte_at k)
+round_lanes_are : (x k : List ℕ) → length x ≡ 16 → length k ≡ 16
+    → on_lanes x k ≡ rows_added inv_untower (products of_bytes) (shifted_back x) (byte_at k)
 unfolding state build
-lanes_are = same_on_blocks on_lanes
-    (λ x k. rows_added inv_untower (products of_bytes) (inv_shifted x) (byte_at k))
+round_lanes_are = same_on_blocks on_lanes
+    (λ x k. rows_added inv_untower (products of_bytes) (shifted_back x) (byte_at k))
     (λ f g. refl)
 
 -- the sums of products of a round are those of InvMixColumns and AddRoundKey
-sums_are : (x k : List ℕ) → length x ≡ 16 → length k ≡ 16
-    → rows_multiplied plain_inv_sbox (products of_bytes) (inv_shifted x)
+round_sums_are : (x k : List ℕ) → length x ≡ 16 → length k ≡ 16
+    → rows_multiplied plain_inverse_sbox (products of_bytes) (shifted_back x)
     (λ r c. inv_untower (byte_at k r c))
-    ≡ add_round_key (inv_mix_columns (inv_shift_rows (map plain_inv_sbox x))) (map inv_untower k)
+    ≡ add_round_key (inv_mix_columns (inv_shift_rows (map plain_inverse_sbox x)))
+    (map inv_untower k)
 unfolding state build add_round_key inv_mix_columns row_by_column inv_shift_rows
-sums_are = same_on_blocks
-    (λ x k. rows_multiplied plain_inv_sbox (products of_bytes) (inv_shifted x)
+round_sums_are = same_on_blocks
+    (λ x k. rows_multiplied plain_inverse_sbox (products of_bytes) (shifted_back x)
     (λ r c. inv_untower (byte_at k r c)))
-    (λ x k. add_round_key (inv_mix_columns (inv_shift_rows (map plain_inv_sbox x)))
+    (λ x k. add_round_key (inv_mix_columns (inv_shift_rows (map plain_inverse_sbox x)))
     (map inv_untower k))
     (λ f g. refl)
 
@@ -178,19 +180,19 @@ sums_are = same_on_blocks
 -- stand for
 pub round_is : (x k : List ℕ) {one four nine fifteen a b c : List ℕ} → IsBlock x → length k ≡ 16
     → AreLooked of_bytes x one four nine fifteen a b c
-    → map inv_untower (inv_round_of a b c nine k)
+    → map inv_untower (inverse_round_of a b c nine k)
     ≡ add_round_key (inv_mix_columns (inv_shift_rows (inv_sub_bytes (map inv_untower x))))
     (map inv_untower k)
 round_is x k h m l =
-    looked_up (λ a b c d. inv_round_of a b c d k) l
-    ∙ lanes_are x k h.0 m
-    ∙ rows_mixed inv_untower plain_inv_sbox (products of_bytes) inv_untower_three products_made
-    (inv_shifted x) (byte_at k)
+    sums_looked_up (λ a b c d. inverse_round_of a b c d k) l
+    ∙ round_lanes_are x k h.0 m
+    ∙ rows_mixed inv_untower plain_inverse_sbox (products of_bytes) inv_untower_three products_made
+    (shifted_back x) (byte_at k)
     (λ r c. inv_untower (byte_at k r c)) (λ c j. h.1 _)
     (λ r c. add_zero (inv_untower (byte_at k r c)))
-    ∙ sums_are x k h.0 m
+    ∙ round_sums_are x k h.0 m
     ∙ ap (λ v. add_round_key (inv_mix_columns (inv_shift_rows v)) (map inv_untower k))
-    (plain_inv_sbox_is x h.1)
+    (plain_inverse_sbox_is x h.1)
 
 -- ---- the first round key, and the last round
 
@@ -207,10 +209,10 @@ plus63_of_sum (x ∷ b) [] = refl
 plus63_of_sum (x ∷ b) (y ∷ k) = λ i. xor_assoc x y 0x63 i ∷ plus63_of_sum b k i
 
 -- a block plus a round key with 0x63 in it, brought into the tower basis, stands for AddRoundKey
-pub first_is : (b k : List ℕ) → IsBlock b → IsBlock k
+pub first_sum_is : (b k : List ℕ) → IsBlock b → IsBlock k
     → map inv_untower (map (by_nibbles INV_TOWER_LOW INV_TOWER_HIGH) (zip2 bit_xor b k))
     ≡ add_round_key b (map plus63 k)
-first_is b k h m =
+first_sum_is b k h m =
     let f = by_nibbles INV_TOWER_LOW INV_TOWER_HIGH in
     map-map inv_untower f (zip2 bit_xor b k)
     ∙ maps_same (λ b. inv_untower (f b)) plus63 tower_cases (zip2 bit_xor b k)
@@ -218,22 +220,23 @@ first_is b k h m =
     ∙ plus63_of_sum b k ∙ blocks_summed b (map plus63 k) h.0 (map_length plus63 k ∙ m.0)
 
 -- the sum of the last round: the substituted bytes, shifted back, and a round key
-abbrev pub last_of : List ℕ → List ℕ → List ℕ
-last_of p k = zip2 bit_xor (permuted p same_row) k
+abbrev pub last_sum_of : List ℕ → List ℕ → List ℕ
+last_sum_of p k = zip2 bit_xor (permuted p same_row) k
 
 -- the sum of the last round is InvShiftRows and AddRoundKey
-last_shifted : (y k : List ℕ) → length y ≡ 16 → length k ≡ 16
-    → last_of y k ≡ add_round_key (inv_shift_rows y) k
+last_sum_is : (y k : List ℕ) → length y ≡ 16 → length k ≡ 16
+    → last_sum_of y k ≡ add_round_key (inv_shift_rows y) k
 unfolding state build add_round_key inv_shift_rows
-last_shifted = same_on_blocks last_of (λ y k. add_round_key (inv_shift_rows y) k) (λ f g. refl)
+last_sum_is = same_on_blocks last_sum_of (λ y k. add_round_key (inv_shift_rows y) k) (λ f g. refl)
 
 -- the last round on lanes is InvSubBytes, InvShiftRows and AddRoundKey, and its bytes stand for
 -- themselves
-pub last_is : (x k : List ℕ) {p : List ℕ} → IsBlock x → length k ≡ 16 → p ≡ map plain_inv_sbox x
-    → last_of p k ≡ add_round_key (inv_shift_rows (inv_sub_bytes (map inv_untower x))) (map as_is k)
-last_is x k {p = p} h m e =
-    last_shifted p k (ap length e ∙ map_length plain_inv_sbox x ∙ h.0) m
-    ∙ ap (λ v. add_round_key (inv_shift_rows v) k) (e ∙ plain_inv_sbox_is x h.1)
+pub last_round_is : (x k : List ℕ) {p : List ℕ} → IsBlock x → length k ≡ 16
+    → p ≡ map plain_inverse_sbox x → last_sum_of p k
+    ≡ add_round_key (inv_shift_rows (inv_sub_bytes (map inv_untower x))) (map as_is k)
+last_round_is x k {p = p} h m e =
+    last_sum_is p k (ap length e ∙ map_length plain_inverse_sbox x ∙ h.0) m
+    ∙ ap (λ v. add_round_key (inv_shift_rows v) k) (e ∙ plain_inverse_sbox_is x h.1)
     ∙ ap (add_round_key (inv_shift_rows (inv_sub_bytes (map inv_untower x)))) (sym (map-id k))
 
 -- ---- InvMixColumns of a round key
@@ -249,9 +252,9 @@ of_key = record {
 }
 
 -- the products with a byte
-key_products_made : Makes inv_untower (λ b. b) (products of_key)
+round_key_products_made : Makes inv_untower (λ b. b) (products of_key)
 unfolding all_below inv_untower field_mul
-key_products_made = refl
+round_key_products_made = refl
 
 -- the lanes of the next row in the same column
 abbrev pub next_in_column : List ℕ
@@ -303,17 +306,17 @@ key_sums_are = same_on_block
     (λ x. zip2 bit_xor (inv_mix_columns x) (replicate 16 0)) (λ f. refl)
 
 -- the sums of what is looked up of a round key stand for InvMixColumns of it
-pub unmixed_is : (x : List ℕ) {one four nine fifteen a b c : List ℕ} → IsBlock x
+pub unmixed_key_is : (x : List ℕ) {one four nine fifteen a b c : List ℕ} → IsBlock x
     → AreLooked of_key x one four nine fifteen a b c
     → map inv_untower (unmixed_of a b c nine) ≡ inv_mix_columns x
 unfolding inv_untower
-unmixed_is x h l =
+unmixed_key_is x h l =
     let a : List ℕ = map (products of_key 0).look_up x in
-    looked_up unmixed_of l
+    sums_looked_up unmixed_of l
     ∙ ap (λ v. on_products of_key (λ _. unmixed_of v) x)
     (sym (zeros_added a (map_length _ x ∙ h.0)))
     ∙ key_lanes_are x h.0
-    ∙ rows_mixed inv_untower (λ b. b) (products of_key) inv_untower_three key_products_made
+    ∙ rows_mixed inv_untower (λ b. b) (products of_key) inv_untower_three round_key_products_made
     (key_moved x)
     (λ r c. 0) (λ r c. 0) (λ c j. h.1 _) (λ r c. refl)
     ∙ key_sums_are x h.0

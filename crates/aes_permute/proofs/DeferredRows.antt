@@ -14,7 +14,7 @@ use Rattle.aes_permute.specs.Stored.{untower, key_untower}
 use Rattle.aes_permute.specs.declared.tables.TheConstants.{SHIFTED_ROWS, NEXT_ROW, ROW_BEFORE}
 use Rattle.aes_permute.proofs.ExpandedLanes.{inner_is}
 use Rattle.aes_permute.proofs.RoundLanes.{by_1, by_2, plain_sbox, permuted, paired, round_of}
-use Rattle.aes_permute.proofs.RoundLanes.{last_of, round_is, last_is}
+use Rattle.aes_permute.proofs.RoundLanes.{last_sum_of, round_is, last_round_is}
 
 -- ---- tables of places
 
@@ -208,8 +208,8 @@ deferred_last_is n x key some block long is_p =
     (λ i. zip2 bit_xor (permuted (is_p i) (places_in SHIFTED_ROWS k)) key)
     ∙ (λ i. zip2 bit_xor
     (made_up_last k (omega arith) (map plain_sbox x) (map_length plain_sbox x ∙ l) i) key)
-    ∙ (λ i. last_of (sym (times_map plain_sbox (before k) x l) i) key)
-    ∙ last_is (shift_times (before k) x) key (times_block (before k) x block) long refl
+    ∙ (λ i. last_sum_of (sym (times_map plain_sbox (before k) x l) i) key)
+    ∙ last_round_is (shift_times (before k) x) key (times_block (before k) x block) long refl
     ∙ (λ i. add_round_key (shift_rows (sub_bytes
     ((times_map untower (before k) x l ∙ ap (λ m. shift_times m (map untower x)) (earlier n some))
     i))) (map plus63 key))

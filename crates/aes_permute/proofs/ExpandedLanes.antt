@@ -78,19 +78,20 @@ coded_state x s a = state (λ r c. coded (byte_at x r) (byte_at s r c) (byte_at 
 columns_are : (x s a : List ℕ) → length x ≡ 16 → length s ≡ 16 → length a ≡ 16
     → columns_of x s a ≡ coded_state x s a
 unfolding state build
-columns_are x s a l m n =
-    subst (λ v. columns_of v s a ≡ coded_state v s a) (built 16 x 0 l)
+columns_are x s a x_long s_long a_long =
+    subst (λ v. columns_of v s a ≡ coded_state v s a) (built 16 x 0 x_long)
     (same_on_blocks (columns_of (build 16 (λ i. get_or x i 0)))
     (coded_state (build 16 (λ i. get_or x i 0)))
-    (λ f g. refl) s a m n)
+    (λ f g. refl) s a s_long a_long)
 
 -- two steps of such sums make each column the sum of all columns up to it, an addend and a constant
-summed_is : (x s a : List ℕ) {p q : List ℕ} → length x ≡ 16 → length s ≡ 16 → length a ≡ 16
+summed_in_two_steps : (x s a : List ℕ) {p q : List ℕ} → length x ≡ 16 → length s ≡ 16
+    → length a ≡ 16
     → p ≡ pairs_of x → q ≡ sums_of p → zip2 bit_xor (zip2 bit_xor q a) s
     ≡ state (λ r c. summed field_add (byte_at x r) (field_add (byte_at s r c) (byte_at a r c)) c)
-summed_is x s a l m n e f =
-    ap (λ v. zip2 bit_xor (zip2 bit_xor v a) s) (f ∙ ap sums_of e)
-    ∙ columns_are x s a l m n
+summed_in_two_steps x s a x_long s_long a_long pairs_are sums_are =
+    ap (λ v. zip2 bit_xor (zip2 bit_xor v a) s) (sums_are ∙ ap sums_of pairs_are)
+    ∙ columns_are x s a x_long s_long a_long
     ∙ state_same _ _ (λ r c i j. coded_is (byte_at x r) (byte_at s r c) (byte_at a r c) c j)
 
 -- ---- in the tower basis
@@ -123,17 +124,18 @@ pub tower_summed_is : (x s a : List ℕ) {p q : List ℕ} → length x ≡ 16 �
     → length a ≡ 16 → p ≡ pairs_of x → q ≡ sums_of p
     → map untower (zip2 bit_xor (zip2 bit_xor q a) s)
     ≡ from_start (map untower x) (map untower s) (map untower a)
-tower_summed_is x s a {p = p} {q = q} l m n e f =
+tower_summed_is x s a {p = p} {q = q} x_long s_long a_long pairs_are sums_are =
     let with_moved : (y ks : List ℕ) → map untower (zip2 bit_xor y (map (looked y) ks))
     ≡ zip2 bit_xor (map untower y) (map (looked (map untower y)) ks) =
     λ y ks. sum_untowered y (map (looked y) ks)
     ∙ ap (zip2 bit_xor (map untower y)) (moved_untowered y ks) in
     sum_untowered (zip2 bit_xor q a) s
     ∙ ap (λ v. zip2 bit_xor v (map untower s)) (sum_untowered q a)
-    ∙ summed_is (map untower x) (map untower s) (map untower a) (map_length untower x ∙ l)
-    (map_length untower s ∙ m) (map_length untower a ∙ n)
-    (ap (map untower) e ∙ with_moved x COLUMN_BEFORE)
-    (ap (map untower) f ∙ with_moved p TWO_COLUMNS_BEFORE)
+    ∙ summed_in_two_steps (map untower x) (map untower s) (map untower a)
+    (map_length untower x ∙ x_long)
+    (map_length untower s ∙ s_long) (map_length untower a ∙ a_long)
+    (ap (map untower) pairs_are ∙ with_moved x COLUMN_BEFORE)
+    (ap (map untower) sums_are ∙ with_moved p TWO_COLUMNS_BEFORE)
 
 -- ---- round constants
 
@@ -179,14 +181,14 @@ first_column_carried x z v k (suc c) first others =
 constant_carried : (x : List ℕ) (v k r c : ℕ) → length x ≡ 16 → r < 4
     → summed field_add (byte_at (set x 0 (bit_xor (get_or x 0 0) k)) r) v c
     ≡ summed field_add (byte_at x r) (bit_xor v (cond (r == 0) k 0)) c
-constant_carried x v k r c l lt =
+constant_carried x v k r c x_long lt =
     let z = set x 0 (bit_xor (get_or x 0 0) k) in
     let other : (i : ℕ) → i ≢ 0 → get_or z i 0 ≡ get_or x i 0 = λ i. get_or-set_other x 0 i _ 0 in
     let row : (i : ℕ) → i ≢ 0 → get_or z i 0 ≡ bit_xor (get_or x i 0) 0 =
     λ i h. other i h ∙ sym (add_zero (get_or x i 0)) in
     first_column_carried (byte_at x r) (byte_at z r) v (cond (r == 0) k 0) c
     (by_four (λ r. byte_at z r 0 ≡ bit_xor (byte_at x r 0) (cond (r == 0) k 0))
-    (get_or-set_same x 0 _ 0 (omega (arith, l)))
+    (get_or-set_same x 0 _ 0 (omega (arith, x_long)))
     (row 1 (omega arith)) (row 2 (omega arith)) (row 3 (omega arith)) r lt)
     (λ d. other (r + 4 * suc d) (omega arith))
 
@@ -277,14 +279,14 @@ pub rotated_is : {x y : List ℕ} (u v b s z : List ℕ) (k : ℕ) → map untow
     → map untower z ≡ from_start (map untower b) (map untower s) (map untower (replicate 16 0x6e))
     → map untower z ≡ columns_summed 1 3 x (add_round_key (sub_bytes y) (constant_block k))
 unfolding build
-rotated_is u v b s z k hx hy l m is_b is_s f =
+rotated_is u v b s z k is_x is_y u_long v_long is_b is_s is_z =
     let x = map untower u in
     let y = map untower v in
-    let x_long : length x ≡ 16 = map_length untower u ∙ l in
-    let y_long : length y ≡ 16 = map_length untower v ∙ m in
+    let x_long : length x ≡ 16 = map_length untower u ∙ u_long in
+    let y_long : length y ≡ 16 = map_length untower v ∙ v_long in
     let moved = same_on_block (λ v. map untower (swizzled v rotated_column))
-    (λ v. swizzled (map untower v) rotated_column) (λ g. refl) v m in
-    f ∙ (λ i. from_start ((is_b ∙ first_changed x k x_long) i)
+    (λ v. swizzled (map untower v) rotated_column) (λ g. refl) v v_long in
+    is_z ∙ (λ i. from_start ((is_b ∙ first_changed x k x_long) i)
     (start_is v rotated_column s moved is_s i) (constants_untowered i))
     ∙ rotated_state (set x 0 (bit_xor (get_or x 0 0) k)) y y_long
     ∙ state_same _ _ (λ r c i j.
@@ -292,7 +294,7 @@ rotated_is u v b s z k hx hy l m is_b is_s f =
     ∙ summed_from (byte_at x r) _ _ c (ap (λ v. bit_xor v (cond (r == 0) k 0))
     (add_twice (byte_at (sub_bytes y) ((r + 1) % 4) 3) 0x63)))
     ∙ rotated_sums x (sub_bytes y) k (sub_length y y_long)
-    ∙ (λ i. columns_summed 1 3 (hx i) (add_round_key (sub_bytes (hy i)) (constant_block k)))
+    ∙ (λ i. columns_summed 1 3 (is_x i) (add_round_key (sub_bytes (is_y i)) (constant_block k)))
 
 -- SubWord of the last column, summed onto the columns of a block
 pub substituted_is : {x y : List ℕ} (u v s z : List ℕ) → map untower u ≡ x → map untower v ≡ y
@@ -301,16 +303,16 @@ pub substituted_is : {x y : List ℕ} (u v s z : List ℕ) → map untower u ≡
     → map untower z ≡ from_start (map untower u) (map untower s) (map untower (replicate 16 0x6e))
     → map untower z ≡ columns_summed 0 3 x (sub_bytes y)
 unfolding build columns_summed
-substituted_is u v s z hx hy m is_s f =
+substituted_is u v s z is_x is_y v_long is_s is_z =
     let x = map untower u in
     let y = map untower v in
     let moved = same_on_block (λ v. map untower (swizzled v last_column))
-    (λ v. swizzled (map untower v) last_column) (λ g. refl) v m in
-    f ∙ (λ i. from_start x (start_is v last_column s moved is_s i) (constants_untowered i))
-    ∙ substituted_state x y (map_length untower v ∙ m)
+    (λ v. swizzled (map untower v) last_column) (λ g. refl) v v_long in
+    is_z ∙ (λ i. from_start x (start_is v last_column s moved is_s i) (constants_untowered i))
+    ∙ substituted_state x y (map_length untower v ∙ v_long)
     ∙ state_same _ _ (λ r c i j. summed_from (byte_at x r) _ _ c
     (add_twice (byte_at (sub_bytes y) ((r + 0) % 4) 3) 0x63))
-    ∙ (λ i. columns_summed 0 3 (hx i) (sub_bytes (hy i)))
+    ∙ (λ i. columns_summed 0 3 (is_x i) (sub_bytes (is_y i)))
 
 -- the columns from a second column as it is, row by row
 plain_state : (x y : List ℕ) → length y ≡ 16
@@ -329,11 +331,11 @@ pub plain_is : {x y : List ℕ} (u v z : List ℕ) → map untower u ≡ x → m
     (map untower (replicate 16 0))
     → map untower z ≡ columns_summed 0 1 x y
 unfolding columns_summed
-plain_is u v z hx hy l f =
-    f ∙ plain_state (map untower u) v l
+plain_is u v z is_x is_y v_long is_z =
+    is_z ∙ plain_state (map untower u) v v_long
     ∙ state_same _ _ (λ r c i j. summed_from (byte_at (map untower u) r) _ _ c
     (add_zero (byte_at (map untower v) ((r + 0) % 4) 1)))
-    ∙ (λ i. columns_summed 0 1 (hx i) (hy i))
+    ∙ (λ i. columns_summed 0 1 (is_x i) (is_y i))
 
 -- ---- the last columns of one block and the first of the next
 
@@ -345,10 +347,10 @@ straddling = 8 ∷ 9 ∷ 10 ∷ 11 ∷ 12 ∷ 13 ∷ 14 ∷ 15 ∷ 16 ∷ 17 ∷
 pub straddled_is : (x y u v : List ℕ) → map untower u ≡ x → map untower v ≡ y → length u ≡ 16
     → length v ≡ 16 → map untower (pick_l 0 (u ++ v) straddling) ≡ columns_straddled x y
 unfolding state build columns_straddled
-straddled_is x y u v hx hy l m =
+straddled_is x y u v is_x is_y u_long v_long =
     same_on_blocks (λ x y. map untower (pick_l 0 (x ++ y) straddling))
-    (λ x y. columns_straddled (map untower x) (map untower y)) (λ f g. refl) u v l m
-    ∙ (λ i. columns_straddled (hx i) (hy i))
+    (λ x y. columns_straddled (map untower x) (map untower y)) (λ f g. refl) u v u_long v_long
+    ∙ (λ i. columns_straddled (is_x i) (is_y i))
 
 -- ---- stored round keys
 

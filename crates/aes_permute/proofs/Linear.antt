@@ -198,12 +198,12 @@ pub rows_mixed : (v g : ℕ → ℕ) (p : ℕ → Product) → SumsOfThree v →
     → (at y z : ℕ → ℕ → ℕ) → ((c j : ℕ) → at c j < 256)
     → ((r c : ℕ) → bit_xor (v (y r c)) (sum_of_four (λ i. (p i).constant)) ≡ z r c)
     → rows_added v p at y ≡ rows_multiplied g p at z
-rows_mixed v g p l m at y z h e = state_same _ _ (λ r c i j.
+rows_mixed v g p of_three makes at y z bytes constants_added = state_same _ _ (λ r c i j.
     let b : ℕ → ℕ = λ i. at c ((r + i) % 4) in
     let product : ℕ → ℕ = λ i. field_mul (p i).coefficient (g (b i)) in
-    sum_of_five v l (λ i. (p i).look_up (b i)) (y r c)
+    sum_of_five v of_three (λ i. (p i).look_up (b i)) (y r c)
     ∙ same_in_order _ _ (v (y r c))
-    (λ i k. eqb-true _ _ (all_pairs_tell 4 256 (made v g p) m i (b i) k (h _ _)))
+    (λ i k. eqb-true _ _ (all_pairs_tell 4 256 (made v g p) makes i (b i) k (bytes _ _)))
     ∙ constants_gathered product (λ i. (p i).constant) (v (y r c))
-    ∙ ap (in_order product) (e r c)
+    ∙ ap (in_order product) (constants_added r c)
     ∙ rows_turned (λ n j. field_mul (p n).coefficient (g (at c j))) (z r c) r i)

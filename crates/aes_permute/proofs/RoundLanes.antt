@@ -136,10 +136,10 @@ rows_by_pairs x k =
     (by_1 (shifted x c ((r + 3) % 4))) (byte_at k r c)))
 
 -- the round on lanes is a sum of four products in each byte, by the places that the lanes come from
-lanes_are : (x k : List ℕ) → length x ≡ 16 → length k ≡ 16
+round_lanes_are : (x k : List ℕ) → length x ≡ 16 → length k ≡ 16
     → on_lanes x k ≡ rows_added untower products (shifted x) (byte_at k)
 unfolding state build
-lanes_are x k l m =
+round_lanes_are x k l m =
     same_on_blocks on_lanes rows_by_pairs (λ f g. refl) x k l m
     ∙ state_same _ _ (λ r c i j. ap untower
     (pairs_parted (by_2 (shifted x c (r % 4))) (by_1 (shifted x c ((r + 1) % 4)))
@@ -147,10 +147,10 @@ lanes_are x k l m =
     (by_1 (shifted x c ((r + 3) % 4))) (byte_at k r c)))
 
 -- the sums of products of a round are those of MixColumns and AddRoundKey
-sums_are : (x k : List ℕ) → length x ≡ 16 → length k ≡ 16
+round_sums_are : (x k : List ℕ) → length x ≡ 16 → length k ≡ 16
     → rows_multiplied boxed products (shifted x) (λ r c. key_untower (byte_at k r c)) ≡ standard x k
 unfolding state build add_round_key mix_columns row_by_column shift_rows sub_bytes
-sums_are = same_on_blocks
+round_sums_are = same_on_blocks
     (λ x k. rows_multiplied boxed products (shifted x) (λ r c. key_untower (byte_at k r c)))
     standard (λ f g. refl)
 
@@ -160,12 +160,12 @@ pub round_is : (x k : List ℕ) {o t p : List ℕ} → IsBlock x → length k �
     → p ≡ paired o t → map untower (round_of o p k)
     ≡ add_round_key (mix_columns (shift_rows (sub_bytes (map untower x)))) (map key_untower k)
 unfolding key_untower
-round_is x k b m q s e =
-    (λ i. map untower (round_of (q i) ((e ∙ (λ j. paired (q j) (s j))) i) k))
-    ∙ lanes_are x k b.0 m
+round_is x k is_block k_long o_is t_is p_is =
+    (λ i. map untower (round_of (o_is i) ((p_is ∙ (λ j. paired (o_is j) (t_is j))) i) k))
+    ∙ round_lanes_are x k is_block.0 k_long
     ∙ rows_mixed untower boxed products untower_three products_made (shifted x) (byte_at k)
-    (λ r c. key_untower (byte_at k r c)) (λ c j. b.1 _) (λ r c. refl)
-    ∙ sums_are x k b.0 m
+    (λ r c. key_untower (byte_at k r c)) (λ c j. is_block.1 _) (λ r c. refl)
+    ∙ round_sums_are x k is_block.0 k_long
 
 -- ---- the first round key, and the last round
 
@@ -188,10 +188,10 @@ untowered x h = map-map untower tower x
     ∙ maps_same (λ b. untower (tower b)) (λ b. b) tower_cases x h ∙ map-id x
 
 -- a block plus the first round key, brought into the tower basis, stands for AddRoundKey
-pub first_is : (b k : List ℕ) → IsBlock b → IsBlock k
+pub first_sum_is : (b k : List ℕ) → IsBlock b → IsBlock k
     → map untower (map (by_nibbles TOWER_LOW TOWER_HIGH) (zip2 bit_xor b k))
     ≡ add_round_key b (map as_is k)
-first_is b k h m =
+first_sum_is b k h m =
     untowered (zip2 bit_xor b k) (zip_sum_bytes b k h m) ∙ blocks_summed b k h.0 m.0
     ∙ ap (add_round_key b) (sym (map-id k))
 
@@ -213,14 +213,14 @@ but_constant f cases x h = maps_same f (λ b. plus63 (boxed b)) cases x h
     ∙ ap (map plus63) (sym (map-map sbox untower x))
 
 -- the sum of the last round: the substituted bytes, shifted, and a round key
-abbrev pub last_of : List ℕ → List ℕ → List ℕ
-last_of p k = zip2 bit_xor (permuted p same_row) k
+abbrev pub last_sum_of : List ℕ → List ℕ → List ℕ
+last_sum_of p k = zip2 bit_xor (permuted p same_row) k
 
 -- the sum of the last round is ShiftRows and AddRoundKey
-last_shifted : (y k : List ℕ) → length y ≡ 16 → length k ≡ 16
-    → last_of y k ≡ add_round_key (shift_rows y) k
+last_sum_is : (y k : List ℕ) → length y ≡ 16 → length k ≡ 16
+    → last_sum_of y k ≡ add_round_key (shift_rows y) k
 unfolding state build add_round_key shift_rows
-last_shifted = same_on_blocks last_of (λ y k. add_round_key (shift_rows y) k) (λ f g. refl)
+last_sum_is = same_on_blocks last_sum_of (λ y k. add_round_key (shift_rows y) k) (λ f g. refl)
 
 -- 0x63 in each byte stays there when bytes change places
 permuted_plus63 : (y : List ℕ) → length y ≡ 16
@@ -238,16 +238,16 @@ plus63_across (x ∷ xs) (y ∷ ys) =
     λ i. (xor_assoc x 0x63 y ∙ ap (bit_xor x) (xor_comm 0x63 y)) i ∷ plus63_across xs ys i
 
 -- the last round on lanes is SubBytes, ShiftRows and AddRoundKey of a round key with 0x63 in it
-pub last_is : (x k : List ℕ) {p : List ℕ} → IsBlock x → length k ≡ 16 → p ≡ map plain_sbox x
-    → last_of p k ≡ add_round_key (shift_rows (sub_bytes (map untower x))) (map plus63 k)
+pub last_round_is : (x k : List ℕ) {p : List ℕ} → IsBlock x → length k ≡ 16 → p ≡ map plain_sbox x
+    → last_sum_of p k ≡ add_round_key (shift_rows (sub_bytes (map untower x))) (map plus63 k)
 unfolding sub_bytes
-last_is x k h m e =
+last_round_is x k h m e =
     let y = sub_bytes (map untower x) in
     let l : length y ≡ 16 = map_length sbox (map untower x) ∙ map_length untower x ∙ h.0 in
-    ap (λ v. last_of v k) (e ∙ but_constant plain_sbox plain_sbox_cases x h.1)
+    ap (λ v. last_sum_of v k) (e ∙ but_constant plain_sbox plain_sbox_cases x h.1)
     ∙ ap (λ v. zip2 bit_xor v k) (permuted_plus63 y l)
     ∙ plus63_across (permuted y same_row) k
-    ∙ last_shifted y (map plus63 k) l (map_length plus63 k ∙ m)
+    ∙ last_sum_is y (map plus63 k) l (map_length plus63 k ∙ m)
 
 -- ---- SubBytes in the tower basis
 

@@ -53,7 +53,8 @@ key_of_lanes stored = leading_key (lane_key_size stored) (encrypting stored)
 abbrev pub key_in_room : ℕ → List (List ℕ) → List ℕ
 key_in_room size blocks = key_of_lanes (stored_keys size blocks)
 
--- the blocks of room behind the round keys of a key of `size` bytes are zero, so that none of another key's is left there
+-- the blocks of room after the round keys of a key of `size` bytes are zero, so that none of
+-- another key's is left there
 abbrev pub AreZeroAfter : ℕ → List (List ℕ) → Type 0
 AreZeroAfter size blocks = drop (size / 4 + 7) blocks ≡ replicate (15 - (size / 4 + 7)) (replicate 16 0)
 

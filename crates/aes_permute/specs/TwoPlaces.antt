@@ -1,5 +1,5 @@
--- The inverse of a byte in the tower basis, by two places: what is linear in the inverse is the sum of the entries
--- there.
+-- The inverse of a byte in the tower basis, by two places: what is linear in the inverse is the sum
+-- of the entries there.
 use Rattle.std.specs.Prelude.{ℕ, List, bit_xor}
 use Rattle.aes_permute.specs.Lookup.{looked, low_nibble, high_nibble}
 use Rattle.aes_permute.specs.declared.tables.TheConstants.{INVERSE, SCALED_INVERSE}

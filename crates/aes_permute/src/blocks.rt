@@ -1,5 +1,5 @@
-//! Blocks processed under stored round keys: those of a vector, of two vectors at once, and slices
-//! of them.
+//! Blocks processed under stored round keys: the blocks of a vector, of two vectors at once, and of
+//! slices.
 
 ghost use Rattle.std.specs.Prelude.{◌≡◌, ◌≤◌, ℕ, length};
 ghost use Rattle.aes_planes.specs.Each.{Each};
@@ -20,19 +20,19 @@ fn process_vector<D: LaneRounds, L: Lanes>(keys: &[Block], blocks: L) -> L
 {
     let last = keys.len() - 1;
     let first_key = L::repeated(keys[0]);
-    let mut x = D::first(blocks, first_key);
+    let mut x = D::add_first_key(blocks, first_key);
     for i in 1..last {
         let key = L::repeated(keys[i]);
         x = D::round(x, key, i);
     }
     let last_key = L::repeated(keys[last]);
-    D::last(x, last_key, last)
+    D::last_round(x, last_key, last)
 }
 
-// Processes the blocks of two vectors, round by round: the steps of one fill the waits of the
-// other.
+// Processes the blocks of two vectors, round by round. While one vector waits for a result, the
+// processor works on the other.
 #[inline(always)]
-fn process_two<D: LaneRounds, L: Lanes>(keys: &[Block], one: L, other: L) -> (L, L)
+fn process_two_vectors<D: LaneRounds, L: Lanes>(keys: &[Block], one: L, other: L) -> (L, L)
     requires two { 2 ≤ length keys.now }
     ensures one { (i : ℕ) → L.block result.0 i ≡ all_rounds D.step D.last_step
         (round_keys_of D.form keys.now) (L.block one i) }
@@ -41,21 +41,21 @@ fn process_two<D: LaneRounds, L: Lanes>(keys: &[Block], one: L, other: L) -> (L,
 {
     let last = keys.len() - 1;
     let first_key = L::repeated(keys[0]);
-    let mut x = D::first(one, first_key);
-    let mut y = D::first(other, first_key);
+    let mut x = D::add_first_key(one, first_key);
+    let mut y = D::add_first_key(other, first_key);
     for i in 1..last {
         let key = L::repeated(keys[i]);
         x = D::round(x, key, i);
         y = D::round(y, key, i);
     }
     let last_key = L::repeated(keys[last]);
-    let first = D::last(x, last_key, last);
-    let second = D::last(y, last_key, last);
+    let first = D::last_round(x, last_key, last);
+    let second = D::last_round(y, last_key, last);
     (first, second)
 }
 
-/// Processes a block under stored round keys. Inlined, so that a block that depends on the one before
-/// it, as in a chain, stays in a register.
+/// Processes a block under stored round keys. Inlined, so that a block that depends on the one
+/// before it, as in a chain, stays in a register.
 #[inline(always)]
 pub fn process_one<D: LaneRounds>(keys: &[Block], block: &mut Block)
     requires two { 2 ≤ length keys.now }
@@ -78,7 +78,7 @@ pub fn process_on_lanes<D: LaneRounds, L: Lanes>(keys: &[Block], blocks: &mut [B
     'pairs: while count - done >= 2 * size {
         let one = L::load(blocks, done);
         let other = L::load(blocks, done + size);
-        let (first, second) = process_two::<D, L>(keys, one, other);
+        let (first, second) = process_two_vectors::<D, L>(keys, one, other);
         first.store(blocks, done);
         second.store(blocks, done + size);
         done += 2 * size;

@@ -1,8 +1,8 @@
-//! Stored round keys at values from outside, as contracts, so that a slip in a definition is
-//! refused. The calls have no effect.
+//! Stored round keys at values from outside, as contracts. With them the prover refuses a mistake
+//! in a definition. The calls have no effect.
 //!
-//! `bytes n 0x..` is the n bytes that these digits write. What is stored was computed by a separate
-//! model in Python, from the standard and the basis that `tables.rt` describes.
+//! `bytes n 0x..` is the n bytes that these digits write. A separate model in Python computed what
+//! is stored, from the standard and the basis that `tables.rt` describes.
 
 ghost use Rattle.std.specs.Prelude.{◌≡◌, ◌∷◌, [], length, map, replicate, slice_set};
 ghost use Rattle.aes_planes.specs.BigEndian.{bytes};
@@ -44,7 +44,7 @@ const DECRYPTING: [u128; 11] = [
     0x000102030405060708090a0b0c0d0e0f,
 ];
 
-/// What bytes stand for. 0x15 is 0x53 in the tower basis; in a state of decryption it stands for
+/// What bytes stand for. 0x15 is 0x53 in the tower basis. In a state of decryption 0x15 stands for
 /// the affine transformation of 0x53 (FIPS 197, 5.1.1), and in a round key for the sum of 0x53 and
 /// 0x63.
 #[tactic(auto, unfolding(crate::proofs::OnLiterals::stored_on_literals))]
@@ -88,8 +88,8 @@ pub fn decrypting_keys()
         []) }
 {}
 
-/// The stored round keys of EqInvCipher are those of the same key as Cipher's. Cipher's own are
-/// not, and neither are two round keys that aren't reversed.
+/// The stored round keys of EqInvCipher are those of the same key as Cipher's. Cipher's own round
+/// keys are not, and neither are two round keys that aren't reversed.
 #[tactic(auto, unfolding(aes_planes::proofs::OnLiterals::inverted_on_literals, crate::proofs::OnLiterals::stored_on_literals))]
 pub fn inverse_examples()
     ensures pair { AreInverse (map (bytes 16) DECRYPTING) (map (bytes 16) ENCRYPTING) }
@@ -97,8 +97,8 @@ pub fn inverse_examples()
     ensures in_order { ¬ AreInverse (bytes 16 1 ∷ bytes 16 2 ∷ []) (bytes 16 1 ∷ bytes 16 2 ∷ []) }
 {}
 
-/// Eleven, thirteen and fifteen round keys are those of keys of 16, 24 and 32 bytes; twelve are of
-/// none.
+/// Eleven, thirteen and fifteen round keys belong to keys of 16, 24 and 32 bytes. Twelve belong to
+/// no key.
 pub fn size_examples()
     ensures sizes { map (λ n. lane_key_size (replicate n [])) (11 ∷ 13 ∷ 15 ∷ [])
         ≡ 16 ∷ 24 ∷ 32 ∷ [] }
@@ -132,8 +132,8 @@ pub fn room_examples()
         ≡ bytes 32 0x603deb1015ca71be2b73aef0857d77811f352c073b6108d72d9810a30914dff4 }
 {}
 
-/// A bit that is left in a block after the round keys is found: in the first of them and in the
-/// last. Keys of 32 bytes leave no block over.
+/// A bit that is left in a block after the round keys is found, in the first of these blocks and in
+/// the last. Keys of 32 bytes leave no block over.
 pub fn left_behind_examples()
     ensures first_after_16 { ¬ AreZeroAfter 16 (slice_set (replicate 15 (replicate 16 0)) 11 (replicate 16 1)) }
     ensures last_after_16 { ¬ AreZeroAfter 16 (slice_set (replicate 15 (replicate 16 0)) 14 (replicate 16 1)) }

@@ -1,5 +1,5 @@
-//! Two blocks in one vector of 32 bytes: the first in the lower half. Where a processor has no such
-//! vectors, each half is a vector of its own.
+//! Two blocks in one vector of 32 bytes. The first is in the lower half. On a processor without
+//! such vectors, each half is a vector of its own.
 
 ghost use Rattle.std.specs.Prelude.{◌≡◌, ◌++◌, take, drop, length};
 ghost use Rattle.aes_planes.specs.Fips197 as fips;

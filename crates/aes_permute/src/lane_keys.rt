@@ -26,8 +26,8 @@ const TWO_COLUMNS_BEFORE: [u8; 16] = [
     0x80, 0x80, 0x80, 0x80, 0x80, 0x80, 0x80, 0x80, 0, 1, 2, 3, 4, 5, 6, 7,
 ];
 
-// In the tower basis, each column of the result is the sum of the columns up to it, of `start`
-// there, and of `addend` there.
+// In the tower basis, each column of the result is a sum of columns: of those of `before` up to it,
+// of that of `start`, and of that of `addend`.
 #[tactic(auto, unfolding(crate::specs::Lookup::is_index))]
 #[inline(always)]
 fn summed_columns(before: u8x16, start: u8x16, addend: u8x16) -> u8x16
@@ -52,8 +52,8 @@ fn tower_byte(byte: u8) -> u8
     TOWER_LOW[usize::from(byte & 0x0f)] ^ TOWER_HIGH[usize::from(byte >> 4)]
 }
 
-// Adds a round constant to the first byte. `summed_columns` then adds each column to those behind it,
-// so the constant comes to row 0 of every column.
+// Adds a round constant to the first byte. `summed_columns` then adds each column to those after
+// it, so the constant comes to row 0 of every column.
 #[inline(always)]
 fn with_constant(words: u8x16, constant: u8) -> u8x16
     requires { length words ≡ 16 }
@@ -63,7 +63,7 @@ fn with_constant(words: u8x16, constant: u8) -> u8x16
     words ^ u8x16::from_array([byte, 0, 0, 0, 0, 0, 0, 0, 0, 0, 0, 0, 0, 0, 0, 0])
 }
 
-// Four words as round key `i` of those from 0 to a last one is stored.
+// Returns four words as they are stored for round key `i`, of those from 0 to a last one.
 #[inline(always)]
 fn stored_key(words: u8x16, i: usize, last: usize) -> u8x16
     requires { 1 ≤ last }
@@ -76,14 +76,14 @@ fn stored_key(words: u8x16, i: usize, last: usize) -> u8x16
         return out_of_tower(words);
     }
     if i == last {
-        // The last round key has the constant of the S-box as those between do, but isn't in the
-        // tower basis.
+        // Like the round keys between, the last one contains the constant of the S-box. But it
+        // isn't in the tower basis.
         return plain_key(words);
     }
     encrypting_key(words, i)
 }
 
-// The schedule of Cipher, made in vectors: one has four words, in the tower basis.
+// The schedule of Cipher in vectors. One vector has four words, in the tower basis.
 struct LaneKeys;
 
 impl FourWords for LaneKeys {
@@ -106,7 +106,7 @@ impl FourWords for LaneKeys {
 
     #[inline(always)]
     fn rotated(before: u8x16, last: u8x16, constant: u8, _layers: &mut Layers) -> u8x16 {
-        // The rotation comes first: LLVM turns the two look-ups of a sum one by one.
+        // The rotation comes first. Otherwise LLVM rotates both look-ups of a sum, one by one.
         let word = last.swizzle([
             13, 14, 15, 12, 13, 14, 15, 12, 13, 14, 15, 12, 13, 14, 15, 12,
         ]);
@@ -161,20 +161,21 @@ pub fn expand_lanes(keys: &mut [Block], key: &[u8])
     expansion::expand::<LaneKeys>(keys, key, &mut Layers::new());
 }
 
-/// Writes the stored round keys of EqInvCipher, in their order of use, of the same key as those of
-/// Cipher (FIPS 197, 5.3.5). The first is the last of Cipher, and the last the first.
+/// Writes the stored round keys of EqInvCipher, in their order of use, for the key of Cipher's
+/// round keys (FIPS 197, 5.3.5). The first is Cipher's last one, and the last is Cipher's first
+/// one.
 pub fn invert_lanes(inverse: &mut [Block], keys: &[Block])
     requires two { 2 ≤ length keys.now }
     requires sized { length inverse.old ≡ length keys.now }
     ensures keys { AreInverse inverse.new keys.now }
     ensures same_length { length inverse.new ≡ length inverse.old }
 {
-    // Each is written once, in its place: a list that is turned where it stands leaves a round key
-    // on the stack.
+    // Each is written once, in its place. To reverse a list in place would leave a round key on the
+    // stack.
     let last = keys.len() - 1;
     'keys: for i in 1..last {
         let key = keys[last - i];
-        laws::is_block(key);
+        laws::block_has_16_bytes(key);
         inverse[i] = inverted_key(u8x16::from_array(key), last - i).to_array();
     }
     inverse[0] = keys[last];

@@ -33,8 +33,8 @@ pub fn expand_in_room(room: &mut LaneRoom, key: &[u8])
     expand_lanes(&mut room[..key.len() / 4 + 7], key);
 }
 
-/// Writes the round keys of EqInvCipher, of the same key of `size` bytes as those of Cipher (FIPS
-/// 197, 5.3.5).
+/// Writes the round keys of EqInvCipher, for the key of `size` bytes that Cipher's round keys have
+/// (FIPS 197, 5.3.5).
 #[inline(always)]
 pub fn invert_in_room(inverse: &mut LaneRoom, room: &LaneRoom, size: usize)
     requires { IsKeySize size }

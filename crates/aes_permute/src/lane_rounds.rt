@@ -14,7 +14,8 @@ pub trait LaneRounds: Direction {
     /// What a byte of a state stands for.
     ghost state_byte: { ℕ → ℕ };
 
-    /// The form in which round keys are stored, and which of the standard's the rounds use.
+    /// The form in which round keys are stored, and which of the standard's round keys the rounds
+    /// use.
     ghost form: { LaneForm };
 
     /// Whether the rounds use the standard's list from its end.
@@ -24,11 +25,11 @@ pub trait LaneRounds: Direction {
     const BACKWARD: bool;
 
     /// Adds the first round key to each block, and returns the states.
-    fn first<L: Lanes>(blocks: L, key: L) -> L
+    fn add_first_key<L: Lanes>(blocks: L, key: L) -> L
         ensures { (i : ℕ) → form.placed 0 (map state_byte (L.block result i))
             ≡ fips.add_round_key (L.block blocks i) (map form.first_byte (L.block key i)) };
 
-    /// Runs the round of a number, which is not the last.
+    /// Runs a round that is not the last. `number` is its number.
     fn round<L: Lanes>(x: L, key: L, number: usize) -> L
         requires { 1 ≤ number }
         ensures { (i : ℕ) → form.placed number (map state_byte (L.block result i))
@@ -36,8 +37,8 @@ pub trait LaneRounds: Direction {
             (Self.step (form.placed (number - 1) (map state_byte (L.block x i))))
             (form.placed number (map form.inner_byte (L.block key i))) };
 
-    /// Runs the last round, which has this number, and returns the blocks.
-    fn last<L: Lanes>(x: L, key: L, number: usize) -> L
+    /// Runs the last round, and returns the blocks. `number` is its number.
+    fn last_round<L: Lanes>(x: L, key: L, number: usize) -> L
         requires { 1 ≤ number }
         ensures { (i : ℕ) → L.block result i
             ≡ fips.add_round_key
@@ -45,11 +46,11 @@ pub trait LaneRounds: Direction {
             (map form.last_byte (L.block key i)) };
 
     /// No effect; states that the rounds use as many round keys as there are.
-    fn uses_all()
+    fn rounds_use_every_key()
         ensures { (w : List (List ℕ)) → length (form.used_keys w) ≡ length w };
 
     /// No effect; states that all rounds together do what the direction does.
-    fn processes()
+    fn rounds_follow_the_standard()
         ensures { (w : List (List ℕ)) (b : List ℕ) → 2 ≤ length w
             → all_rounds Self.step Self.last_step (form.used_keys w) b ≡ Self.processed w b };
 }

@@ -9,7 +9,7 @@ ghost use Rattle.aes_permute.specs.Lookup.{looked, low_nibble, high_nibble, by_n
 ghost use Rattle.aes_permute.specs.Vectors.{half, written};
 
 use crate::halves::{joined, lower, twice, upper};
-use aes_planes::laws::is_block;
+use aes_planes::laws::block_has_16_bytes;
 use aes_planes::soft::word::Block;
 use std::simd::prelude::*;
 
@@ -31,7 +31,7 @@ pub trait Lanes: Copy {
     ghost at_most_two: { BLOCKS ≤ 2 };
 
     /// No effect; states that each block is one of the standard (FIPS 197, 3.4).
-    fn are_blocks(self)
+    fn blocks_have_16_bytes(self)
         ensures { (i : ℕ) → fips.IsBlock (block self i) };
 
     /// Returns a vector in which each block is this one.
@@ -72,7 +72,7 @@ pub trait Lanes: Copy {
 }
 
 /// No effect; states how many blocks a vector has.
-pub fn has_one_block_or_two<L: Lanes>()
+pub fn vector_has_one_block_or_two<L: Lanes>()
     ensures { (L.BLOCKS ≡ 1) ⊎ (L.BLOCKS ≡ 2) }
 {}
 
@@ -98,7 +98,7 @@ impl Lanes for u8x16 {
     ghost at_most_two = { Prim.omega arith };
 
     #[inline(always)]
-    fn are_blocks(self) {
+    fn blocks_have_16_bytes(self) {
         // The type of the array tells the proof that there are bytes, and how many.
         let _ = self.to_array();
     }
@@ -156,7 +156,7 @@ impl Lanes for u8x32 {
     ghost at_most_two = { Prim.omega arith };
 
     #[inline(always)]
-    fn are_blocks(self) {
+    fn blocks_have_16_bytes(self) {
         // The type of the array tells the proof that there are bytes, and how many.
         let _ = self.to_array();
     }
@@ -193,8 +193,8 @@ impl Lanes for u8x32 {
 
     #[inline(always)]
     fn load(blocks: &[Block], from: usize) -> u8x32 {
-        is_block(blocks[from]);
-        is_block(blocks[from + 1]);
+        block_has_16_bytes(blocks[from]);
+        block_has_16_bytes(blocks[from + 1]);
         joined(
             u8x16::from_array(blocks[from]),
             u8x16::from_array(blocks[from + 1]),
@@ -213,7 +213,7 @@ impl Lanes for u8x32 {
 pub fn looked_up_by_nibbles<L: Lanes>(x: L, low: [u8; 16], high: [u8; 16]) -> L
     ensures { (i : ℕ) → L.block result i ≡ map (by_nibbles low high) (L.block x i) }
 {
-    x.are_blocks();
+    x.blocks_have_16_bytes();
     let by_low = x.low_nibbles().lookup(low);
     let by_high = x.high_nibbles().lookup(high);
     by_low.sum(by_high)

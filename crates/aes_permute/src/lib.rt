@@ -1,5 +1,5 @@
-//! AES by vector permutations (FIPS 197): a block in one vector, and the S-box by tables of sixteen
-//! bytes that stand in vectors.
+//! AES by vector permutations (FIPS 197). A block is one vector, and the S-box is computed by
+//! tables of sixteen bytes, which are vectors too.
 #![tactic(auto)]
 
 pub mod blocks;

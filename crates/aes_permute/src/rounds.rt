@@ -1,5 +1,5 @@
 //! The rounds of Cipher and EqInvCipher on lanes, and their round keys. States are kept in the
-//! tower basis, and round keys so that the constant of the S-box is added with them.
+//! tower basis, and round keys contain the constant of the S-box.
 
 ghost use Rattle.std.specs.Prelude.{◌≡◌, ◌%◌, ℕ, true, false, map, bit_xor};
 ghost use Rattle.std.specs.Simd.Lanes.{zip2};
@@ -25,22 +25,22 @@ impl LaneRounds for Encrypt {
     const BACKWARD: bool = false;
 
     #[inline(always)]
-    fn first<L: Lanes>(blocks: L, key: L) -> L {
-        blocks.are_blocks();
-        key.are_blocks();
+    fn add_first_key<L: Lanes>(blocks: L, key: L) -> L {
+        blocks.blocks_have_16_bytes();
+        key.blocks_have_16_bytes();
         looked_up_by_nibbles(blocks.sum(key), TOWER_LOW, TOWER_HIGH)
     }
 
-    // ShiftRows is left out: each byte is taken from where it is.
+    // ShiftRows is left out. Each byte is read where it is.
     #[inline(always)]
     fn round<L: Lanes>(x: L, key: L, number: usize) -> L {
-        x.are_blocks();
-        key.are_blocks();
+        x.blocks_have_16_bytes();
+        key.blocks_have_16_bytes();
         let at = places_of(x);
         let one = looked_up(at, ONE_FIRST, ONE_SECOND);
         let two = looked_up(at, TWO_FIRST, TWO_SECOND);
-        // A byte's double with the next row's byte: a row further on, the same sums hold the rest
-        // of the product with 3.
+        // The double of each byte plus the byte of the next row. One row further on, these sums
+        // have the other part of the product with 3.
         let next = one.permuted(NEXT_ROW[number % 4]);
         let pairs = two.sum(next);
         let second = pairs.permuted(NEXT_ROW[number % 4]);
@@ -51,18 +51,18 @@ impl LaneRounds for Encrypt {
     }
 
     #[inline(always)]
-    fn last<L: Lanes>(x: L, key: L, number: usize) -> L {
-        x.are_blocks();
-        key.are_blocks();
+    fn last_round<L: Lanes>(x: L, key: L, number: usize) -> L {
+        x.blocks_have_16_bytes();
+        key.blocks_have_16_bytes();
         let one = looked_up(places_of(x), SBOX_FIRST, SBOX_SECOND);
         one.permuted(SHIFTED_ROWS[number % 4]).sum(key)
     }
 
     #[tactic(auto, using(crate::proofs::DirectionLaws::same_forward))]
-    fn uses_all() {}
+    fn rounds_use_every_key() {}
 
     #[tactic(auto, using(crate::proofs::DirectionLaws::is_encrypted))]
-    fn processes() {}
+    fn rounds_follow_the_standard() {}
 }
 
 // EqInvCipher (FIPS 197, 5.3.5).
@@ -76,17 +76,17 @@ impl LaneRounds for Decrypt {
     const BACKWARD: bool = true;
 
     #[inline(always)]
-    fn first<L: Lanes>(blocks: L, key: L) -> L {
-        blocks.are_blocks();
-        key.are_blocks();
+    fn add_first_key<L: Lanes>(blocks: L, key: L) -> L {
+        blocks.blocks_have_16_bytes();
+        key.blocks_have_16_bytes();
         looked_up_by_nibbles(blocks.sum(key), INV_TOWER_LOW, INV_TOWER_HIGH)
     }
 
     #[tactic(auto, unfolding(crate::specs::Lookup::is_index))]
     #[inline(always)]
     fn round<L: Lanes>(x: L, key: L, number: usize) -> L {
-        x.are_blocks();
-        key.are_blocks();
+        x.blocks_have_16_bytes();
+        key.blocks_have_16_bytes();
         let at = places_of(x);
         let by_1 = looked_up(at, INV_1_FIRST, INV_1_SECOND);
         let by_4 = looked_up(at, INV_4_FIRST, INV_4_SECOND);
@@ -105,31 +105,31 @@ impl LaneRounds for Decrypt {
 
     #[tactic(auto, unfolding(crate::specs::Lookup::is_index))]
     #[inline(always)]
-    fn last<L: Lanes>(x: L, key: L, number: usize) -> L {
-        x.are_blocks();
-        key.are_blocks();
+    fn last_round<L: Lanes>(x: L, key: L, number: usize) -> L {
+        x.blocks_have_16_bytes();
+        key.blocks_have_16_bytes();
         let one = looked_up(places_of(x), INV_SBOX_FIRST, INV_SBOX_SECOND);
         one.permuted([0, 13, 10, 7, 4, 1, 14, 11, 8, 5, 2, 15, 12, 9, 6, 3])
             .sum(key)
     }
 
     #[tactic(auto, using(aes_planes::proofs::Standard::InvertedKeys::inverted_length))]
-    fn uses_all() {}
+    fn rounds_use_every_key() {}
 
     #[tactic(auto, using(crate::proofs::DirectionLaws::is_decrypted))]
-    fn processes() {}
+    fn rounds_follow_the_standard() {}
 }
 
-// The products with the coefficients 14, 11 and 13 of InvMixColumns (FIPS 197, 5.3.3), of those
-// with 1, 4, 9 and 15.
+// The products with the coefficients 14, 11 and 13 of InvMixColumns (FIPS 197, 5.3.3), as sums of
+// the products with 1, 4, 9 and 15.
 #[inline(always)]
 fn coefficients<L: Lanes>(by_1: L, by_4: L, by_9: L, by_15: L) -> (L, L, L)
     ensures by_14 { (i : ℕ) → L.block result.0 i ≡ zip2 bit_xor (L.block by_1 i) (L.block by_15 i) }
     ensures by_11 { (i : ℕ) → L.block result.1 i ≡ zip2 bit_xor (L.block by_15 i) (L.block by_4 i) }
     ensures by_13 { (i : ℕ) → L.block result.2 i ≡ zip2 bit_xor (L.block by_4 i) (L.block by_9 i) }
 {
-    // The products with 4, 9 and 15 are used twice. If nothing else uses a sum of two look-ups, LLVM
-    // permutes each look-up, and not the sum.
+    // The products with 4, 9 and 15 are used twice. If nothing else uses a sum of two look-ups,
+    // LLVM permutes each look-up, and not the sum.
     (by_1.sum(by_15), by_15.sum(by_4), by_4.sum(by_9))
 }
 
@@ -138,7 +138,7 @@ fn coefficients<L: Lanes>(by_1: L, by_4: L, by_9: L, by_15: L) -> (L, L, L)
 pub fn into_tower(block: u8x16) -> u8x16
     ensures { map untower result ≡ block }
 {
-    block.are_blocks();
+    block.blocks_have_16_bytes();
     looked_up_by_nibbles(block, TOWER_LOW, TOWER_HIGH)
 }
 
@@ -150,19 +150,19 @@ pub fn out_of_tower(x: u8x16) -> u8x16
     looked_up_by_nibbles(x, UNTOWER_LOW, UNTOWER_HIGH)
 }
 
-/// Returns round key `number` of Cipher, between the first and the last, as it is stored, of what it
-/// is in the tower basis: its rows are shifted back as often as ShiftRows was left out before.
+/// Returns what is stored for round key `number` of Cipher, between the first and the last. `key`
+/// has it in the tower basis. The rows are shifted back as often as ShiftRows was left out before.
 #[inline(always)]
 pub fn encrypting_key(key: u8x16, number: usize) -> u8x16
     ensures { fips.shift_times (number % 4) (map key_untower result) ≡ map untower key }
 {
-    key.are_blocks();
+    key.blocks_have_16_bytes();
     // 0x6e is 0x63 in the tower basis.
     key.permuted(SHIFTED_ROWS[(4 - number % 4) % 4]) ^ u8x16::splat(0x6e)
 }
 
-/// Returns a round key of EqInvCipher between the first and the last as it is stored: InvMixColumns
-/// of that of Cipher (FIPS 197, 5.3.5).
+/// Returns what is stored for a round key of EqInvCipher, between the first and the last:
+/// InvMixColumns of Cipher's round key (FIPS 197, 5.3.5).
 #[tactic(auto, unfolding(crate::specs::Lookup::is_index))]
 #[inline(always)]
 pub fn decrypting_key(key: u8x16) -> u8x16
@@ -191,7 +191,8 @@ pub fn plain_key(stored: u8x16) -> u8x16
     out_of_tower(stored) ^ u8x16::splat(0x63)
 }
 
-/// Turns stored round key `number` of Cipher into one of EqInvCipher, between the first and the last.
+/// Turns a stored round key of Cipher into one of EqInvCipher. `number` is its number, between the
+/// first and the last.
 #[inline(always)]
 pub fn inverted_key(stored: u8x16, number: usize) -> u8x16
     requires { fips.IsBlock stored }
@@ -199,6 +200,6 @@ pub fn inverted_key(stored: u8x16, number: usize) -> u8x16
         (fips.shift_times (number % 4) (map key_untower stored)) }
 {
     let key = plain_key(stored).permuted(SHIFTED_ROWS[number % 4]);
-    key.are_blocks();
+    key.blocks_have_16_bytes();
     decrypting_key(key)
 }

@@ -1,5 +1,5 @@
-//! The S-box and its inverse on lanes: the inverse in the field by its two places, and tables read
-//! there.
+//! The S-box and its inverse on lanes. Two places represent the inverse in the field, and tables
+//! are read at these places.
 
 ghost use Rattle.std.specs.Prelude.{◌≡◌, ℕ, map};
 ghost use Rattle.std.specs.Simd.Lanes.{zip2};
@@ -13,8 +13,8 @@ use crate::lanes::Lanes;
 use crate::tables::{INVERSE, ONE_FIRST, ONE_SECOND, SCALED_INVERSE};
 use std::simd::prelude::*;
 
-/// The two places of an inverse in the field, lane by lane. What is linear in the inverse is the
-/// sum of two tables' entries.
+/// The two places of an inverse in the field, lane by lane. A linear function of the inverse is the
+/// sum of the entries of two tables at these places.
 #[derive(Clone, Copy)]
 pub struct TwoPlaces<L> {
     /// The place in the first table.
@@ -31,7 +31,7 @@ pub fn places_of<L: Lanes>(x: L) -> TwoPlaces<L>
     ensures first_places { (i : ℕ) → AreIndices (L.block result.first i) }
     ensures second_places { (i : ℕ) → AreIndices (L.block result.second i) }
 {
-    x.are_blocks();
+    x.blocks_have_16_bytes();
     let high = x.high_nibbles();
     let low = x.low_nibbles();
     let both = high.sum(low);

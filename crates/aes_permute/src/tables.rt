@@ -1,4 +1,5 @@
-//! The tables, of sixteen bytes each. The proofs try all 256 bytes on them. They are made so:
+//! The tables, of sixteen bytes each. The proofs try all 256 bytes on them. They are made as
+//! follows.
 //!
 //! A byte is a pair of elements of the subfield of 16. A nibble with the bits n3 n2 n1 n0 stands
 //! for n3 g^3 + n2 g^2 + n1 g + n0, where g is the least byte with g^4 + g + 1 = 0. A byte is
@@ -15,8 +16,8 @@
 //! so zero needs no case of its own. A linear function of a byte is the sum of its values at the
 //! two nibbles.
 
-/// A byte in the tower basis, in which states of Cipher are kept: by its low nibble, and by its
-/// high nibble.
+/// A byte in the tower basis, by its low nibble and by its high nibble. States of Cipher are kept
+/// in this basis.
 pub const TOWER_LOW: [u8; 16] = [
     0x00, 0x01, 0x1c, 0x1d, 0x2d, 0x2c, 0x31, 0x30, 0x27, 0x26, 0x3b, 0x3a, 0x0a, 0x0b, 0x16, 0x17,
 ];
@@ -34,8 +35,8 @@ pub const UNTOWER_HIGH: [u8; 16] = [
     0x00, 0xb2, 0xb5, 0x07, 0x3a, 0x88, 0x8f, 0x3d, 0xac, 0x1e, 0x19, 0xab, 0x96, 0x24, 0x23, 0x91,
 ];
 
-/// What the affine transformation of the S-box, without its constant, makes a byte of, in the tower
-/// basis: states of EqInvCipher are kept so.
+/// For each byte, the byte that the affine transformation of the S-box, without its constant, turns
+/// into it. The result is in the tower basis. States of EqInvCipher are kept so.
 pub const INV_TOWER_LOW: [u8; 16] = [
     0x00, 0xb5, 0xdc, 0x69, 0xdb, 0x6e, 0x07, 0xb2, 0x14, 0xa1, 0xc8, 0x7d, 0xcf, 0x7a, 0x13, 0xa6,
 ];
@@ -132,8 +133,9 @@ pub const INV_15_SECOND: [u8; 16] = [
     0x00, 0x8e, 0x1c, 0x63, 0x5c, 0xad, 0x7f, 0xf1, 0xed, 0xb1, 0xd2, 0xce, 0x23, 0x40, 0x3f, 0x92,
 ];
 
-/// A byte of a round key times 1, 4, 9 and 15, in the basis of EqInvCipher: by its low nibble, and
-/// by its high nibble. The first has the constant of the S-box too, so that it is in each sum once.
+/// A byte of a round key times 1, 4, 9 and 15, in the basis of EqInvCipher, by its low nibble and
+/// by its high nibble. The first table also has the constant of the S-box, so that each sum has it
+/// once.
 pub const KEY_1_LOW: [u8; 16] = [
     0x2c, 0x99, 0xf0, 0x45, 0xf7, 0x42, 0x2b, 0x9e, 0x38, 0x8d, 0xe4, 0x51, 0xe3, 0x56, 0x3f, 0x8a,
 ];
@@ -166,10 +168,10 @@ pub const KEY_15_HIGH: [u8; 16] = [
     0x00, 0x33, 0x4e, 0x7d, 0xee, 0xdd, 0xa0, 0x93, 0x89, 0xba, 0xc7, 0xf4, 0x67, 0x54, 0x29, 0x1a,
 ];
 
-// Statics, as they are read at places that are known only when they run: a constant would be copied
-// to the stack first.
+// These tables are statics, since the places at which they are read are known only at run time. A
+// constant would be copied to the stack first.
 
-/// The places of ShiftRows, by how many there are (FIPS 197, 5.1.2).
+/// The places of ShiftRows, by how many ShiftRows are made (FIPS 197, 5.1.2).
 pub static SHIFTED_ROWS: [[u8; 16]; 4] = [
     [0, 1, 2, 3, 4, 5, 6, 7, 8, 9, 10, 11, 12, 13, 14, 15],
     [0, 5, 10, 15, 4, 9, 14, 3, 8, 13, 2, 7, 12, 1, 6, 11],
@@ -177,8 +179,8 @@ pub static SHIFTED_ROWS: [[u8; 16]; 4] = [
     [0, 13, 10, 7, 4, 1, 14, 11, 8, 5, 2, 15, 12, 9, 6, 3],
 ];
 
-/// Where each byte finds the next one of its column after some ShiftRows, before which the bytes
-/// still stand: by how many there are.
+/// Where each byte finds the next byte of its column, by how many ShiftRows are left out. The
+/// column is that after these ShiftRows, and the bytes are where they were before.
 pub static NEXT_ROW: [[u8; 16]; 4] = [
     [1, 2, 3, 0, 5, 6, 7, 4, 9, 10, 11, 8, 13, 14, 15, 12],
     [5, 6, 7, 4, 9, 10, 11, 8, 13, 14, 15, 12, 1, 2, 3, 0],
@@ -186,8 +188,8 @@ pub static NEXT_ROW: [[u8; 16]; 4] = [
     [13, 14, 15, 12, 1, 2, 3, 0, 5, 6, 7, 4, 9, 10, 11, 8],
 ];
 
-/// Where each byte finds the one before it in its column after some ShiftRows, before which the
-/// bytes still stand: by how many there are.
+/// Where each byte finds the byte before it in its column, by how many ShiftRows are left out, as
+/// in `NEXT_ROW`.
 pub static ROW_BEFORE: [[u8; 16]; 4] = [
     [3, 0, 1, 2, 7, 4, 5, 6, 11, 8, 9, 10, 15, 12, 13, 14],
     [15, 12, 13, 14, 3, 0, 1, 2, 7, 4, 5, 6, 11, 8, 9, 10],

@@ -1,5 +1,5 @@
-//! The key expansion (FIPS 197, 5.2), four words at a time, once for every form in which round keys
-//! are made and stored.
+//! The key expansion (FIPS 197, 5.2), four words at a time. It is written once for every form in
+//! which round keys are made and stored.
 
 ghost use Rattle.std.specs.Prelude.{◌≡◌, ◌≢◌, ◌⊎◌, ◌+◌, ◌*◌, ◌≤◌, ℕ, List, length, take, drop};
 ghost use Rattle.aes_planes.specs.Expansion.{substitutions};
@@ -12,8 +12,8 @@ use crate::soft::sbox::Layers;
 // 5.2).
 const POWERS_OF_X: [u8; 10] = [0x01, 0x02, 0x04, 0x08, 0x10, 0x20, 0x40, 0x80, 0x1b, 0x36];
 
-/// What four words of the key expansion are (planes, a vector or a block): how they are made, and
-/// how they are stored as a round key.
+/// A form of four words of the key expansion: planes, a vector or a block. It says how the words
+/// are made, and how they are stored as a round key.
 pub trait FourWords {
     /// Four words.
     type Words: Copy;
@@ -27,7 +27,7 @@ pub trait FourWords {
     /// A round key, by its number and that of the last one, is stored for a block.
     ghost IsStored: { List Self.StoredIn → ℕ → ℕ → List ℕ → Type 0 };
 
-    /// How many of these the round keys from 0 to a last one fill.
+    /// How many elements the round keys from 0 to a last one fill.
     ghost length_for: { ℕ → ℕ };
 
     /// How many S-box layers a substitution runs.
@@ -38,8 +38,8 @@ pub trait FourWords {
         requires within { from + 16 ≤ length key.now }
         ensures { AreWords result (take 16 (drop from key.now)) };
 
-    /// Four words, the first of which needs the rotation, the substitution and a round constant:
-    /// `before` has the four that are one key earlier, `last` the four just before them.
+    /// Four words. The first one needs the rotation, the substitution and a round constant.
+    /// `before` has the four words that are one key earlier, and `last` the four words just before.
     fn rotated(
         before: Self::Words,
         last: Self::Words,
@@ -51,13 +51,13 @@ pub trait FourWords {
             (fips.add_round_key (fips.sub_bytes y) (constant_block constant))) }
         ensures layers { layers.new ≡ layers.old + LAYERS };
 
-    /// Four words, the first of which needs the substitution alone.
+    /// Four words. The first one needs the substitution alone.
     fn substituted(before: Self::Words, last: Self::Words, layers: &mut Layers) -> Self::Words
         ensures words { (x y : List ℕ) → AreWords before x → AreWords last y
             → AreWords result (columns_summed 0 3 x (fips.sub_bytes y)) }
         ensures layers { layers.new ≡ layers.old + LAYERS };
 
-    /// Four words, the first of which needs neither: column 1 of `last` has the word just before
+    /// Four words. The first one needs neither. Column 1 of `last` is the word just before
     /// them.
     fn plain(before: Self::Words, last: Self::Words) -> Self::Words
         ensures { (x y : List ℕ) → AreWords before x → AreWords last y
@@ -68,8 +68,8 @@ pub trait FourWords {
         ensures { (x y : List ℕ) → AreWords left x → AreWords right y
             → AreWords result (columns_straddled x y) };
 
-    /// The four words of round key `i` of those from 0 to `last` once more: read back, where it is
-    /// slower to keep them.
+    /// The four words of round key `i`, of those from 0 to `last`, once more. A form reads them
+    /// back if it is slower to keep them.
     fn read_back(
         stored: &[Self::StoredIn],
         i: usize,
@@ -92,8 +92,8 @@ pub trait FourWords {
         ensures same_length { length stored.new ≡ length stored.old };
 }
 
-/// Stores the round keys of a key of any size: KeyExpansion (FIPS 197, 5.2). Where the length of
-/// the key is a constant, one of the three loops is compiled.
+/// Stores the round keys of a key of any size: KeyExpansion (FIPS 197, 5.2). If the length of the
+/// key is a constant, only one of the three loops is compiled.
 #[inline(always)]
 pub fn expand<F: FourWords>(stored: &mut [F::StoredIn], key: &[u8], layers: &mut Layers)
     requires one_of_three { (length key.now ≡ 16)

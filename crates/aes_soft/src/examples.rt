@@ -1,9 +1,9 @@
-//! Round keys as stored, and counts, at values from outside, as contracts, so that a slip in a
-//! definition is refused.
+//! Round keys as stored, and counts, at values from outside, as contracts. With them the prover
+//! refuses a mistake in a definition.
 //!
-//! `bytes n 0x..` is the n bytes that these digits write. Round keys and words were computed by a
-//! separate model in Python, from the standard and the layouts: bit 4 r + c of word 8 i + p is bit
-//! p of the byte in row r and column c of what is stored for round key i.
+//! `bytes n 0x..` is the n bytes that these digits write. A separate model in Python computed round
+//! keys and words, from the standard and the layouts. Bit 4 r + c of word 8 i + p is bit p of the
+//! byte in row r and column c of what is stored for round key i.
 
 ghost use Rattle.std.specs.Prelude.{◌≡◌, ◌*◌, ◌∷◌, [], map};
 ghost use Rattle.aes_planes.specs.BigEndian.{bytes};
@@ -68,8 +68,9 @@ pub fn full_words()
     zero_key_expansion();
 }
 
-/// The key of 32 bytes 00, 01, .., 1f, read from the words that either layout stores for its round
-/// keys 0 and 1, which are its halves; and how many bytes the key of 88, 104 and 120 words has.
+/// The key of the 32 bytes 00 to 1f, read from the words of its round keys 0 and 1, which are its
+/// halves. Either layout stores these words. Then, how many bytes the key of 88, 104 and 120 words
+/// has.
 #[tactic(auto, unfolding(crate::proofs::OnLiterals::stored_on_literals))]
 pub fn key_example()
     ensures of_32 { key_of 32 1 (full 14) (map (word_bits 16) (
@@ -79,7 +80,7 @@ pub fn key_example()
     ensures sizes { map size_of (88 ∷ 104 ∷ 120 ∷ []) ≡ 16 ∷ 24 ∷ 32 ∷ [] }
 {}
 
-/// Eight blocks at a time take one run of the rounds, and so does each block that is left over.
+/// Eight blocks at a time need one run of the rounds, and so does each block that is left over.
 pub fn layer_examples()
     ensures none { layers_for 10 0 ≡ 0 }
     ensures one { layers_for 10 1 ≡ 10 }

@@ -1,4 +1,5 @@
-//! What no clause says: that the calls answer, with the standards' values, at every type and by every way to them.
+//! What no clause says: that the calls answer, with the standards' values, at every type and by
+//! every way to them.
 
 mod backends;
 mod copies;

@@ -2,8 +2,8 @@
 use Rattle.std.specs.Prelude.{ℕ, List, [], ◌∷◌}
 use Rattle.aes_planes.specs.Fips197 as fips
 
--- encryption: each block is summed with the encrypted block before it, the first with the initialization vector, and
--- encrypted
+-- encryption: each block is summed with the encrypted block before it, the first with the
+-- initialization vector, and encrypted
 unfoldable pub chained : List (List ℕ) → List ℕ → List (List ℕ) → List (List ℕ)
 chained w previous [] = []
 chained w previous (b ∷ bs) = let c = fips.cipher_with w (fips.add_round_key b previous) in c ∷ chained w c bs

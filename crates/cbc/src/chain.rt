@@ -7,11 +7,11 @@ use crate::decryption::Chain;
 use aes_cipher::blocks::sum_of_blocks;
 use aes_cipher::cipher::{Block, BlockCipherDecrypt, BlockCipherEncrypt};
 
-/// Where a chain stands: `struct fotsgure_aes_cbc`. Calls go on where the last one ended.
+/// The state of a chain: `struct fotsgure_aes_cbc`. Each call continues where the last one ended.
 #[repr(C)]
 #[derive(Drop)]
 pub struct Cbc {
-    /// The last encrypted block; before the first, the initialization vector.
+    /// The last encrypted block. Before the first one it is the initialization vector.
     pub previous: Block,
 }
 

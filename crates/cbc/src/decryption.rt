@@ -1,37 +1,19 @@
-//! Decryption of a chain, many blocks at once: none of them waits for the one before it.
+//! Decryption of a chain, many blocks at once: no block waits for the one before it.
 
 ghost use Rattle.std.specs.Prelude.{◌≡◌, ◌≤◌, List, ℕ, length};
-ghost use Rattle.aes_planes.specs.Each.{Each};
-ghost use Rattle.aes_planes.specs.Fips197 as fips;
 ghost use Rattle.cbc.specs.Cbc.{last_of, unchained};
 
 use aes_cipher::blocks::sum_of_blocks;
 use aes_cipher::cipher::{
-    Block, BlockCipherDecBackend, BlockCipherDecClosure, ParBlocksSizeUser, RoundKeysUser,
+    Block, BlockCipherDecBackend, BlockCipherDecClosure, Decrypt, RoundKeysUser, process_by_backend,
 };
 
 // How many blocks are decrypted at once: whole batches of every backend of the library.
 const LARGEST_PART: usize = 64;
 
-// Decrypts every block: batches while a whole one is left, then single blocks.
-#[tactic(auto, using(aes_cipher::proofs::SliceRuns::finished_run, aes_cipher::proofs::SliceRuns::finished_one))]
-fn decrypt_all<B: BlockCipherDecBackend>(backend: &B, blocks: &mut [Block])
-    ensures { Each (fips.inv_cipher_with (B.round_keys backend.now)) blocks.old blocks.new }
-{
-    let size = B::PAR_BLOCKS;
-    let mut done = 0;
-    while size <= blocks.len() - done {
-        backend.decrypt_par_blocks(&mut blocks[done..done + size]);
-        done += size;
-    }
-    while done < blocks.len() {
-        backend.decrypt_block(&mut blocks[done]);
-        done += 1;
-    }
-}
-
-// Decrypts a part of a chain. `previous` is the encrypted block before it, and afterwards the last
-// encrypted one in it. The copy is of encrypted blocks, so that no plain text is left on the stack.
+// Decrypts a part of a chain. `previous` is the encrypted block before the part, and afterwards the
+// last encrypted block of the part. Encrypted blocks are copied, so that no plain text is left on
+// the stack.
 fn unchain_part<B: BlockCipherDecBackend>(backend: &B, previous: &mut Block, blocks: &mut [Block])
     requires fits { length blocks.old ≤ 64 }
     ensures unchained { blocks.new ≡ unchained (B.round_keys backend.now) previous.old blocks.old }
@@ -40,7 +22,7 @@ fn unchain_part<B: BlockCipherDecBackend>(backend: &B, previous: &mut Block, blo
     let mut room = [[0; 16]; LARGEST_PART];
     let encrypted = &mut room[..blocks.len()];
     encrypted.copy_from_slice(blocks);
-    decrypt_all(backend, blocks);
+    process_by_backend::<Decrypt, B>(backend, blocks);
     for k in 0..blocks.len() {
         blocks[k] = sum_of_blocks(&blocks[k], previous);
         *previous = encrypted[k];
@@ -50,7 +32,7 @@ fn unchain_part<B: BlockCipherDecBackend>(backend: &B, previous: &mut Block, blo
 /// A chain whose next blocks are to be decrypted.
 #[derive(Drop)]
 pub struct Chain<'a> {
-    /// The encrypted block before them, and afterwards the last of them.
+    /// The encrypted block before the blocks, and afterwards the last encrypted one of them.
     pub previous: Block,
     /// The blocks.
     pub blocks: &'a mut [Block],

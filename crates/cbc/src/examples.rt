@@ -1,5 +1,5 @@
-//! Chains at values from outside, as contracts, so that a slip in a definition is refused: SP
-//! 800-38A, F.2.1 and F.2.2.
+//! Chains at values from outside, as contracts: SP 800-38A, F.2.1 and F.2.2. With them the prover
+//! refuses a mistake in a definition.
 //!
 //! `bytes n 0x..` is the n bytes that these digits write.
 
@@ -45,7 +45,8 @@ pub fn cbc_128_example()
     ciphered_blocks();
 }
 
-/// The next call goes on after the last of the blocks; after no blocks, where this one began.
+/// The next call continues after the last of the blocks. If there are none, it continues where this
+/// call began.
 #[tactic(auto, unfolding(crate::specs::Cbc::last_of))]
 pub fn last_examples()
     ensures last { last_of (0 ∷ []) ((1 ∷ []) ∷ (2 ∷ []) ∷ []) ≡ 2 ∷ [] }

@@ -67,7 +67,7 @@ unfoldable pub text : List (List ℕ) → List ℕ → List ℕ → List ℕ
 unfolding counter_block
 text w nonce payload = plus_stream (stream_byte w (counter_block nonce)) 16 payload
 
--- T plus S_0, the cipher of Ctr_0, of which a tag has the first t bytes (6.1, steps 4, 6 and 8)
+-- the first t bytes of T plus S_0, the cipher of Ctr_0 (6.1, steps 4, 6 and 8)
 unfoldable pub tag : List (List ℕ) → List ℕ → ℕ → List ℕ → List ℕ → List ℕ
 unfolding chain_end counter_block
 tag w nonce t associated payload =

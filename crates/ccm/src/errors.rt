@@ -7,7 +7,7 @@ pub enum InvalidMessage {
     TagLength,
     /// The nonce doesn't have 7 to 13 bytes.
     NonceLength,
-    /// More text than a nonce of this length allows.
+    /// There is more text than a nonce of this length allows.
     TooLong,
 }
 

@@ -1,5 +1,5 @@
-//! CCM at values from outside, as contracts, so that a slip in a definition is refused: SP 800-38C,
-//! C.1, and A.2.2. What comes between was computed by another implementation of AES.
+//! CCM at values from outside, as contracts: SP 800-38C, C.1, and A.2.2. With them the prover
+//! refuses a mistake in a definition. Another implementation of AES computed what comes between.
 //!
 //! `bytes n 0x..` is the n bytes that these digits write.
 
@@ -12,8 +12,8 @@ ghost use Rattle.ccm.specs.Ccm.{chain_end, counter_block, encoded_length, first_
 ghost use Rattle.ccm.specs.Ccm.{Fits, IsNonceLength, IsTagLength};
 ghost use Rattle.cmac.specs.Chain.{chained_through};
 
-// The blocks that the example encrypts: those of the chain, B_0, and B_1 and B_2 with the values
-// before them; and Ctr_0 and Ctr_1.
+// The blocks that the example encrypts: B_0 of the chain, B_1 and B_2 with the values before them,
+// Ctr_0 and Ctr_1.
 #[tactic(auto, using(aes_planes::proofs::OnLiterals::ciphers), unfolding(aes_planes::proofs::OnLiterals::aes_by_table))]
 fn encrypted_blocks()
     ensures first { fips.cipher_with
@@ -49,7 +49,7 @@ pub fn ccm_128_example()
     encrypted_blocks();
 }
 
-/// The first blocks of example 3, and of a message without additional data; the lengths of
+/// The first blocks of example 3, and of a message without additional data. Then the lengths of
 /// additional data on either side of a limit, and that of A.2.2.
 #[tactic(auto, unfolding(crate::proofs::OnLiterals::formats_on_literals))]
 pub fn formatting_examples()
@@ -67,7 +67,8 @@ pub fn formatting_examples()
     ensures in_ten { encoded_length 4294967296 ≡ bytes 10 0xffff0000000100000000 }
 {}
 
-/// The first block of any message, as RFC 3610 has it (2.2): q bytes of length, a tag of 2 m + 2.
+/// The first block of any message, as RFC 3610 has it (2.2): with a length of q bytes, and a tag of
+/// 2 m + 2 bytes.
 #[tactic(auto, unfolding(crate::specs::Ccm::first_block, crate::specs::Ccm::flags))]
 pub fn first_block_rules()
     ensures with { (nonce : List ℕ) (m a p q : ℕ) → length nonce + q ≡ 15 → 0 < a
@@ -76,8 +77,8 @@ pub fn first_block_rules()
         → first_block nonce (2 * m + 2) 0 p ≡ (8 * m + (q - 1)) ∷ nonce ++ bytes q p }
 {}
 
-/// The lengths of additional data between the limits, the blocks, and what they are chained into and
-/// added to, of strings of any length (A.2.2, A.3; 6.1, steps 1 to 8).
+/// For strings of any length: the lengths of additional data between the limits, the blocks, and
+/// what these are chained into and added to (A.2.2, A.3; 6.1, steps 1 to 8).
 #[tactic(auto, unfolding(crate::proofs::OnLiterals::message_rules))]
 pub fn message_rules()
     ensures in_two { (a : ℕ) → 0 < a → a < 65280 → encoded_length a ≡ bytes 2 a }
@@ -98,8 +99,8 @@ pub fn message_rules()
         (fips.cipher_with w (counter_block nonce 0))) }
 {}
 
-/// The lengths of nonces and tags, those on either side of them, and the most that a text may have
-/// under the longest nonce.
+/// The lengths of nonces and tags, and those on either side of them. Then the most bytes that a
+/// text may have under the longest nonce.
 pub fn length_examples()
     ensures shortest_nonce { IsNonceLength 7 }
     ensures longest_nonce { IsNonceLength 13 }

@@ -9,17 +9,18 @@ ghost use Rattle.ccm.specs.Ccm.{IsTagLength};
 use crate::errors::InvalidMessage;
 use aes_cipher::cipher::Block;
 
-// How many bytes a tag has at least, and at most.
+// The least and the most bytes of a tag.
 const SHORTEST_TAG: usize = 4;
 
 const LONGEST_TAG: usize = 16;
 
-// How many bytes a nonce has at least, and at most.
+// The least and the most bytes of a nonce.
 const SHORTEST_NONCE: usize = 7;
 
 const LONGEST_NONCE: usize = 13;
 
-// The least length of additional data that takes six bytes, and that takes ten (A.2.2).
+// The least length of additional data that is written in six bytes, and the least that is written
+// in ten (A.2.2).
 const IN_SIX_BYTES: u64 = (1 << 16) - (1 << 8);
 
 const IN_TEN_BYTES: u64 = 1 << 32;
@@ -27,7 +28,7 @@ const IN_TEN_BYTES: u64 = 1 << 32;
 // What is added to the flags of the first block if there are additional data (A.2.1).
 const WITH_ADDITIONAL: u8 = 64;
 
-// Whether a text of this many bytes has a length of 15 - n bytes, where the nonce has n.
+// Whether the length of a text of this many bytes fits into 15 - n bytes, where the nonce has n.
 #[tactic(auto, using(crate::proofs::Bytes::quotient_zero))]
 fn fits(nonce: usize, text: usize) -> bool
     requires shortest { 7 ≤ nonce }
@@ -37,7 +38,7 @@ fn fits(nonce: usize, text: usize) -> bool
     nonce == SHORTEST_NONCE || (text as u64) >> (8 * (15 - nonce)) == 0
 }
 
-/// Returns why a message can't have such lengths, if it can't: the first reason that applies.
+/// Returns the first reason why a message can't have such lengths, if there is one.
 pub(crate) fn check(nonce: usize, text: usize, tag: usize) -> Result<(), InvalidMessage>
     ensures tag { IsErrOf result InvalidMessage.TagLength ↔ ¬ IsTagLength tag }
     ensures nonce { IsErrOf result InvalidMessage.NonceLength

@@ -1,5 +1,5 @@
-//! CCM (SP 800-38C; RFC 3610), encryption that shows whether a message was changed, over any block
-//! cipher that encrypts.
+//! CCM (SP 800-38C; RFC 3610) over any block cipher that encrypts. It encrypts messages, and shows
+//! whether a message was changed.
 #![tactic(auto)]
 
 mod errors;

@@ -13,7 +13,7 @@ use aes_ctr::add_keystream;
 use aes_planes::laws;
 use cmac::{begins_with, chain};
 
-// Goes on with a chain by the length of additional data and the data (A.2.2).
+// Continues a chain with the length of additional data and with the data (A.2.2).
 fn chain_additional<C: BlockCipherEncrypt>(cipher: &C, value: &mut Block, additional: &[u8])
     ensures { value.new ≡ chained_through (C.round_keys cipher.now) value.old
         (encoded_length (length additional.now) ++ additional.now) }
@@ -29,8 +29,8 @@ fn chain_additional<C: BlockCipherEncrypt>(cipher: &C, value: &mut Block, additi
     chain(cipher, value, rest);
 }
 
-/// Writes the tag of additional data and a plain text, as if it had all 16 bytes: the tag is the
-/// first ones, and `tag_length` says how many (SP 800-38C, 6.1).
+/// Writes the tag of additional data and a plain text as if it had all 16 bytes. The tag is the
+/// first `tag_length` of these (SP 800-38C, 6.1).
 pub(crate) fn put_tag<C: BlockCipherEncrypt>(
     cipher: &C,
     nonce: &[u8],
@@ -83,7 +83,7 @@ pub(crate) fn is_tag<C: BlockCipherEncrypt>(
 
 /// Encrypts or decrypts a text in place: counter mode from the second counter block on (6.1, steps
 /// 5 to 8).
-pub(crate) fn apply<C: BlockCipherEncrypt>(cipher: &C, nonce: &[u8], text: &mut [u8])
+pub(crate) fn process_text<C: BlockCipherEncrypt>(cipher: &C, nonce: &[u8], text: &mut [u8])
     requires shortest { 7 ≤ length nonce.now }
     requires longest { length nonce.now ≤ 13 }
     requires fits { Fits (length nonce.now) (length text.old) }
@@ -91,6 +91,6 @@ pub(crate) fn apply<C: BlockCipherEncrypt>(cipher: &C, nonce: &[u8], text: &mut 
 {
     let block = first_counter(nonce);
     // No effect: it states that these bytes are a block.
-    laws::is_block(block);
+    laws::block_has_16_bytes(block);
     add_keystream(cipher, &block, 16, text);
 }

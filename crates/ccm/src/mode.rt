@@ -6,12 +6,12 @@ ghost use Rattle.ccm.specs.Ccm.{Fits, IsNonceLength, IsTagLength};
 
 use crate::errors::{InvalidMessage, NotDecrypted};
 use crate::formatting::check;
-use crate::message::{apply, is_tag, put_tag};
+use crate::message::{is_tag, process_text, put_tag};
 use aes_cipher::cipher::BlockCipherEncrypt;
 
-/// Encrypts a text in place under a nonce that is never used twice under a key, and writes the tag,
-/// which shows whether the text or the additional data was changed (SP 800-38C, 6.1). How many
-/// bytes tags and nonces have is fixed with the key, which is used for CCM alone.
+/// Encrypts a text in place, and writes the tag, which shows whether the text or the additional
+/// data was changed (SP 800-38C, 6.1). Never use a nonce twice under a key. The lengths of tags and
+/// nonces are fixed with the key, and the key is used for CCM alone.
 ///
 /// # Errors
 ///
@@ -46,12 +46,12 @@ pub fn encrypt<C: BlockCipherEncrypt>(
     let mut whole = [0; 16];
     put_tag(cipher, nonce, tag.len(), additional, text, &mut whole);
     tag.copy_from_slice(&whole[..tag.len()]);
-    apply(cipher, nonce, text);
+    process_text(cipher, nonce, text);
     Ok(())
 }
 
 /// Decrypts a text in place if the tag is right (6.2). The tag can be computed only when the text
-/// is decrypted, and is compared without an early exit; a text that is refused is encrypted again.
+/// is decrypted, and is compared without an early exit. A text that is refused is encrypted again.
 ///
 /// # Errors
 ///
@@ -84,10 +84,10 @@ pub fn decrypt<C: BlockCipherEncrypt>(
     if let Err(invalid) = check(nonce.len(), text.len(), tag.len()) {
         return Err(NotDecrypted::Invalid(invalid));
     }
-    apply(cipher, nonce, text);
+    process_text(cipher, nonce, text);
     if is_tag(cipher, nonce, additional, text, tag) {
         return Ok(());
     }
-    apply(cipher, nonce, text);
+    process_text(cipher, nonce, text);
     Err(NotDecrypted::Refused)
 }

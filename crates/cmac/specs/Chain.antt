@@ -18,7 +18,7 @@ chained w y s zero = y
 chained w y s (suc i) =
     fips.cipher_with w (fips.add_round_key (chained w y s i) (block_at s i))
 
--- the value after all of a string, with zeros behind it
+-- the value after all of a string, followed by zeros
 unfoldable pub chained_through : List (List ℕ) → List ℕ → List ℕ → List ℕ
 unfolding chained padded
 chained_through w y s = chained w y (padded s) (length (padded s) / 16)

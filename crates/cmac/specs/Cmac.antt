@@ -1,5 +1,6 @@
--- CMAC (SP 800-38B) over a block cipher of 16 bytes, given by its round keys w: CIPH_K is Cipher of FIPS 197 under them.
--- A byte is a number below 2 ^ 8, a block a list of 16 bytes; section and step numbers are those of SP 800-38B.
+-- CMAC (SP 800-38B) over a block cipher of 16 bytes, given by its round keys w: CIPH_K is Cipher of
+-- FIPS 197 under them. A byte is a number below 2 ^ 8, a block a list of 16 bytes; section and step
+-- numbers are those of SP 800-38B.
 use Rattle.std.specs.Prelude.{ℕ, ◌-◌, ◌*◌, ◌/◌, ◌%◌, ◌^◌, ◌==◌, if◌then◌else◌, List, ◌∷◌, ◌++◌}
 use Rattle.std.specs.Prelude.{length, replicate}
 use Rattle.std.specs.List.{slice_range}
@@ -14,7 +15,7 @@ use Rattle.cmac.specs.Chain.{chained}
 unfoldable pub first_bit : ℕ → ℕ
 first_bit x = x / 2 ^ 127
 
--- X << 1: the block without its first bit, and a 0 behind it (5.1)
+-- X << 1: the block without its first bit, followed by a 0 (5.1)
 unfoldable pub shifted : ℕ → ℕ
 shifted x = x * 2 % 2 ^ 128
 
@@ -45,13 +46,14 @@ subkey_2 w = doubled_block (subkey_1 w)
 unfoldable pub before_last : ℕ → ℕ
 before_last bytes = (bytes - 1) / 16
 
--- M_n, of M_n*: plus K1 if that is complete; else with a bit 1 and zeros behind it, plus K2 (step 4)
+-- M_n, of M_n*: plus K1 if that is complete; else followed by a bit 1 and zeros, plus K2 (step 4)
 unfoldable pub last_block : List (List ℕ) → List ℕ → List ℕ
 unfolding subkey_1 subkey_2
 last_block w rest = if length rest == 16 then fips.add_round_key (subkey_1 w) rest
     else fips.add_round_key (subkey_2 w) (rest ++ 0x80 ∷ replicate (15 - length rest) 0)
 
--- the tag of 128 bits: C_n, where C_i for i below n is the cipher of C_(i-1) plus M_i, after zeros (steps 5 to 7)
+-- the tag of 128 bits: C_n, where C_i for i below n is the cipher of C_(i-1) plus M_i, after zeros
+-- (steps 5 to 7)
 unfoldable pub cmac : List (List ℕ) → List ℕ → List ℕ
 unfolding before_last last_block chained
 cmac w message =

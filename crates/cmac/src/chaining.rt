@@ -7,7 +7,7 @@ ghost use Rattle.cmac.specs.Chain.{chained_through};
 use aes_cipher::blocks::{blocks_equal, sum_of_blocks};
 use aes_cipher::cipher::{Block, BlockCipherEncrypt};
 
-// Goes on by one block: these bytes, with zeros behind them.
+// Continues a chain by one block: these bytes, followed by zeros.
 fn chain_block<C: BlockCipherEncrypt>(cipher: &C, value: &mut Block, bytes: &[u8])
     requires { length bytes.now ≤ 16 }
     ensures { value.new ≡ fips.cipher_with (C.round_keys cipher.now)
@@ -19,8 +19,8 @@ fn chain_block<C: BlockCipherEncrypt>(cipher: &C, value: &mut Block, bytes: &[u8
     cipher.encrypt_block(value);
 }
 
-/// Goes on with a chain by a string, with zeros behind it that fill its last block: each block is
-/// added to the value, and the sum is encrypted.
+/// Continues a chain by a string, followed by zeros that fill its last block. Each block is added
+/// to the value, and the sum is encrypted.
 pub fn chain<C: BlockCipherEncrypt>(cipher: &C, value: &mut Block, bytes: &[u8])
     ensures { value.new ≡ chained_through (C.round_keys cipher.now) value.old bytes.now }
 {

@@ -1,5 +1,5 @@
-//! CMAC at values from outside, as contracts, so that a slip in a definition is refused: RFC 4493,
-//! section 4, and SP 800-38B, D.1, whose examples these are too.
+//! CMAC at values from outside, as contracts: RFC 4493, section 4, whose examples are also those of
+//! SP 800-38B, D.1. With them the prover refuses a mistake in a definition.
 //!
 //! `bytes n 0x..` is the n bytes that these digits write.
 
@@ -13,8 +13,8 @@ ghost use Rattle.cmac.specs.Chain.{chained, chained_through};
 ghost use Rattle.cmac.specs.Cmac.{doubled_block, subkey_1, subkey_2, before_last, last_block};
 ghost use Rattle.cmac.specs.Cmac.{cmac};
 
-// The blocks that the examples encrypt: the block of zeros, those of the messages with 40 and with
-// 64 bytes in their order, and the last ones of all four.
+// The blocks that the examples encrypt. First the block of zeros. Then those of the messages with
+// 40 and with 64 bytes, in their order. Then the last blocks of all four messages.
 #[tactic(auto, using(aes_planes::proofs::OnLiterals::ciphers), unfolding(aes_planes::proofs::OnLiterals::aes_by_table))]
 fn encrypted_blocks()
     ensures zeros { fips.cipher_with
@@ -50,7 +50,8 @@ fn encrypted_blocks()
         ≡ bytes 16 0x51f0bebf7e3b9d92fc49741779363cfe }
 {}
 
-/// A block is doubled without and with its first bit, and the last bit alone becomes R_128.
+/// A block is doubled without its first bit and with it. If a block is the first bit alone, its
+/// double is R_128.
 #[tactic(auto, unfolding(crate::proofs::OnLiterals::cmac_on_literals))]
 pub fn doubled_examples()
     ensures without { doubled_block (bytes 16 0x7df76b0c1ab899b33e42f047b91b546f)
@@ -61,8 +62,8 @@ pub fn doubled_examples()
         ≡ bytes 16 0x87 }
 {}
 
-/// Each block but the last is chained as the first one is, however many come before it, and the last
-/// one has 1 to 16 bytes, of a message that has some (6.2, steps 2 to 6).
+/// Each block but the last is chained as the first one is, at any place. The last block of a
+/// message that isn't empty has 1 to 16 bytes (6.2, steps 2 to 6).
 #[tactic(auto, unfolding(crate::proofs::OnLiterals::cmac_rules))]
 pub fn chain_rules()
     ensures none { before_last 0 ≡ 0 }
@@ -81,8 +82,8 @@ pub fn chain_rules()
         (16 * before_last (length message)) (length message)))) }
 {}
 
-/// A string gets as few zeros as fill its last block. The last block of a message is its own if that
-/// is complete, and else ends in a bit 1 and zeros (6.2, step 4).
+/// A string gets as few zeros as fill its last block. If the last block of a message is complete,
+/// it stays as it is. Otherwise a bit 1 and zeros fill it (6.2, step 4).
 #[tactic(auto, unfolding(crate::proofs::OnLiterals::padding_rules))]
 pub fn padding_rules()
     ensures zeros { (s : List ℕ) (k : ℕ) → k < 16 → (length s + k) % 16 ≡ 0

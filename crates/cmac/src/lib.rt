@@ -1,5 +1,5 @@
-//! CMAC (SP 800-38B), a tag that shows whether a message was changed, over any block cipher that
-//! encrypts, and the chain of blocks that it is made of.
+//! CMAC (SP 800-38B) over any block cipher that encrypts: a tag that shows whether a message was
+//! changed. The chain of blocks that makes the tag is public too.
 #![tactic(auto)]
 
 mod chaining;

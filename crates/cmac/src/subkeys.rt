@@ -6,8 +6,8 @@ ghost use Rattle.cmac.specs.Cmac.{doubled_block, subkey_1, subkey_2};
 use aes_cipher::blocks::{block_of_number, number_of_block};
 use aes_cipher::cipher::{Block, BlockCipherEncrypt};
 
-// Doubles a block in the field of 2^128 elements. The bit that falls out is secret: it is
-// multiplied and not branched on.
+// Doubles a block in the field of 2^128 elements. The bit that falls out is secret, so the code
+// multiplies by it and doesn't branch on it.
 fn double(block: &Block) -> Block
     ensures { result ≡ doubled_block block.now }
 {

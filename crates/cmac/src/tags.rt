@@ -45,8 +45,8 @@ pub fn is_tag<C: BlockCipherEncrypt>(cipher: &C, message: &[u8], claimed: &Block
     blocks_equal(claimed, &tag(cipher, message))
 }
 
-/// Returns whether these are the first bytes of the tag of a message, 16 at most: a tag of this
-/// many bytes (6.2, step 7). Compares without an early exit.
+/// Returns whether these bytes, at most 16, are the first bytes of the tag of a message (6.2, step
+/// 7). Compares without an early exit.
 #[inline(never)]
 pub fn is_tag_start<C: BlockCipherEncrypt>(cipher: &C, message: &[u8], claimed: &[u8]) -> bool
     requires { length claimed.now ≤ 16 }

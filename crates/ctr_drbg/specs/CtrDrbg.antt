@@ -15,7 +15,7 @@ pub record State : Type 0 where
   pub v : List ℕ
   pub reseed_counter : ℕ
 
--- a string of at most seedlen bytes, with zeros behind it up to seedlen
+-- a string of at most seedlen bytes, followed by zeros up to seedlen
 unfoldable pub seed_padded : List ℕ → List ℕ
 seed_padded x = x ++ replicate (48 - length x) 0
 
@@ -33,7 +33,7 @@ unfolding v_plus_one
 v_after v zero = v
 v_after v (suc i) = v_plus_one (v_after v i)
 
--- temp after i turns: in each, Block_Encrypt(Key, V) of the new V comes behind it
+-- temp after i turns: in each, Block_Encrypt(Key, V) of the new V is put after it
 unfoldable pub temp_after : List ℕ → List ℕ → ℕ → List ℕ
 unfolding v_after
 temp_after key v zero = []
@@ -43,7 +43,7 @@ temp_after key v (suc i) = temp_after key v i ++ fips.cipher key (v_after v (suc
 unfoldable pub turns : ℕ → ℕ
 turns n = (n + 15) / 16
 
--- temp after so many turns, cut to its leftmost n bytes
+-- temp after as many turns as n bytes need, cut to its leftmost n bytes
 unfoldable pub output : List ℕ → List ℕ → ℕ → List ℕ
 unfolding temp_after turns
 output key v n = take n (temp_after key v (turns n))
@@ -77,7 +77,7 @@ unfolding seed_padded exclusive_or update
 reseed entropy_input additional_input s =
     record (update (exclusive_or entropy_input (seed_padded additional_input)) s) { reseed_counter = 1 }
 
--- ---- CTR_DRBG_Generate (10.2.1.5.1), where the number of bytes is allowed and no reseed is required
+-- ---- CTR_DRBG_Generate (10.2.1.5.1), if the number of bytes is allowed and no reseed is required
 
 -- the working state updated by the padded additional input; as it was if that is Null, a string of
 -- no bytes (step 2)

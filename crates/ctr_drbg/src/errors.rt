@@ -12,7 +12,7 @@ pub enum InvalidSeed {
 /// Why no bytes are generated.
 #[derive(Debug, Clone, Copy, PartialEq, Eq)]
 pub enum NotGenerated {
-    /// More than 2^16 bytes, which are 2^19 bits, were asked for at once.
+    /// More than 2^16 bytes, which are 2^19 bits, were requested at once.
     TooManyBytes,
     /// The additional input has more than 48 bytes.
     TooLong,

@@ -1,7 +1,7 @@
-//! CTR_DRBG at values from outside, as contracts, so that a slip in a definition is refused: NIST's
-//! first vector for AES-256 without a derivation function, which gives 64 bytes at the second
-//! request, the first one with additional inputs, and the first one with a reseed too. A model that
-//! gives the same at all of NIST's vectors computed the working states between.
+//! CTR_DRBG at values from outside, as contracts. With them the prover refuses a mistake in a
+//! definition. The values are NIST's first vectors for AES-256 without a derivation function. One
+//! gives 64 bytes at the second request, one has additional inputs, and one has a reseed too. A
+//! model that agrees with all of NIST's vectors computed the working states between.
 //!
 //! `bytes n 0x..` is the n bytes that these digits write.
 
@@ -13,8 +13,8 @@ ghost use Rattle.ctr_drbg.specs.CtrDrbg.{State, seed_padded, exclusive_or, insta
 ghost use Rattle.ctr_drbg.specs.CtrDrbg.{generate, prepared, returned_bits, turns};
 ghost use Rattle.ctr_drbg.specs.CtrDrbg.{v_plus_one, output, v_after, temp_after};
 
-/// A string is padded behind it; a personalization string is summed with the first bytes of the
-/// entropy input, here 20 with ff; and a reseed of the working state of zeros is an instantiation.
+/// A string is padded at its end. A personalization string is summed with the first bytes of the
+/// entropy input, here 20 with ff. A reseed of the working state of zeros is an instantiation.
 #[tactic(auto, unfolding(crate::proofs::OnLiterals::strings_on_literals))]
 pub fn string_examples()
     ensures padded { seed_padded (0xff ∷ 0xfe ∷ []) ≡ 0xff ∷ 0xfe ∷ replicate 46 0 }
@@ -29,8 +29,8 @@ pub fn string_examples()
         ≡ instantiate entropy_input additional_input }
 {}
 
-/// How many blocks make output of no byte, of one, of a block, of a byte more, and of the most that
-/// a request may ask for (10.2.1.5.1, step 4), by hand.
+/// How many blocks make output of no byte, of one, of a block, of a byte more, and of the most
+/// bytes of a request (10.2.1.5.1, step 4). They were counted by hand.
 #[tactic(auto, unfolding(crate::specs::CtrDrbg::turns))]
 pub fn turn_examples()
     ensures none { turns 0 ≡ 0 }
@@ -40,15 +40,15 @@ pub fn turn_examples()
     ensures most { turns (2 ^ 16) ≡ 4096 }
 {}
 
-/// As many blocks as fill a number of bytes, and no block more.
+/// There are as many blocks as fill a number of bytes, and no block more.
 #[tactic(auto, unfolding(crate::specs::CtrDrbg::turns))]
 pub fn enough_turns()
     ensures enough { (n : ℕ) → n ≤ 16 * turns n }
     ensures needed { (n : ℕ) → 16 * turns n < n + 16 }
 {}
 
-/// V is counted on by one in each turn, as a number of 128 bits whose highest byte is first, and the
-/// cipher of each V comes behind those before it (10.2.1.2, step 2).
+/// V is counted on by one in each turn, as a number of 128 bits whose highest byte is first. The
+/// encryption of each V is put after those before it (10.2.1.2, step 2).
 #[tactic(auto, unfolding(crate::proofs::OnLiterals::turns_on_literals))]
 pub fn turn_rules()
     ensures carried { v_plus_one (bytes 16 0x00000000000000ffffffffffffffffff)
@@ -61,7 +61,7 @@ pub fn turn_rules()
 {}
 
 /// An additional input of any length but 0 is padded, and updates the working state before the
-/// output; an empty one changes nothing then (10.2.1.5.1, step 2).
+/// output. An empty one changes nothing then (10.2.1.5.1, step 2).
 #[tactic(auto, unfolding(crate::specs::CtrDrbg::prepared))]
 pub fn additional_input_rules()
     ensures some { (x : ℕ) (xs : List ℕ) (s : State)
@@ -69,9 +69,9 @@ pub fn additional_input_rules()
     ensures none { (s : State) → prepared [] s ≡ s }
 {}
 
-/// Strings, updates and requests of any length, by their steps: padding; the sum of two strings, byte
-/// by byte; output, cut from as many blocks as it needs; an update; an instantiation and a reseed; and
-/// what a request returns and leaves (10.2.1.2 to 10.2.1.5.1).
+/// Strings, updates and requests of any length, by their steps: padding, the sum of two strings
+/// byte by byte, output, an update, and an instantiation. Then, what a request returns and leaves
+/// (10.2.1.2 to 10.2.1.5.1).
 #[tactic(auto, unfolding(crate::proofs::OnLiterals::requests))]
 pub fn request_rules()
     ensures padded { (x : List ℕ) → seed_padded x ≡ x ++ replicate (48 - length x) 0 }
@@ -105,7 +105,7 @@ pub fn request_rules()
         })).v }
 {}
 
-/// Whatever reseed_counter was, a reseed sets it to 1, and a request counts it on.
+/// A reseed sets reseed_counter to 1, whatever it was, and a request adds 1 to it.
 #[tactic(auto, unfolding(crate::specs::CtrDrbg::reseed, crate::specs::CtrDrbg::generate))]
 pub fn counter_examples()
     ensures reseeded { (entropy_input additional_input : List ℕ) (s : State)
@@ -115,7 +115,8 @@ pub fn counter_examples()
 {}
 
 // The blocks that are encrypted: three for the seed, three for the update after the first request,
-// whose four blocks of output come before them, and the first one of the second request.
+// and the first one of the second request. The four blocks of output of the first request come
+// before its update, and aren't needed here.
 #[tactic(auto, using(aes_planes::proofs::OnLiterals::ciphers), unfolding(aes_planes::proofs::OnLiterals::aes_by_table))]
 fn encrypted_blocks()
     ensures one { fips.cipher_with
@@ -155,8 +156,8 @@ fn encrypted_blocks()
         ≡ bytes 16 0xd1c07cd95af8a7f11012c84ce48bb8cb }
 {}
 
-/// The working state of the seed, the working state after the first request of 64 bytes, and the
-/// first block of the second, which is NIST's, with its leftmost five bytes.
+/// The working state of the seed, and that after the first request of 64 bytes. Then the first
+/// block of the second request, which is NIST's, and its leftmost five bytes.
 pub fn two_requests_example()
     ensures seeded { instantiate
         (bytes 48 0xdf5d73faa468649edda33b5cca79b0b05600419ccb7a879ddfec9db32ee494e5531b51de16a30f769262474c73bec010) []
@@ -193,9 +194,9 @@ pub fn two_requests_example()
     encrypted_blocks();
 }
 
-// The blocks that are encrypted where both requests have an additional input: three for the update
-// before the first output, three for that after it, three for the update before the second output,
-// and the first one of this output.
+// The blocks that are encrypted where both requests have an additional input. Three are for the
+// update before the first output, three for the update after it, and three for the update before
+// the second output. The last one is the first block of the second output.
 #[tactic(auto, using(aes_planes::proofs::OnLiterals::ciphers), unfolding(aes_planes::proofs::OnLiterals::aes_by_table))]
 fn encrypted_with_inputs()
     ensures prepared_one { fips.cipher_with
@@ -250,8 +251,9 @@ fn encrypted_with_inputs()
         ≡ bytes 16 0x6808268b13e236f642c06deba2494496 }
 {}
 
-/// NIST's first vector with a personalization string and additional inputs: the working state after
-/// the first request of 64 bytes, and the first block of the second, which is NIST's.
+/// NIST's first vector with a personalization string and additional inputs. States the working
+/// state after the first request of 64 bytes, and the first block of the second request, which is
+/// NIST's.
 pub fn additional_inputs_example()
     ensures first { generate 64
         (bytes 48 0x0b081bab6c74d86b4a010e2ded99d14e0c9838f7c3d69afd64f1b66377d95cdcb7f6ec5358e3516034c3339ced7e1638) (record {
@@ -297,8 +299,8 @@ fn encrypted_for_reseed()
         ≡ bytes 16 0x484554529c541f47169de3a88c3f4794 }
 {}
 
-/// NIST's first vector with a personalization string, additional inputs and a reseed: the working
-/// state after this, from that of the seed.
+/// NIST's first vector with a personalization string, additional inputs and a reseed. States the
+/// working state after the reseed, from that of the seed.
 pub fn reseed_example()
     ensures { reseed
         (bytes 48 0xa42407931bfeca70e6ee5dd197021a129525051c07468e8b25587c5ad50abe9204e882fe847b8fd47cf7b4360e5aa034)

@@ -1,4 +1,4 @@
-//! The generator that a caller keeps: made from a seed, reseeded, and asked for random bytes.
+//! The generator that a caller keeps. It is made from a seed, reseeded, and asked for random bytes.
 
 ghost use Rattle.std.specs.Prelude.{◌≡◌, ◌≢◌, ◌↔◌, ◌⊎◌, ◌<◌, ◌≤◌, ◌+◌, ◌-◌, ◌^◌, length, take, drop};
 ghost use Rattle.std.specs.Prelude.{replicate, IsErr, IsErrOf, IfOk, OnOk, OnErr};
@@ -6,7 +6,7 @@ ghost use Rattle.ctr_drbg.specs.CtrDrbg as nist;
 
 use crate::errors::{InvalidSeed, NotGenerated};
 use crate::output::{add_output, moved_on, put_output};
-use crate::seeds::{SEED_LENGTH, SeedRoom, are_seeds, put_padded, put_seed_material};
+use crate::seeds::{SEED_LENGTH, SeedRoom, check_lengths, put_padded, put_seed_material};
 use aes_cipher::cipher::{Block, BlockCipherEncrypt, KeyInit};
 use aes_cipher::not_clone::NotClone;
 use aes_cipher::zeroize::{MustWipe, Wiped, ZeroizeOnDrop, wipe_stack};
@@ -25,8 +25,8 @@ const KEY_LENGTH: usize = 32;
 // The most bytes of stack of a call.
 const CALL_STACK: usize = 4096;
 
-// Makes a cipher. It isn't refused, since the key is as long as its keys are.
-fn keyed<C: KeyInit + Drop>(key: &[u8]) -> C
+// Makes a cipher. The key isn't refused, since it is as long as the cipher's keys are.
+fn cipher_of_key<C: KeyInit + Drop>(key: &[u8]) -> C
     requires keys { C.KEY_SIZE ≡ 32 }
     requires length { length key.now ≡ 32 }
     ensures { C.own_key result ≡ key.now }
@@ -35,9 +35,9 @@ fn keyed<C: KeyInit + Drop>(key: &[u8]) -> C
 }
 
 /// CTR_DRBG over a cipher with keys of 32 bytes, without a derivation function (SP 800-90A Rev. 1,
-/// 10.2.1): nobody who doesn't know its seed can tell its bytes from random ones. Contracts see a
-/// value as its working state. It is wiped when it is dropped if the cipher is, as those of this
-/// library are, and is never copied: two generators with one working state give the same bytes.
+/// 10.2.1). Without its seed nobody can tell its bytes from random ones. Contracts see a value as
+/// its working state. A value is wiped when it is dropped, if its cipher is, as the ciphers of this
+/// library are. A value is never copied: two generators with one working state give the same bytes.
 #[derive(Drop)]
 pub struct CtrDrbg<C: BlockCipherEncrypt + KeyInit> {
     cipher: C,
@@ -66,8 +66,8 @@ impl<C: BlockCipherEncrypt + KeyInit + ZeroizeOnDrop> ZeroizeOnDrop for CtrDrbg<
 
 impl<C: BlockCipherEncrypt + KeyInit + Drop> CtrDrbg<C> {
     /// Makes a generator from 48 bytes of entropy input and a personalization string, which may be
-    /// empty (10.2.1.3.1). The entropy input has to be full entropy that nobody knows, as 48 bytes
-    /// of the system's generator are. The personalization string needn't be secret.
+    /// empty (10.2.1.3.1). The entropy input has to be full entropy that nobody knows; 48 bytes of
+    /// the system's generator are. The personalization string needn't be secret.
     ///
     /// # Errors
     ///
@@ -86,7 +86,7 @@ impl<C: BlockCipherEncrypt + KeyInit + Drop> CtrDrbg<C> {
             ≡ nist.instantiate entropy_input.now personalization_string.now) }
     {
         let mut generator = CtrDrbg {
-            cipher: keyed(&[0; KEY_LENGTH]),
+            cipher: cipher_of_key(&[0; KEY_LENGTH]),
             v: Wiped::zeroed(),
             reseed_counter: 1,
         };
@@ -94,7 +94,7 @@ impl<C: BlockCipherEncrypt + KeyInit + Drop> CtrDrbg<C> {
         Ok(generator)
     }
 
-    /// Brings in 48 bytes of fresh entropy input, and an additional input, which may be empty
+    /// Reseeds with 48 bytes of fresh entropy input, and an additional input, which may be empty
     /// (10.2.1.4.1).
     ///
     /// # Errors
@@ -114,7 +114,7 @@ impl<C: BlockCipherEncrypt + KeyInit + Drop> CtrDrbg<C> {
             ≡ nist.reseed entropy_input.now additional_input.now self.old) }
         ensures unchanged { OnErr result (self.new ≡ self.old) }
     {
-        are_seeds(entropy_input, additional_input)?;
+        check_lengths(entropy_input, additional_input)?;
         self.take_seed(entropy_input, additional_input);
         wipe_stack::<CALL_STACK>();
         Ok(())
@@ -168,19 +168,19 @@ impl<C: BlockCipherEncrypt + KeyInit + Drop> CtrDrbg<C> {
         (RESEED_INTERVAL + 1).saturating_sub(self.reseed_counter)
     }
 
-    /// Forgets the seed (Uninstantiate, 9.4): Key and V are zeros, and every request is refused with
-    /// `ReseedRequired`, until `reseed` brings in a new seed.
+    /// Forgets the seed (Uninstantiate, 9.4). Key and V are then zeros. Every request is refused
+    /// with `ReseedRequired`, until `reseed` brings in a new seed.
     pub fn uninstantiate(&mut self)
         ensures key { self.new.key ≡ replicate 32 0 }
         ensures v { self.new.v ≡ replicate 16 0 }
         ensures counter { self.new.reseed_counter ≡ 2 ^ 48 + 1 }
     {
         self.v.wipe();
-        self.cipher = keyed(&[0; KEY_LENGTH]);
+        self.cipher = cipher_of_key(&[0; KEY_LENGTH]);
         self.set_counter(RESEED_INTERVAL + 1);
     }
 
-    // The reseed, of strings that are allowed. In a call of its own, so that its stack can be
+    // Reseeds, where the strings are allowed. This is a call of its own, so that its stack can be
     // wiped.
     #[inline(never)]
     fn take_seed(&mut self, entropy_input: &[u8], additional_input: &[u8])
@@ -199,7 +199,8 @@ impl<C: BlockCipherEncrypt + KeyInit + Drop> CtrDrbg<C> {
         seed.wipe();
     }
 
-    // The request, where it is allowed. In a call of its own, so that its stack can be wiped.
+    // Answers a request, where it is allowed. This is a call of its own, so that its stack can be
+    // wiped.
     #[inline(never)]
     #[tactic(auto, unfolding(crate::specs::CtrDrbg::returned_bits))]
     fn answer(&mut self, additional_input: &[u8], output: &mut [u8])
@@ -249,7 +250,7 @@ impl<C: BlockCipherEncrypt + KeyInit + Drop> CtrDrbg<C> {
     {
         let (key, v) = temp.split_at(KEY_LENGTH);
         self.v.value_mut()[0].copy_from_slice(v);
-        self.cipher = keyed(key);
+        self.cipher = cipher_of_key(key);
     }
 
     // The update before the output, if there is an additional input (10.2.1.5.1, step 2).
@@ -275,7 +276,6 @@ impl<C: BlockCipherEncrypt + KeyInit + Drop> CtrDrbg<C> {
         self.put_v(&v);
     }
 
-    // Writes V.
     fn put_v(&mut self, v: &Block)
         ensures key { self.new.key ≡ self.old.key }
         ensures v { self.new.v ≡ v.now }
@@ -283,7 +283,6 @@ impl<C: BlockCipherEncrypt + KeyInit + Drop> CtrDrbg<C> {
         self.v.value_mut()[0].copy_from_slice(v);
     }
 
-    // Writes reseed_counter.
     fn set_counter(&mut self, reseed_counter: u64)
         ensures key { self.new.key ≡ self.old.key }
         ensures v { self.new.v ≡ self.old.v }

@@ -1,5 +1,5 @@
-//! CTR_DRBG (SP 800-90A Rev. 1, 10.2.1), which makes random numbers from a seed, over any block
-//! cipher with keys of 32 bytes.
+//! CTR_DRBG (SP 800-90A Rev. 1, 10.2.1) over any block cipher with keys of 32 bytes. It makes
+//! random numbers from a seed.
 #![tactic(auto)]
 
 mod errors;

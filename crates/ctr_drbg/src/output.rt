@@ -7,7 +7,7 @@ use aes_cipher::blocks::{block_of_number, number_of_block};
 use aes_cipher::cipher::{Block, BlockCipherEncrypt, KeyInit};
 use aes_ctr::add_keystream;
 
-// The place in the keystream of counter mode from V on at which the cipher of V + 1 begins.
+// The place in the keystream of counter mode from V on where the encryption of V + 1 begins.
 const FIRST_OUTPUT: u64 = 16;
 
 /// Adds as many bytes of output to bytes (10.2.1.2, steps 2 to 4).

@@ -45,7 +45,7 @@ pub(crate) fn put_padded(string: &[u8], seed: &mut [u8; SEED_LENGTH])
     seed[..string.len()].copy_from_slice(string);
 }
 
-// Adds a string, with zeros behind it.
+// Adds a string, followed by zeros.
 #[tactic(auto, using(crate::proofs::Strings::added))]
 fn add_padded(string: &[u8], seed: &mut [u8; SEED_LENGTH])
     requires { length string.now ≤ 48 }
@@ -56,8 +56,8 @@ fn add_padded(string: &[u8], seed: &mut [u8; SEED_LENGTH])
     }
 }
 
-/// Whether entropy input and another string are as long as they may be.
-pub(crate) fn are_seeds(entropy_input: &[u8], string: &[u8]) -> Result<(), InvalidSeed>
+/// Returns why entropy input and another string are refused, if they are.
+pub(crate) fn check_lengths(entropy_input: &[u8], string: &[u8]) -> Result<(), InvalidSeed>
     ensures entropy { IsErrOf result InvalidSeed.EntropyLength ↔ (length entropy_input.now ≢ 48) }
     ensures refusal { IsErr result ↔ ((length entropy_input.now ≢ 48) ⊎ (48 < length string.now)) }
 {
@@ -70,7 +70,7 @@ pub(crate) fn are_seeds(entropy_input: &[u8], string: &[u8]) -> Result<(), Inval
     Ok(())
 }
 
-/// Writes seed_material: the entropy input plus a string with zeros behind it (10.2.1.3.1 and
+/// Writes seed_material: the entropy input plus a string, followed by zeros (10.2.1.3.1 and
 /// 10.2.1.4.1, steps 1 to 3).
 pub(crate) fn put_seed_material(entropy_input: &[u8], string: &[u8], seed: &mut [u8; SEED_LENGTH])
     requires entropy { length entropy_input.now ≡ 48 }

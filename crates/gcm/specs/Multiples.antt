@@ -94,7 +94,7 @@ pub record HasRows (row : ℕ → ℕ) (r : ℕ) (v : List ℕ) : Type 0 where
 unfoldable pub folded : ℕ → ℕ
 folded l = bit_xor (bit_xor (bit_xor l (l / 2)) (l / 4)) (l / 128)
 
--- 128 bits and those that fell out behind them, as one block
+-- 128 bits and those that fell out after them, as one block
 unfoldable pub reduced : ℕ → ℕ → ℕ
 unfolding folded
 reduced k l = bit_xor k (folded l)

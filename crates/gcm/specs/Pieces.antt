@@ -26,12 +26,12 @@ IsTurn turn m = (phase_of m.phase ≡ Additional) ⊎ (phase_of m.phase ≡ turn
 abbrev pub IsOutOfTurn : Phase → Message → Type 0
 IsOutOfTurn turn m = (phase_of m.phase ≢ Additional) × (phase_of m.phase ≢ turn)
 
--- GHASH, from the value y on, after the whole blocks of a string, and the bytes of it behind them
+-- GHASH, from the value y on, after the whole blocks of a string, and the bytes of it after them
 pub record IsHashing (h y : ℕ) (s : List ℕ) (v : ℕ) (block : List ℕ) : Type 0 where
   pub value : v ≡ hashed h y s (length s / 16)
   pub rest : take (length s % 16) block ≡ drop (16 * (length s / 16)) s
 
--- GHASH of additional data, with zeros behind it that fill its last block
+-- GHASH of additional data, followed by zeros that fill its last block
 unfoldable pub hashed_padded : ℕ → List ℕ → ℕ
 hashed_padded h a = hashed h 0 (padded a) (length (padded a) / 16)
 

@@ -1,6 +1,6 @@
-//! Products with a block H bit by bit, as the standard has them: for processors that have no byte
-//! shuffle, where a row of a table can't be looked up without an address that depends on a secret.
-//! There is no table, no branch and no address that depends on one.
+//! Products with a block H, bit by bit, as the standard has them. They are for processors without a
+//! byte shuffle, where a look-up in a table needs an address that depends on a secret. Here no
+//! table is used, and no branch and no address depends on a secret.
 
 ghost use Rattle.std.specs.Prelude.{◌≡◌};
 ghost use Rattle.gcm.specs.Gcm.{product};
@@ -10,8 +10,8 @@ use crate::numbers::number_of;
 use crate::single_blocks::Factor;
 use std::simd::prelude::*;
 
-/// Returns the product of two blocks (6.3, algorithm 1): V_0, V_1, .. of H are summed where a bit
-/// of the other block is 1, by a mask for each.
+/// Returns the product of two blocks (6.3, algorithm 1). Where a bit of the other block is 1, V_i
+/// of H is added. A mask does this for each bit.
 #[inline(never)]
 pub fn product_bitwise(x: u128, h: u128) -> u128
     ensures { result ≡ product x h }
@@ -29,11 +29,11 @@ pub fn product_bitwise(x: u128, h: u128) -> u128
 
 /// The block H, which is multiplied bit by bit, with masks.
 #[derive(Drop)]
-pub struct WithMasks {
+pub struct BitwiseFactor {
     pub h: u128,
 }
 
-impl Factor for WithMasks {
+impl Factor for BitwiseFactor {
     type Value = u128;
 
     ghost number = { λ value. value };
@@ -41,7 +41,7 @@ impl Factor for WithMasks {
     ghost subkey = { λ factor. factor.h };
 
     #[inline(always)]
-    fn after(&self, value: u128, block: u8x16) -> u128 {
+    fn hash_block(&self, value: u128, block: u8x16) -> u128 {
         product_bitwise(value ^ number_of(block), self.h)
     }
 }

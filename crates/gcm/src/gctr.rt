@@ -10,26 +10,27 @@ use aes_cipher::cipher::{Block, BlockCipherEncrypt};
 use aes_cipher::zeroize::MustWipe;
 use aes_ctr::{CounterBlocks, add_stream};
 
-// Room for a secret block, which has to be wiped where it stands.
-pub(crate) type BlockRoom = MustWipe<[Block; 1]>;
+// A secret block, which has to be wiped in place.
+pub(crate) type SecretBlock = MustWipe<[Block; 1]>;
 
 // How many counter blocks there are before the last 32 bits of a counter repeat.
 const COUNTERS: u128 = 1 << 32;
 
-// An initial counter block, the last 32 bits of which count, modulo 2^32 (inc_32, 6.2). Nothing is
-// compared, and no carry leaves these bits: the block is secret if its nonce doesn't have 12 bytes.
+// An initial counter block, whose last 32 bits count, modulo 2^32 (inc_32, 6.2). The block is
+// secret if its nonce doesn't have 12 bytes. So nothing is compared, and no carry leaves the last
+// 32 bits.
 #[derive(Drop)]
 struct LastBits {
-    first: Block,
+    start: Block,
 }
 
 impl CounterBlocks for LastBits {
-    ghost block = { λ counters j. to_be_bytes w128 (counter_at (from_be_bytes w128 counters.first) j) };
+    ghost block = { λ counters j. to_be_bytes w128 (counter_at (from_be_bytes w128 counters.start) j) };
 
     #[tactic(auto, using(crate::proofs::Messages::Counting::counted))]
     #[inline(always)]
     fn put(&self, first: u64, blocks: &mut [Block]) {
-        let number = number_of_block(&self.first);
+        let number = number_of_block(&self.start);
         let others = number - number % COUNTERS;
         let mut counter = ((number % COUNTERS) as u32).wrapping_add((first % (1 << 32)) as u32);
         for i in 0..blocks.len() {
@@ -39,8 +40,8 @@ impl CounterBlocks for LastBits {
     }
 }
 
-// Adds to bytes the keystream of GCTR from a position on. In a call of its own, so that its stack
-// can be wiped.
+// Adds to bytes the keystream of GCTR from a position on. This is a call of its own, so that its
+// stack can be wiped.
 #[inline(never)]
 pub(crate) fn add_gctr<C: BlockCipherEncrypt>(
     cipher: &C,
@@ -54,6 +55,6 @@ pub(crate) fn add_gctr<C: BlockCipherEncrypt>(
         position bytes.old }
 {
     if bytes.len() > 0 {
-        add_stream(cipher, &LastBits { first: *first }, position, bytes);
+        add_stream(cipher, &LastBits { start: *first }, position, bytes);
     }
 }

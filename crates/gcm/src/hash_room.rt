@@ -1,5 +1,5 @@
-//! Room for what GHASH needs of a block H, and GHASH over it: tables of H's multiples where a
-//! processor has a byte shuffle, H alone where it has none.
+//! Room for what GHASH needs of a block H, and GHASH over it. On a processor with a byte shuffle
+//! this is tables of H's multiples, and else H alone.
 
 ghost use Rattle.std.specs.Prelude.{◌≡◌, ℕ, List, ◌/◌, ◌%◌, ◌<◌, ◌++◌, length};
 ghost use Rattle.gcm.specs.Pieces.{IsHashing};
@@ -10,10 +10,10 @@ ghost use Rattle.gcm.specs.Gcm.{hashed, product};
 ghost use Rattle.gcm.specs.Multiples.{subkey_in, HasMultiples, IsTable, subkey_alone, IsAlone};
 ghost use Rattle.gcm.specs.Multiples.{subkey_of_words, AreSubkeyWords};
 
-use crate::bitwise::{WithMasks, product_bitwise};
+use crate::bitwise::{BitwiseFactor, product_bitwise};
 use crate::byte_order::HighestFirst;
 use crate::hash::{hash_string, hash_string_and_end};
-use crate::holes::{WithHoles, product_with_holes};
+use crate::holes::{FactorWithHoles, product_with_holes};
 use crate::multiples::{Multiples, MultiplesRoom, TableRoom, put_multiples, put_one_table};
 use crate::numbers::{number_of, vector_of};
 use crate::single_blocks::{hash_on_singly, hash_to_end_singly};
@@ -24,8 +24,8 @@ use aes_cipher::zeroize::Zeroize;
 use std::marker::Model;
 use std::simd::prelude::*;
 
-/// Room for what products with a block need: H of GHASH, or a factor of POLYVAL. It is as secret as
-/// the block.
+/// Room for what products with a block need. The block is H of GHASH, or a factor of POLYVAL. The
+/// room is as secret as the block.
 pub trait ProductRoom: Zeroize {
     /// The room has what products with the block need.
     ghost IsMade: { Self → Type 0 };
@@ -46,15 +46,14 @@ pub trait HashRoom: ProductRoom {
         requires { Self.IsMade self.now }
         ensures { result ≡ product x (Self.subkey self.now) };
 
-    /// Returns the value of GHASH after more bytes, with zeros behind them that fill the last
-    /// block.
+    /// Returns the value of GHASH after more bytes, followed by zeros that fill the last block.
     fn hash_on(&self, value: u128, bytes: &[u8]) -> u128
         requires { Self.IsMade self.now }
         ensures { result ≡ hashed (Self.subkey self.now) value (padded bytes.now)
             (length (padded bytes.now) / 16) };
 
-    /// Returns the value of GHASH after more bytes, with zeros behind them that fill the last
-    /// block, and one block more.
+    /// Returns the value of GHASH after more bytes, followed by zeros that fill the last block, and
+    /// one block more.
     fn hash_to_end(&self, value: u128, bytes: &[u8], end: &Block) -> u128
         requires { Self.IsMade self.now }
         ensures { let before =
@@ -74,7 +73,7 @@ impl ProductRoom for TableRoom {
     }
 }
 
-// Multiples of the block, of its square and of its cube, so that three blocks are hashed at once.
+// Multiples of the block, of its square and of its cube. So three blocks are hashed at once.
 impl ProductRoom for MultiplesRoom {
     ghost IsMade = { HasMultiples };
 
@@ -89,16 +88,16 @@ impl ProductRoom for MultiplesRoom {
 impl HashRoom for MultiplesRoom {
     #[inline(always)]
     fn product(&self, x: u128) -> u128 {
-        number_of(Multiples::lent(self).block_product(vector_of(x)))
+        number_of(Multiples::new(self).block_product(vector_of(x)))
     }
 
     fn hash_on(&self, value: u128, bytes: &[u8]) -> u128 {
-        let multiples = Multiples::lent(self);
+        let multiples = Multiples::new(self);
         number_of(hash_string::<HighestFirst>(&multiples, vector_of(value), bytes))
     }
 
     fn hash_to_end(&self, value: u128, bytes: &[u8], end: &Block) -> u128 {
-        let multiples = Multiples::lent(self);
+        let multiples = Multiples::new(self);
         let value = vector_of(value);
         let end = u8x16::from_array(*end);
         number_of(hash_string_and_end::<HighestFirst>(&multiples, value, bytes, end))
@@ -129,13 +128,13 @@ impl HashRoom for SubkeyRoom {
     #[inline(always)]
     fn hash_on(&self, value: u128, bytes: &[u8]) -> u128 {
         let h = number_of_block(&self[0]);
-        hash_on_singly(&WithMasks { h }, value, bytes)
+        hash_on_singly(&BitwiseFactor { h }, value, bytes)
     }
 
     #[inline(always)]
     fn hash_to_end(&self, value: u128, bytes: &[u8], end: &Block) -> u128 {
         let h = number_of_block(&self[0]);
-        hash_to_end_singly(&WithMasks { h }, value, bytes, end)
+        hash_to_end_singly(&BitwiseFactor { h }, value, bytes, end)
     }
 }
 
@@ -163,13 +162,13 @@ impl HashRoom for SubkeyWordsRoom {
     #[inline(always)]
     fn hash_on(&self, value: u128, bytes: &[u8]) -> u128 {
         let h = number_of_words(self);
-        hash_on_singly(&WithHoles { h }, value, bytes)
+        hash_on_singly(&FactorWithHoles { h }, value, bytes)
     }
 
     #[inline(always)]
     fn hash_to_end(&self, value: u128, bytes: &[u8], end: &Block) -> u128 {
         let h = number_of_words(self);
-        hash_to_end_singly(&WithHoles { h }, value, bytes, end)
+        hash_to_end_singly(&FactorWithHoles { h }, value, bytes, end)
     }
 }
 
@@ -188,7 +187,7 @@ impl<'a, R: HashRoom> Model for BorrowedRoom<'a, R> {
 }
 
 impl<'a, R: HashRoom> BorrowedRoom<'a, R> {
-    /// Takes room that was written.
+    /// Borrows room that was written.
     #[inline(always)]
     pub fn new(room: &'a R) -> BorrowedRoom<'a, R>
         requires { R.IsMade room.now }
@@ -206,7 +205,7 @@ impl<'a, R: HashRoom> BorrowedRoom<'a, R> {
     }
 }
 
-/// Returns the value of GHASH after more bytes, with zeros behind them that fill the last block.
+/// Returns the value of GHASH after more bytes, followed by zeros that fill the last block.
 #[inline(always)]
 pub(crate) fn hash_on<R: HashRoom>(room: &BorrowedRoom<R>, value: u128, bytes: &[u8]) -> u128
     ensures { result ≡ hashed room.now value (padded bytes.now)
@@ -215,8 +214,8 @@ pub(crate) fn hash_on<R: HashRoom>(room: &BorrowedRoom<R>, value: u128, bytes: &
     room.borrowed.hash_on(value, bytes)
 }
 
-/// Returns the value of GHASH after more bytes, with zeros behind them that fill the last block,
-/// and one block more.
+/// Returns the value of GHASH after more bytes, followed by zeros that fill the last block, and
+/// one block more.
 #[inline(always)]
 pub(crate) fn hash_to_end<R: HashRoom>(
     room: &BorrowedRoom<R>,
@@ -231,29 +230,29 @@ pub(crate) fn hash_to_end<R: HashRoom>(
     room.borrowed.hash_to_end(value, bytes, end)
 }
 
-/// Takes more bytes of a string into a value of GHASH. `filled` bytes of the string are in a block
-/// that isn't whole yet; those that don't fill one are left there. In a call of its own, so that
-/// its stack can be wiped, with all that is made of the value.
+/// Adds more bytes of a string to a value of GHASH. `rest_length` bytes of the string are in
+/// `rest`, a block that isn't whole yet. Bytes that don't fill a block are left there. This is a
+/// call of its own, so that its stack can be wiped, with all that is computed from the value.
 #[inline(never)]
 pub(crate) fn hash_piece<R: HashRoom>(
     room: &BorrowedRoom<R>,
     value: &mut Block,
     rest: &mut Block,
-    filled: usize,
+    rest_length: usize,
     bytes: &[u8],
 )
-    requires { filled < 16 }
-    ensures { (y : ℕ) (s : List ℕ) → length s % 16 ≡ filled
+    requires { rest_length < 16 }
+    ensures { (y : ℕ) (s : List ℕ) → length s % 16 ≡ rest_length
         → IsHashing room.now y s (from_be_bytes w128 value.old) rest.old
         → IsHashing room.now y (s ++ bytes.now) (from_be_bytes w128 value.new) rest.new }
 {
-    if bytes.len() < 16 - filled {
-        rest[filled..filled + bytes.len()].copy_from_slice(bytes);
+    if bytes.len() < 16 - rest_length {
+        rest[rest_length..rest_length + bytes.len()].copy_from_slice(bytes);
         return;
     }
     let before = number_of_block(value);
-    let (first, others) = bytes.split_at(16 - filled);
-    rest[filled..].copy_from_slice(first);
+    let (first, others) = bytes.split_at(16 - rest_length);
+    rest[rest_length..].copy_from_slice(first);
     let (whole, last) = others.split_at(others.len() / 16 * 16);
     let sum = room.product(before ^ number_of_block(rest));
     rest[..last.len()].copy_from_slice(last);

@@ -1,6 +1,6 @@
-//! Products with a block H by products of numbers with holes between their bits: for processors
-//! without a byte shuffle on which the lower half of a product of two words always takes the same
-//! time. There is no table, no branch and no address that depends on a secret.
+//! Products with a block H by products of numbers with holes between their bits. They are for
+//! processors without a byte shuffle. The lower half of a product of two words has to take the same
+//! time for all words. No table is used, and no branch and no address depends on a secret.
 
 ghost use Rattle.std.specs.Prelude.{◌≡◌, ◌*◌, ◌+◌, ◌%◌, ◌^◌};
 ghost use Rattle.gcm.specs.Gcm.{product};
@@ -19,8 +19,9 @@ const HOLES_2: u32 = 0x4444_4444;
 
 const HOLES_3: u32 = 0x8888_8888;
 
-// The lower half of the product of two words without carries. Of every fourth bit at most eight are
-// summed to a place of a product, so no carry comes as far as the next place, four bits on.
+// The lower half of the product of two words without carries. Each factor has every fourth bit
+// alone. So at most eight bits are summed to a place of a product, and no carry reaches the next
+// place, four bits on.
 #[inline(always)]
 fn lower_product(x: u32, y: u32) -> u32
     ensures { result ≡ carryless 32 x y % 2 ^ 32 }
@@ -34,9 +35,8 @@ fn lower_product(x: u32, y: u32) -> u32
     z0 & HOLES_0 ^ z1 & HOLES_1 ^ z2 & HOLES_2 ^ z3 & HOLES_3
 }
 
-// The product of two words without carries. Sums without carries are the same from either end of the
-// words: the product of the words with their bits reversed is the product with its 63 bits reversed.
-// So the upper half comes from the lower half of that.
+// The product of two words without carries. Reversed words have the reversed product, of 63 bits,
+// since there are no carries. So the upper half comes from the lower half of that product.
 #[inline(never)]
 fn product_of_words(x: u32, y: u32) -> u64
     ensures { result ≡ carryless 32 x y }
@@ -73,9 +73,9 @@ fn product_of_numbers(x: u128, y: u128) -> (u128, u128)
     (high ^ middle >> 64, low ^ middle << 64)
 }
 
-/// Returns the product of two blocks (6.3). A block has its bits in the other order than a number,
-/// so the product as numbers is doubled; what falls out is folded in by x^128 = 1 + x + x^2 + x^7,
-/// after the bits that fall out of the fold itself.
+/// Returns the product of two blocks (6.3). A block has its bits in the reverse order of a number,
+/// so the product as numbers is doubled. What falls out is added, by x^128 = 1 + x + x^2 + x^7.
+/// Before that, the bits that fall out of this addition are added to what fell out.
 #[inline(never)]
 pub fn product_with_holes(x: u128, h: u128) -> u128
     ensures { result ≡ product x h }
@@ -89,11 +89,11 @@ pub fn product_with_holes(x: u128, h: u128) -> u128
 
 /// The block H, which is multiplied by products of numbers with holes between their bits.
 #[derive(Drop)]
-pub struct WithHoles {
+pub struct FactorWithHoles {
     pub h: u128,
 }
 
-impl Factor for WithHoles {
+impl Factor for FactorWithHoles {
     type Value = u128;
 
     ghost number = { λ value. value };
@@ -101,7 +101,7 @@ impl Factor for WithHoles {
     ghost subkey = { λ factor. factor.h };
 
     #[inline(always)]
-    fn after(&self, value: u128, block: u8x16) -> u128 {
+    fn hash_block(&self, value: u128, block: u8x16) -> u128 {
         product_with_holes(value ^ number_of(block), self.h)
     }
 }

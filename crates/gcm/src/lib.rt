@@ -1,5 +1,5 @@
-//! GCM (SP 800-38D), encryption that shows whether a message was changed, over any block cipher
-//! that encrypts.
+//! GCM (SP 800-38D) over any block cipher that encrypts. It encrypts messages, and shows whether a
+//! message was changed.
 #![tactic(auto)]
 
 mod bitwise;
@@ -25,15 +25,15 @@ mod single_blocks;
 mod tags;
 mod words;
 
-pub use bitwise::{WithMasks, product_bitwise};
+pub use bitwise::{BitwiseFactor, product_bitwise};
 pub use byte_order::{ByteOrder, HighestFirst};
 pub use counter::Counter;
 pub use errors::{InvalidMessage, InvalidPiece, NotAccepted, OutOfTurn, Refused, TooLong};
 pub use field::next_v;
 pub use hash::{hash_string, hash_string_and_end};
 pub use hash_room::{BorrowedRoom, HashRoom, ProductRoom, SubkeyRoom, SubkeyWordsRoom};
-pub use holes::{WithHoles, product_with_holes};
-pub use laws::{decrypted_parts, kept_parts, text_twice, turns};
+pub use holes::{FactorWithHoles, product_with_holes};
+pub use laws::{decrypted_parts, kept_parts, text_may_follow, text_twice};
 pub use lengths::{LONGEST_HASHED, LONGEST_TEXT};
 pub use message_state::{Message, Phase};
 pub use mode::{BorrowedGcm, Gcm, prepare};

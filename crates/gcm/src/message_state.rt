@@ -1,4 +1,4 @@
-//! A message that comes in pieces: what is kept of it between two calls.
+//! A message that comes in pieces, as it is kept between two calls.
 
 ghost use Rattle.std.specs.Prelude.{◌≡◌};
 ghost use Rattle.gcm.specs.Pieces.{phase_of};
@@ -23,8 +23,8 @@ pub enum Phase {
     Decrypting,
 }
 
-/// A message in pieces under a nonce, as C keeps it: `struct fotsgure_gcm_message`.
-/// Its blocks are as secret as the key: keep it in a `Wiped`, whose `zeroed` has no message.
+/// A message in pieces under a nonce, as C keeps it: `struct fotsgure_gcm_message`. Its blocks are
+/// as secret as the key. Keep it in a `Wiped`, whose `zeroed` has no message.
 #[repr(C)]
 #[derive(Drop)]
 pub struct Message {
@@ -34,13 +34,13 @@ pub struct Message {
     pub text: u64,
     /// How many bytes of a text whose tag was right have come once more.
     pub decrypted: u64,
-    /// What may come next, by number; 0 if there is no message.
+    /// The number of what may come next, or 0 if there is no message.
     pub phase: u64,
     /// The first counter block, J_0 (7.1, step 2).
     pub first: Block,
     /// The value of GHASH after the whole blocks.
     pub value: Block,
-    /// First the bytes of a block that isn't whole yet.
+    /// The bytes of a block that isn't whole yet, at its beginning.
     pub rest: Block,
 }
 

@@ -1,4 +1,5 @@
-//! Rows of multiples for four powers of x more: the bits of the rows there are, moved by four.
+//! Makes the rows of a block's multiples for the next four powers of x. Multiplication by x^4 moves
+//! the bits of each row by four.
 
 ghost use Rattle.std.specs.Prelude.{◌≡◌, ℕ, ◌*◌, ◌/◌, ◌%◌, ◌<◌, get_or, length, bit_xor};
 ghost use Rattle.aes_permute.specs.Vectors.{half};
@@ -8,11 +9,11 @@ ghost use Rattle.gcm.specs.Multiples.{multiples_rows};
 use aes_cipher::cipher::Block;
 use aes_permute::halves::{joined, lower, upper};
 use aes_permute::lanes::Lanes;
-use aes_planes::laws::is_block;
+use aes_planes::laws::block_has_16_bytes;
 use std::simd::prelude::*;
 
-// What falls out of a number in a multiplication by x^4, by its last four bits: the first byte of
-// what that becomes, and the second one. The others are 0.
+// What falls out of a number in a multiplication by x^4 becomes two bytes, by the last four bits of
+// the number. These tables have the first of the two bytes, and the second. The other bytes are 0.
 const FALLEN_FIRST: [u8; 16] = [
     0x00, 0x1c, 0x38, 0x24, 0x70, 0x6c, 0x48, 0x54, 0xe1, 0xfd, 0xd9, 0xc5, 0x91, 0x8d, 0xa9, 0xb5,
 ];
@@ -21,8 +22,8 @@ const FALLEN_SECOND: [u8; 16] = [
     0x00, 0x20, 0x40, 0x60, 0x80, 0xa0, 0xc0, 0xe0, 0x00, 0x20, 0x40, 0x60, 0x80, 0xa0, 0xc0, 0xe0,
 ];
 
-// Two rows for four powers of x more, made of these rows and of those before them. What falls out
-// isn't added yet.
+// Two rows for the next four powers of x, made of these rows and of the rows before them. What
+// falls out isn't added yet.
 #[inline(always)]
 fn moved(rows: u8x32, before: u8x32) -> u8x32
     ensures { (i n : ℕ) → n < 16 → get_or (half result i) n 0
@@ -33,7 +34,7 @@ fn moved(rows: u8x32, before: u8x32) -> u8x32
     high ^ low
 }
 
-/// Writes the rows of v's multiples for four powers of x more.
+/// Writes the rows of v's multiples for the next four powers of x.
 #[inline(always)]
 pub(crate) fn put_moved_rows(moved_rows: &mut [Block], rows: &[Block], v: u128)
     requires sized { length moved_rows.old ≡ 16 }
@@ -42,13 +43,13 @@ pub(crate) fn put_moved_rows(moved_rows: &mut [Block], rows: &[Block], v: u128)
     ensures { moved_rows.new ≡ multiples_rows (v_at v 4) }
 {
     let end = rows[15];
-    is_block(end);
+    block_has_16_bytes(end);
     let last = u8x16::from_array(end).low_nibbles();
     let first = last.lookup(FALLEN_FIRST);
     let second = last.lookup(FALLEN_SECOND);
-    // Nothing is before the first row; the eighth, before the ninth, stands at place 14.
+    // No row is before the first one. The eighth row, which is before the ninth, is at place 14.
     let eighth = rows[14];
-    is_block(eighth);
+    block_has_16_bytes(eighth);
     let before = joined(u8x16::splat(0), u8x16::from_array(eighth));
     let pair = moved(u8x32::load(rows, 0), before);
     moved_rows[0] = (lower(pair) ^ first).to_array();

@@ -1,4 +1,4 @@
-//! Messages in pieces: however they are cut, the result is that of the whole.
+//! Messages in pieces. The result is that of the whole message, however the pieces are cut.
 
 ghost use Rattle.std.specs.Prelude.{◌≡◌, ◌≢◌, ◌↔◌, ◌⊎◌, ◌+◌, ◌-◌, ◌/◌, ◌%◌, ◌^◌, ◌<◌, ℕ, List, []};
 ghost use Rattle.std.specs.Prelude.{◌++◌, length, replicate, IsErr, IsErrOf, IsTrue, OnOk, OnErr};
@@ -26,15 +26,15 @@ use aes_cipher::zeroize::wipe_stack;
 
 // Returns whether text of a phase may come: the message is in that phase, or additional data may
 // still come.
-fn is_turn(message: &Message, phase: Phase) -> bool
+fn may_enter(message: &Message, phase: Phase) -> bool
     ensures { IsTrue result ↔ IsTurn phase message.now }
 {
     let now = phase_of(message.phase);
     now == Phase::Additional || now == phase
 }
 
-// How many bytes there are of a block that isn't whole yet: of additional data or of text.
-fn filled(message: &Message) -> usize
+// How many bytes there are of a block that isn't whole yet, of additional data or of text.
+fn rest_length(message: &Message) -> usize
     ensures inside { result < 16 }
     ensures additional { phase_of message.now.phase ≡ Phase.Additional
         → result ≡ message.now.additional % 16 }
@@ -50,15 +50,15 @@ fn filled(message: &Message) -> usize
 // Wipes the stack after J_0 was written. A nonce of another length than 12 bytes is hashed, and
 // then J_0 is secret.
 #[inline(always)]
-fn wipe_hash_of(nonce: &[u8]) {
+fn wipe_stack_after(nonce: &[u8]) {
     if nonce.len() != 12 {
         wipe_stack::<HASH_STACK>();
     }
 }
 
 impl<'a, C: BlockCipherEncrypt, R: HashRoom> BorrowedGcm<'a, C, R> {
-    /// Begins a message under a nonce that is never used twice under a key. A nonce has any length;
-    /// 12 bytes are advised. Nothing is left of a message that was there before.
+    /// Begins a message. Never use a nonce twice under a key. A nonce has any length; 12 bytes are
+    /// advised. Nothing is left of a message that was there before.
     ///
     /// # Errors
     ///
@@ -97,12 +97,12 @@ impl<'a, C: BlockCipherEncrypt, R: HashRoom> BorrowedGcm<'a, C, R> {
         message.additional = 0;
         message.text = 0;
         message.decrypted = 0;
-        wipe_hash_of(nonce);
+        wipe_stack_after(nonce);
     }
 
     /// Begins a message under the counter's next nonce, which it returns, and moves the counter on
-    /// by one (8.2.1). Ask first whether a nonce is left. Nothing is left of a message that was
-    /// there before.
+    /// by one (8.2.1). First ask `is_over` whether a nonce is left. Nothing is left of a message
+    /// that was there before.
     pub fn begin_next(&self, message: &mut Message, counter: &mut Counter) -> [u8; 12]
         requires { nonce_number counter.old.next ≢ 2 ^ 96 - 1 }
         ensures nonce { result ≡ counter.old.next }
@@ -115,7 +115,7 @@ impl<'a, C: BlockCipherEncrypt, R: HashRoom> BorrowedGcm<'a, C, R> {
         nonce
     }
 
-    /// Takes a piece of additional data, of any size. All of them come before the text.
+    /// Takes a piece of additional data, of any size. All additional data come before the text.
     ///
     /// # Errors
     ///
@@ -136,12 +136,12 @@ impl<'a, C: BlockCipherEncrypt, R: HashRoom> BorrowedGcm<'a, C, R> {
         if message.additional.saturating_add(bytes.len() as u64) > LONGEST_HASHED {
             return Err(InvalidPiece::TooLong);
         }
-        let filled = (message.additional % 16) as usize;
+        let rest_length = (message.additional % 16) as usize;
         hash_piece(
             &self.room,
             &mut message.value,
             &mut message.rest,
-            filled,
+            rest_length,
             bytes,
         );
         wipe_stack::<HASH_STACK>();
@@ -149,11 +149,16 @@ impl<'a, C: BlockCipherEncrypt, R: HashRoom> BorrowedGcm<'a, C, R> {
         Ok(())
     }
 
-    // Moves the message on to a phase, unless it is out of turn or `more` bytes are too many. A call
-    // of its own, so that GHASH's value after the additional data is nowhere but below the caller's
-    // frame, which is wiped.
+    // Moves the message on to a phase, unless it is out of turn or `more` bytes are too many. This
+    // is a call of its own: GHASH's value after the additional data is then only below the caller's
+    // frame, and is wiped there.
     #[inline(never)]
-    fn turn_to(&self, message: &mut Message, phase: Phase, more: usize) -> Result<(), InvalidPiece>
+    fn enter_phase(
+        &self,
+        message: &mut Message,
+        phase: Phase,
+        more: usize,
+    ) -> Result<(), InvalidPiece>
         requires { phase ≢ Phase.Additional }
         ensures out_of_turn { IsErrOf result InvalidPiece.OutOfTurn
             ↔ IsOutOfTurn phase message.old }
@@ -166,24 +171,24 @@ impl<'a, C: BlockCipherEncrypt, R: HashRoom> BorrowedGcm<'a, C, R> {
         ensures text { message.new.text ≡ message.old.text }
         ensures untouched { OnErr result (message.new ≡ message.old) }
     {
-        if !is_turn(message, phase) {
+        if !may_enter(message, phase) {
             return Err(InvalidPiece::OutOfTurn);
         }
         if message.text.saturating_add(more as u64) > LONGEST_TEXT {
             return Err(InvalidPiece::TooLong);
         }
         if phase_of(message.phase) == Phase::Additional {
-            let value = self.hash_what_came(message);
+            let value = self.hash_so_far(message);
             message.value = block_of_number(value);
             message.phase = number_of_phase(phase);
         }
         Ok(())
     }
 
-    // Returns the value of GHASH after what has come and zeros that fill its last block. A call of its
-    // own, since inlined it would leave H in a frame that no wipe reaches.
+    // Returns the value of GHASH after what has come and zeros that fill its last block. Never
+    // inlined, since H would then be left in a frame that no wipe reaches.
     #[inline(never)]
-    fn hash_what_came(&self, message: &Message) -> u128
+    fn hash_so_far(&self, message: &Message) -> u128
         ensures additional { (iv a : List ℕ) → IsBegun self.now iv a message.now
             → result ≡ hashed_padded (nist.hash_subkey self.now) a }
         ensures text { (phase : Phase) (iv a c : List ℕ) → phase ≢ Phase.Additional
@@ -192,9 +197,9 @@ impl<'a, C: BlockCipherEncrypt, R: HashRoom> BorrowedGcm<'a, C, R> {
             (hashed_padded (nist.hash_subkey self.now) a) (padded c)
             (length (padded c) / 16) }
     {
-        let filled = filled(message);
+        let rest_length = rest_length(message);
         let before = number_of_block(&message.value);
-        hash_on(&self.room, before, &message.rest[..filled])
+        hash_on(&self.room, before, &message.rest[..rest_length])
     }
 
     // Takes more of a cipher text into GHASH.
@@ -204,26 +209,26 @@ impl<'a, C: BlockCipherEncrypt, R: HashRoom> BorrowedGcm<'a, C, R> {
         ensures { (phase : Phase) (iv a c : List ℕ) → IsInText phase self.now iv a c message.old
             → IsInText phase self.now iv a (c ++ text.now) message.new }
     {
-        let filled = (message.text % 16) as usize;
+        let rest_length = (message.text % 16) as usize;
         hash_piece(
             &self.room,
             &mut message.value,
             &mut message.rest,
-            filled,
+            rest_length,
             text,
         );
         message.text += text.len() as u64;
     }
 
-    // Writes the tag of what has come so far (7.1, steps 4 to 6). In a call of its own, so that its
-    // stack can be wiped.
+    // Writes the tag of what has come so far (7.1, steps 4 to 6). This is a call of its own, so
+    // that its stack can be wiped.
     #[inline(never)]
     fn put_tag_so_far(&self, message: &Message, tag: &mut Block)
         ensures { (phase : Phase) (iv a c : List ℕ) → phase ≢ Phase.Additional
             → IsAt phase self.now iv a c message.now → tag.new ≡ nist.tag self.now iv a c }
     {
         put_mask(&self.cipher, &message.first, tag);
-        let value = self.hash_what_came(message);
+        let value = self.hash_so_far(message);
         let additional = message.additional.min(LONGEST_HASHED);
         let text = message.text.min(LONGEST_TEXT);
         let value = hash_lengths(&self.room, value, additional, text);

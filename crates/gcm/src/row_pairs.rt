@@ -1,5 +1,5 @@
-//! Two rows in one vector of 32 bytes, one in each half: the lower has the first sixteen. Where a
-//! processor has no such vectors, each half is a vector of its own.
+//! Two rows in one vector of 32 bytes, one in each half. The lower half has the first sixteen
+//! bytes. On a processor without such vectors, each half is a vector of its own.
 
 ghost use Rattle.std.specs.Prelude.{◌≡◌, ◌+◌, ◌*◌, ◌/◌, ◌%◌, ◌^◌, ◌∷◌, ◌++◌, ℕ, List, take, drop};
 ghost use Rattle.std.specs.Prelude.{map, length, slice_index};

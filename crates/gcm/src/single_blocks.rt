@@ -1,4 +1,4 @@
-//! GHASH block by block: each block is added to the value, and the sum is multiplied by H.
+//! GHASH block by block. Each block is added to the value, and the sum is multiplied by H.
 
 ghost use Rattle.std.specs.Prelude.{◌≡◌, ℕ, ◌/◌, length};
 ghost use Rattle.std.specs.Int.{w128, from_be_bytes};
@@ -25,7 +25,7 @@ pub trait Factor {
 
     /// Returns the product of H and the sum of a value and a block (6.4, step 3). No branch and no
     /// address depends on any of them.
-    fn after(&self, value: Self::Value, block: u8x16) -> Self::Value
+    fn hash_block(&self, value: Self::Value, block: u8x16) -> Self::Value
         ensures { number result
             ≡ product (bit_xor (number value) (from_be_bytes w128 block)) (subkey self.now) };
 }
@@ -43,13 +43,14 @@ pub(crate) fn hash_whole<F: Factor, O: ByteOrder>(
 {
     let mut hashed = value;
     for i in 0..bytes.len() / 16 {
-        hashed = factor.after(hashed, block_at::<O>(bytes, i));
+        hashed = factor.hash_block(hashed, block_at::<O>(bytes, i));
     }
     hashed
 }
 
-/// Returns the value after more bytes, with zeros behind them that fill the last block. For a few
-/// blocks it is quicker than `hash_string`, since the multiples of H's powers take time.
+/// Returns the value after more bytes, followed by zeros that fill the last block. For a few
+/// blocks this is quicker than `hash_string`, since it takes time to compute the multiples of H's
+/// powers.
 pub fn hash_singly<F: Factor, O: ByteOrder>(factor: &F, value: F::Value, bytes: &[u8]) -> F::Value
     ensures { F.number result ≡ hashed_as O.number (F.subkey factor.now) (F.number value)
         (padded bytes.now) (length (padded bytes.now) / 16) }
@@ -59,11 +60,10 @@ pub fn hash_singly<F: Factor, O: ByteOrder>(factor: &F, value: F::Value, bytes: 
     if over == 0 {
         return hashed;
     }
-    factor.after(hashed, last_block::<O>(&bytes[bytes.len() - over..]))
+    factor.hash_block(hashed, last_block::<O>(&bytes[bytes.len() - over..]))
 }
 
-/// Returns the value after more bytes in GCM's order, with zeros behind them that fill the last
-/// block.
+/// Returns the value after more bytes in GCM's order, followed by zeros that fill the last block.
 #[inline(always)]
 pub(crate) fn hash_on_singly<F: Factor>(factor: &F, value: F::Value, bytes: &[u8]) -> F::Value
     ensures { F.number result ≡ hashed (F.subkey factor.now) (F.number value) (padded bytes.now)
@@ -72,8 +72,8 @@ pub(crate) fn hash_on_singly<F: Factor>(factor: &F, value: F::Value, bytes: &[u8
     hash_singly::<F, HighestFirst>(factor, value, bytes)
 }
 
-/// Returns the value after more bytes in GCM's order, with zeros behind them that fill the last
-/// block, and one block more.
+/// Returns the value after more bytes in GCM's order, followed by zeros that fill the last block,
+/// and one block more.
 #[inline(always)]
 pub(crate) fn hash_to_end_singly<F: Factor>(
     factor: &F,
@@ -86,7 +86,7 @@ pub(crate) fn hash_to_end_singly<F: Factor>(
         F.number result ≡ product (bit_xor before (from_be_bytes w128 end.now))
         (F.subkey factor.now) }
 {
-    factor.after(
+    factor.hash_block(
         hash_on_singly::<F>(factor, value, bytes),
         u8x16::from_array(*end),
     )

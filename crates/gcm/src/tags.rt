@@ -49,8 +49,8 @@ pub(crate) fn hash<R: HashRoom>(room: &BorrowedRoom<R>, additional: &[u8], text:
     hash_to_end(room, value, text, &lengths)
 }
 
-// Writes the cipher of a counter block, which masks a tag. The tag's hash is made after it and
-// added at once: what is known during a call, a compiler may leave on the stack.
+// Writes the encryption of a counter block, which masks a tag. The hash for the tag is computed
+// after it and added at once: a compiler may leave on the stack what is known during a call.
 pub(crate) fn put_mask<C: BlockCipherEncrypt>(cipher: &C, first: &Block, mask: &mut Block)
     ensures { mask.new ≡ fips.cipher_with (C.round_keys cipher.now)
         (to_be_bytes w128 (from_be_bytes w128 first.now)) }
@@ -61,7 +61,7 @@ pub(crate) fn put_mask<C: BlockCipherEncrypt>(cipher: &C, first: &Block, mask: &
     cipher.encrypt_block(mask);
 }
 
-// Adds a block to the mask of a tag, which makes GCTR of the block (7.1, step 6).
+// Adds a block to the mask of a tag. The result is GCTR of the block (7.1, step 6).
 pub(crate) fn add_masked(block: u128, sum: &mut Block)
     ensures { (w : List (List ℕ)) (first : ℕ)
         → sum.old ≡ fips.cipher_with w (to_be_bytes w128 first)
@@ -70,8 +70,8 @@ pub(crate) fn add_masked(block: u128, sum: &mut Block)
     *sum = sum_of_blocks(&block_of_number(block), sum);
 }
 
-/// Whether a claimed tag is the expected one, without an early exit. Inlined, since all that it does
-/// is a call of its own: one more frame between would hold what the caller's registers had.
+/// Whether a claimed tag is the expected one, without an early exit. Inlined, since it only makes a
+/// call: one more frame between would hold what the caller's registers had.
 #[inline(always)]
 pub(crate) fn is_expected(claimed: &Block, expected: &Block) -> bool
     ensures { IsTrue result ↔ (claimed.now ≡ expected.now) }
@@ -79,7 +79,8 @@ pub(crate) fn is_expected(claimed: &Block, expected: &Block) -> bool
     blocks_equal(claimed, expected)
 }
 
-/// Returns whether a tag has this many bytes, and whether a tag may: 4, 8 or 12 to 15 (5.2.1.2).
+/// Returns whether a tag has a length that a short tag may have, which is 4, 8 or 12 to 15, and has
+/// this length (5.2.1.2).
 pub fn is_short_tag(fixed_length: usize, tag: &[u8]) -> bool
     ensures { IsTrue result ↔ HasFixedLength fixed_length tag.now }
 {

@@ -1,9 +1,10 @@
-//! A block as four words of 32 bits and back: so room keeps H where a processor multiplies words.
+//! A block as four words of 32 bits, and back. Room keeps H in this form if a processor multiplies
+//! words.
 
 ghost use Rattle.std.specs.Prelude.{◌≡◌};
 ghost use Rattle.gcm.specs.Multiples.{subkey_of_words};
 
-// What a word is below.
+// One more than the largest word.
 const WORD: u128 = 1 << 32;
 
 // Returns the four words of a number, the lowest first.

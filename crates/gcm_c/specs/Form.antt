@@ -1,6 +1,7 @@
--- What is said of a key that is kept in this build's form: what it is (key_in), that there is one (HoldsKey), that its struct
--- is in order (IsKept), that zeros stand behind its round keys (IsZeroAfter), and the struct that holds none (no_key); and what
--- a struct of the library of blocks keeps to encrypt (key_of).
+-- What is said of a key that is kept in this build's form: what it is (key_in), that there is one
+-- (HoldsKey), that its struct is in order (IsKept), that zeros follow its round keys
+-- (IsZeroAfter), and the struct that holds none (no_key); and what a struct of the library of
+-- blocks keeps to encrypt (key_of).
 use Rattle.std.specs.Prelude.{ℕ, List, replicate}
 use Rattle.gcm.specs.Multiples.{subkey_in, HasMultiples}
 use Rattle.aes_hybrid.specs.declared.kept_key.KeptBothWays.{KeptBothWays}

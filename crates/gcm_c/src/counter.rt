@@ -55,8 +55,8 @@ pub extern "C" fn fotsgure_gcm_seal_next(
 }
 
 /// Begins a message under the counter's next nonce, writes that nonce, and moves the counter on by
-/// one (SP 800-38D, 8.2.1). The struct of the message may be uninitialized: none of it is read, and
-/// nothing of what it held is left. Returns `NONCES_END` or `NO_KEY`, the first of them that
+/// one (SP 800-38D, 8.2.1). The struct of the message may be uninitialized: nothing of it is read,
+/// and nothing is left of what it held. Returns `NONCES_END` or `NO_KEY`, the first of them that
 /// applies, and else `DONE`.
 #[unsafe(no_mangle)]
 pub extern "C" fn fotsgure_gcm_begin_next(

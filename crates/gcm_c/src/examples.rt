@@ -1,6 +1,6 @@
-//! Statuses and the version by number, and lengths at their limits, as contracts, so that a slip in
-//! a constant or a definition is refused. The last call says what a text is encrypted to under the
-//! bytes of a key; the others have no effect.
+//! Statuses and the version by number, and lengths at their limits, as contracts. With them the
+//! prover refuses a mistake in a constant or a definition. The last two calls say what a text is
+//! encrypted to under the bytes of a key. The others have no effect.
 
 ghost use Rattle.std.specs.Prelude.{◌≡◌, ◌↔◌, ◌^◌, ◌≤◌, length};
 ghost use Rattle.aes_planes.specs.Fips197 as fips;
@@ -12,7 +12,7 @@ ghost use Rattle.gcm_c.specs.Kept.{IsNonceLength};
 ghost use Rattle.gcm_c.specs.Siv.{IsSivTooLong};
 
 use crate::VERSION;
-use crate::form::{KeptKey, TagRoom};
+use crate::form::{GhashRoom, KeptKey};
 use crate::kept::{Gcm, fotsgure_gcm_set_key};
 use crate::siv::fotsgure_gcm_siv_seal;
 use crate::siv_kept::{Siv, fotsgure_gcm_siv_set_key};
@@ -39,13 +39,13 @@ pub fn numbers_of_the_header()
 {}
 
 // How many bytes the structs have by the header, with nothing between their fields.
-const _: () = prove!(size_of::<Gcm>() == size_of::<KeptKey>() + size_of::<TagRoom>());
+const _: () = prove!(size_of::<Gcm>() == size_of::<KeptKey>() + size_of::<GhashRoom>());
 
 const _: () = prove!(size_of::<Counter>() == 12);
 
 const _: () = prove!(size_of::<Message>() == 80);
 
-/// The lengths of nonces, and those on either side of them.
+/// The lengths of nonces, and the lengths on either side of them.
 pub fn length_examples()
     ensures shortest_nonce { IsNonceLength 1 }
     ensures longest_nonce { IsNonceLength 2305843009213693951 }

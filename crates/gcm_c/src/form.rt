@@ -1,19 +1,21 @@
 //! The form in which this build keeps a key: stored round keys for vector permutations.
 //!
 //! No other module of this crate names a form. A build in another form has another version of this
-//! module and of `specs/Form.antt`, in `tools/dist_parts/narrow/gcm_c`, and of `width`. Each version
-//! has these names:
+//! module and of `specs/Form.antt`, in `tools/dist_parts/without_shuffle/gcm_c`, and of `width`.
+//! Each version has these names:
 //!
 //! - `KeptKey` is a key that is kept to encrypt. It is `repr(C)`, `Drop`, `NotClone` and `Zeroize`.
-//!   It has a field `length`, how many bytes the key has, and methods `holds_key`, `key_length` and
-//!   `set(key: &[u8])`. `set` takes a key of 16, 24 or 32 bytes, reads nothing of the struct and
-//!   leaves nothing of it.
-//! - `Aes` is the struct of the library of blocks. `holds_key_of(aes)` says whether it holds a key,
-//!   and `put_key_of(aes, kept)` writes that key, reading nothing of what was kept.
-//! - `cipher_of(kept)` lends the key of a struct that holds one as a cipher, which is a `BuildCipher`.
-//! - `TagRoom` is room for what the tags of GCM are made with, a `HashRoom`; `ShortRoom` and
-//!   `LongRoom` are that of a message of AES-GCM-SIV, each a `PolyvalRoom`, the first for short ones.
-//! - `specs/Form.antt` says in its head what its names stand for.
+//!   Its field `length` says how many bytes the key has. It has methods `holds_key`, `key_length`
+//!   and `set(key: &[u8])`. `set` accepts a key of 16, 24 or 32 bytes. It reads nothing of the
+//!   struct, and leaves nothing of what the struct held.
+//! - `Aes` is the struct of the library of blocks. `holds_key_of(aes)` says whether it holds a key.
+//!   `put_key_of(aes, kept)` writes that key to `kept`, and reads nothing of what was there.
+//! - `cipher_of(kept)` lends the key of a struct that holds one as a cipher, which is a
+//!   `BuildCipher`.
+//! - `GhashRoom` is room for what makes the tags of GCM. It is a `HashRoom`.
+//! - `ShortRoom` and `LongRoom` are room for what makes the tag of a message of AES-GCM-SIV, of a
+//!   short one and of a longer one. Each is a `PolyvalRoom`.
+//! - The head of `specs/Form.antt` says what the names of that file stand for.
 
 ghost use Rattle.std.specs.Prelude.{◌≡◌, ◌↔◌, length, IsTrue};
 ghost use Rattle.gcm_c.specs.Form.{key_in, key_of, HoldsKey, IsKept};
@@ -24,13 +26,13 @@ use aes_hybrid::borrowed_cipher::BorrowedCipher;
 use aes_hybrid::kept_key::KeptBothWays;
 pub(crate) use aes_hybrid::kept_key::KeptKey;
 
-/// Room for what tags are made with: the multiples of H.
-pub type TagRoom = gcm::MultiplesRoom;
+/// Room for what makes tags: the multiples of H.
+pub type GhashRoom = gcm::MultiplesRoom;
 
-/// Room for what tags of a message of AES-GCM-SIV are made with, if it is short.
+/// Room for what makes the tag of a short message of AES-GCM-SIV.
 pub(crate) type ShortRoom = gcm::TableRoom;
 
-/// Room for what tags of a longer message of AES-GCM-SIV are made with.
+/// Room for what makes the tag of a longer message of AES-GCM-SIV.
 pub(crate) type LongRoom = gcm::MultiplesRoom;
 
 /// A key schedule of the other library, for both directions: `struct fotsgure_aes`.
@@ -42,7 +44,7 @@ pub(crate) type BuildCipher<'a> = BorrowedCipher<'a, Encrypt, BuildWidth>;
 // How many bytes a key and the multiples take by the header, with nothing between fields.
 const _: () = prove!(size_of::<KeptKey>() == 244);
 
-const _: () = prove!(size_of::<TagRoom>() == 1536);
+const _: () = prove!(size_of::<GhashRoom>() == 1536);
 
 const _: () = prove!(size_of::<Aes>() == 484);
 

@@ -5,7 +5,7 @@ ghost use Rattle.aes_cipher.specs.KeySizes.{IsKeySize};
 ghost use Rattle.gcm_c.specs.Form.{key_in, key_of, HoldsKey, IsKept, IsZeroAfter};
 ghost use Rattle.gcm_c.specs.Kept.{no_gcm, round_keys_in, IsMade};
 
-use crate::form::{Aes, BuildCipher, KeptKey, TagRoom, cipher_of, holds_key_of, put_key_of};
+use crate::form::{Aes, BuildCipher, GhashRoom, KeptKey, cipher_of, holds_key_of, put_key_of};
 use crate::status::{DONE, KEY_LENGTH, NO_KEY};
 use aes_cipher::aes::is_key_size;
 use aes_cipher::not_clone::NotClone;
@@ -19,7 +19,7 @@ pub struct Gcm {
     /// The key as its stored round keys.
     pub key: KeptKey,
     /// The multiples of H.
-    pub multiples: TagRoom,
+    pub multiples: GhashRoom,
 }
 
 impl NotClone for Gcm {}
@@ -31,7 +31,7 @@ impl Zeroize for Gcm {
     fn zero() -> Gcm {
         Gcm {
             key: KeptKey::zero(),
-            multiples: TagRoom::zero(),
+            multiples: GhashRoom::zero(),
         }
     }
 
@@ -50,7 +50,7 @@ pub(crate) fn holds_key(gcm: &Gcm) -> bool
 }
 
 /// Lends the key of a struct and its multiples as GCM.
-pub(crate) fn mode_of(gcm: &Gcm) -> BorrowedGcm<'_, BuildCipher<'_>, TagRoom>
+pub(crate) fn mode_of(gcm: &Gcm) -> BorrowedGcm<'_, BuildCipher<'_>, GhashRoom>
     requires made { IsMade gcm.now }
     requires key { HoldsKey gcm.now.key }
     ensures { result ≡ round_keys_in gcm.now }
@@ -69,9 +69,9 @@ fn prepare_multiples(gcm: &mut Gcm)
 }
 
 /// Expands a key into the struct (KeyExpansion, FIPS 197, 5.2) and prepares the multiples of its H
-/// (SP 800-38D, 7.1, step 1). Returns `DONE` exactly if the key has 16, 24 or 32 bytes, else
-/// `KEY_LENGTH`; the struct then holds no key. Nothing of what it held before is left in either
-/// case.
+/// (SP 800-38D, 7.1, step 1). Returns `DONE` exactly if the key has 16, 24 or 32 bytes. Otherwise
+/// it returns `KEY_LENGTH`, and the struct then holds no key. In both cases nothing is left of what
+/// the struct held before.
 #[unsafe(no_mangle)]
 pub extern "C" fn fotsgure_gcm_set_key(gcm: &mut Gcm, key: &[u8]) -> u32
     ensures done { result ≡ DONE ↔ IsKeySize (length key.now) }
@@ -82,8 +82,8 @@ pub extern "C" fn fotsgure_gcm_set_key(gcm: &mut Gcm, key: &[u8]) -> u32
     ensures after { result ≡ DONE → IsZeroAfter gcm.new.key }
     ensures none { result ≢ DONE → gcm.new ≡ no_gcm }
 {
-    // Nothing is read of a struct that may be uninitialized. No compiler removes zeros here: the
-    // caller owns the struct, and can read what the call leaves in it.
+    // Nothing of the struct is read, since it may be uninitialized. No compiler can remove the
+    // zeros here: the caller owns the struct, and can read what the call leaves in it.
     if !is_key_size(key.len()) {
         *gcm = Gcm::zero();
         return KEY_LENGTH;
@@ -93,9 +93,10 @@ pub extern "C" fn fotsgure_gcm_set_key(gcm: &mut Gcm, key: &[u8]) -> u32
     DONE
 }
 
-/// Copies the key of a struct of the library of blocks into the struct, and prepares the multiples of
-/// its H (SP 800-38D, 7.1, step 1). Returns `DONE` exactly if that struct holds a key, else `NO_KEY`;
-/// this one then holds no key. Nothing of what it held before is left in either case.
+/// Copies the key of a struct of the library of blocks into the struct, and prepares the multiples
+/// of its H (SP 800-38D, 7.1, step 1). Returns `DONE` exactly if the other struct holds a key.
+/// Otherwise it returns `NO_KEY`, and this struct then holds no key. In both cases nothing is left
+/// of what this struct held before.
 #[unsafe(no_mangle)]
 pub extern "C" fn fotsgure_gcm_set_key_of(gcm: &mut Gcm, aes: &Aes) -> u32
     requires made { IsKept (key_of aes.now) }
@@ -123,14 +124,14 @@ pub extern "C" fn fotsgure_gcm_key_length(gcm: &Gcm) -> usize
     gcm.key.key_length()
 }
 
-/// Overwrites the struct with zeros: it then holds no key.
+/// Overwrites the struct with zeros. It then holds no key.
 #[unsafe(no_mangle)]
 pub extern "C" fn fotsgure_gcm_wipe(gcm: &mut Gcm)
     ensures made { IsMade gcm.new }
     ensures none { gcm.new ≡ no_gcm }
 {
-    // A wipe looks at what it overwrites, and the struct may be uninitialized: so zeros are written
-    // first.
+    // A wipe reads what it overwrites, and the struct may be uninitialized. Therefore zeros are
+    // written first.
     *gcm = Zeroize::zero();
     gcm.zeroize();
 }

@@ -1,8 +1,8 @@
 //! GCM and AES-GCM-SIV for C, and for languages that call C: `dist/include/fotsgure_gcm.h` declares
 //! these calls.
 //!
-//! The header states what a `requires` asks of callers; nothing checks a call from C. Keys of 16,
-//! 24 and 32 bytes go through the same exports, since the struct knows how long its key is.
+//! The header states what a `requires` asks of callers; nothing checks a call from C. The same
+//! exports serve keys of 16, 24 and 32 bytes, since the struct knows how long its key is.
 #![tactic(auto)]
 
 ghost use Rattle.std.specs.Prelude.{◌≡◌};
@@ -48,7 +48,7 @@ pub use width::BuildWidth;
 /// third.
 pub const VERSION: u32 = 400;
 
-/// Returns the version of the library; programs compare it with that of their header.
+/// Returns the version of the library. Programs compare it with the version in their header.
 #[unsafe(no_mangle)]
 pub extern "C" fn fotsgure_gcm_version() -> u32
     ensures { result ≡ VERSION }

@@ -34,9 +34,9 @@ pub(crate) fn status_of(error: InvalidPiece) -> u32
     }
 }
 
-/// Begins a message under a nonce. The struct may be uninitialized: none of it is read, and nothing
-/// of what it held is left. Returns `NONCE_LENGTH` or `NO_KEY`, the first of them that applies, and
-/// else `DONE`.
+/// Begins a message under a nonce. The struct may be uninitialized: nothing of it is read, and
+/// nothing is left of what it held. Returns `NONCE_LENGTH` or `NO_KEY`, the first of them that
+/// applies, and else `DONE`.
 #[unsafe(no_mangle)]
 pub extern "C" fn fotsgure_gcm_begin(gcm: &Gcm, message: &mut Message, nonce: &[u8]) -> u32
     requires made { IsMade gcm.now }
@@ -90,13 +90,13 @@ pub extern "C" fn fotsgure_gcm_additional(
     }
 }
 
-/// Overwrites the struct with zeros: it then has no message.
+/// Overwrites the struct with zeros. It then has no message.
 #[unsafe(no_mangle)]
 pub extern "C" fn fotsgure_gcm_wipe_message(message: &mut Message)
     ensures { message.new ≡ no_message }
 {
-    // A wipe looks at what it overwrites, and the struct may be uninitialized: so zeros are written
-    // first.
+    // A wipe reads what it overwrites, and the struct may be uninitialized. Therefore zeros are
+    // written first.
     *message = Zeroize::zero();
     message.zeroize();
 }

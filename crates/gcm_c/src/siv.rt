@@ -11,13 +11,15 @@ ghost use Rattle.gcm_c.specs.Form.{key_in, IsKept};
 ghost use Rattle.gcm_c.specs.Siv.{HoldsSivKey, IsSivMade, IsSivTooLong};
 
 use crate::form::{KeptKey, LongRoom, ShortRoom, cipher_of};
-use crate::siv_kept::{Siv, is_siv_key};
+use crate::siv_kept::{Siv, is_siv_key_size};
 use crate::status::{DONE, NO_KEY, REFUSED, TOO_LONG};
 use aes_cipher::cipher::Block;
 use aes_cipher::zeroize::{MustWipe, wipe_stack};
-use gcm_siv::{KeyRoom, LONGEST, PolyvalRoom, are_few, derive, open, put_authentication, seal};
+use gcm_siv::{
+    DerivedKeysRoom, LONGEST, PolyvalRoom, derive, is_short, open, put_authentication, seal,
+};
 
-// The most bytes of stack below the room for a message's keys: derived keys, values of POLYVAL, the
+// The most bytes of stack below the room for a message's keys. Derived keys, values of POLYVAL, the
 // right tag of a refused message and blocks of the keystream may be there.
 const MESSAGE_STACK: usize = 2816;
 
@@ -31,14 +33,14 @@ pub(crate) fn siv_refusal(siv: &Siv, additional: usize, text: usize) -> u32
     if additional as u64 > LONGEST || text as u64 > LONGEST {
         return TOO_LONG;
     }
-    if !is_siv_key(siv.length as usize) {
+    if !is_siv_key_size(siv.length as usize) {
         return NO_KEY;
     }
     DONE
 }
 
-// Expands the encryption key: the block after the first, or the two.
-fn set_derived(keys: &KeyRoom, size: usize, kept: &mut KeptKey)
+// Expands the encryption key: the block after the first one, or the two blocks after it.
+fn set_encryption_key(keys: &DerivedKeysRoom, size: usize, kept: &mut KeptKey)
     requires { IsSivKeySize size }
     ensures kept { IsKept kept.new }
     ensures size { kept.new.length ≡ size }
@@ -53,8 +55,8 @@ fn set_derived(keys: &KeyRoom, size: usize, kept: &mut KeptKey)
     }
 }
 
-// Writes the round keys of a message, and the multiples of its authentication key times x^-1. In a
-// call of its own, so that its stack can be wiped.
+// Writes the round keys of a message, and the multiples of its authentication key times x^-1. This
+// is a call of its own, so that its stack can be wiped.
 #[inline(never)]
 fn prepare<R: PolyvalRoom>(siv: &Siv, nonce: &[u8; 12], kept: &mut KeptKey, room: &mut R)
     requires made { IsSivMade siv.now }
@@ -69,16 +71,17 @@ fn prepare<R: PolyvalRoom>(siv: &Siv, nonce: &[u8; 12], kept: &mut KeptKey, room
     ensures encryption { key_in kept.new ≡ encryption_key (key_in siv.now) nonce.now }
 {
     let size = siv.length as usize;
-    let mut keys = MustWipe::<KeyRoom>::zeroed();
+    let mut keys = MustWipe::<DerivedKeysRoom>::zeroed();
     derive(&cipher_of(siv), size, nonce, keys.value_mut());
     put_authentication(&keys.value()[0], room);
-    set_derived(keys.value(), size, kept);
+    set_encryption_key(keys.value(), size, kept);
     keys.wipe();
 }
 
 // Encrypts a text in place and returns the tag, with room for POLYVAL of this type. Never inlined,
-// so that a short message has a small stack frame. Room is wiped in place, and so is what calls left
-// below it: above it, how deep that is would depend on the room that a build has.
+// so that a short message has a small stack frame. This function wipes its room, and the stack that
+// calls left below it. If a caller wiped that stack, its depth would depend on the room that a
+// build has.
 #[inline(never)]
 fn seal_in<R: PolyvalRoom>(siv: &Siv, nonce: &[u8; 12], additional: &[u8], text: &mut [u8]) -> Block
     requires made { IsSivMade siv.now }
@@ -113,7 +116,7 @@ fn seal_message(siv: &Siv, nonce: &[u8; 12], additional: &[u8], text: &mut [u8])
     ensures tag { result ≡ rfc.tag (key_in siv.now) nonce.now additional.now text.old }
     ensures encrypted { text.new ≡ rfc.text (key_in siv.now) nonce.now result text.old }
 {
-    if are_few(additional.len(), text.len()) {
+    if is_short(additional.len(), text.len()) {
         seal_in::<ShortRoom>(siv, nonce, additional, text)
     } else {
         seal_in::<LongRoom>(siv, nonce, additional, text)
@@ -175,7 +178,7 @@ fn open_message(
         ≡ rfc.text (key_in siv.now) nonce.now tag.now text.old }
     ensures untouched { result ≡ false → text.new ≡ text.old }
 {
-    if are_few(additional.len(), text.len()) {
+    if is_short(additional.len(), text.len()) {
         open_in::<ShortRoom>(siv, nonce, additional, text, tag)
     } else {
         open_in::<LongRoom>(siv, nonce, additional, text, tag)
@@ -212,7 +215,7 @@ pub extern "C" fn fotsgure_gcm_siv_seal(
     DONE
 }
 
-/// Decrypts a text in place if the tag is right (RFC 8452, 5); a text that is refused is encrypted
+/// Decrypts a text in place if the tag is right (RFC 8452, 5). A text that is refused is encrypted
 /// again. Returns `TOO_LONG`, `NO_KEY` or `REFUSED`, the first of them that applies, and else
 /// `DONE`.
 #[unsafe(no_mangle)]

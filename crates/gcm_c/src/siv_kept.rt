@@ -14,15 +14,15 @@ use aes_cipher::zeroize::Zeroize;
 pub type Siv = KeptKey;
 
 /// Returns whether a key of AES-GCM-SIV has this many bytes: 16 or 32.
-pub(crate) fn is_siv_key(bytes: usize) -> bool
+pub(crate) fn is_siv_key_size(bytes: usize) -> bool
     ensures { result ≡ true ↔ IsSivKeySize bytes }
 {
     bytes == 16 || bytes == 32
 }
 
 /// Expands a key of AES-GCM-SIV into the struct (KeyExpansion, FIPS 197, 5.2). Returns `DONE`
-/// exactly if the key has 16 or 32 bytes, else `KEY_LENGTH`; the struct then holds no key. Nothing
-/// of what it held before is left in either case.
+/// exactly if the key has 16 or 32 bytes. Otherwise it returns `KEY_LENGTH`, and the struct then
+/// holds no key. In both cases nothing is left of what the struct held before.
 #[unsafe(no_mangle)]
 pub extern "C" fn fotsgure_gcm_siv_set_key(siv: &mut Siv, key: &[u8]) -> u32
     ensures done { result ≡ DONE ↔ IsSivKeySize (length key.now) }
@@ -33,9 +33,9 @@ pub extern "C" fn fotsgure_gcm_siv_set_key(siv: &mut Siv, key: &[u8]) -> u32
     ensures after { result ≡ DONE → IsZeroAfter siv.new }
     ensures none { result ≢ DONE → siv.new ≡ no_key }
 {
-    // Nothing is read of a struct that may be uninitialized. No compiler removes zeros here: the
-    // caller owns the struct, and can read what the call leaves in it.
-    if !is_siv_key(key.len()) {
+    // Nothing of the struct is read, since it may be uninitialized. No compiler can remove the
+    // zeros here: the caller owns the struct, and can read what the call leaves in it.
+    if !is_siv_key_size(key.len()) {
         *siv = Siv::zero();
         return KEY_LENGTH;
     }
@@ -43,14 +43,14 @@ pub extern "C" fn fotsgure_gcm_siv_set_key(siv: &mut Siv, key: &[u8]) -> u32
     DONE
 }
 
-/// Overwrites the struct with zeros: it then holds no key.
+/// Overwrites the struct with zeros. It then holds no key.
 #[unsafe(no_mangle)]
 pub extern "C" fn fotsgure_gcm_siv_wipe(siv: &mut Siv)
     ensures made { IsSivMade siv.new }
     ensures none { siv.new ≡ no_key }
 {
-    // A wipe looks at what it overwrites, and the struct may be uninitialized: so zeros are written
-    // first.
+    // A wipe reads what it overwrites, and the struct may be uninitialized. Therefore zeros are
+    // written first.
     *siv = Zeroize::zero();
     siv.zeroize();
 }

@@ -11,7 +11,7 @@ use crate::siv_kept::Siv;
 use crate::status::{DONE, NO_KEY, REFUSED, TOO_LONG, UNEQUAL_LENGTHS};
 
 /// Encrypts from one buffer to another as `fotsgure_gcm_siv_seal` does in place (RFC 8452, 4).
-/// Returns `UNEQUAL_LENGTHS` exactly if they differ in length, and else what
+/// Returns `UNEQUAL_LENGTHS` exactly if the buffers differ in length, and else what
 /// `fotsgure_gcm_siv_seal` returns.
 #[unsafe(no_mangle)]
 pub extern "C" fn fotsgure_gcm_siv_seal_to(

@@ -3,7 +3,7 @@
 /// The work is done.
 pub const DONE: u32 = 0;
 
-/// The key doesn't have 16, 24 or 32 bytes; of AES-GCM-SIV: 16 or 32.
+/// The key doesn't have 16, 24 or 32 bytes. A key of AES-GCM-SIV has 16 or 32.
 pub const KEY_LENGTH: u32 = 1;
 
 /// The struct holds no key.

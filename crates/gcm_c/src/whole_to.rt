@@ -10,8 +10,8 @@ use crate::kept::{Gcm, mode_of};
 use crate::status::{DONE, NO_KEY, NONCE_LENGTH, REFUSED, TAG_LENGTH, TOO_LONG, UNEQUAL_LENGTHS};
 use crate::whole::{fotsgure_gcm_seal, refusal};
 
-// Copies a text that will be encrypted. In a call of its own, whose registers nobody saves: the
-// caller's, with a byte of the text, would be saved above the stack that is wiped.
+// Copies a text that will be encrypted. This is a call of its own, and its registers aren't saved.
+// Registers of the caller, with a byte of the text, could be saved above the stack that is wiped.
 #[inline(never)]
 fn copy(input: &[u8], output: &mut [u8])
     requires { length input.now ≡ length output.old }
@@ -21,8 +21,8 @@ fn copy(input: &[u8], output: &mut [u8])
 }
 
 /// Encrypts from one buffer to another as `fotsgure_gcm_seal` does in place (SP 800-38D, 7.1).
-/// Returns `UNEQUAL_LENGTHS` exactly if they differ in length, and else what `fotsgure_gcm_seal`
-/// returns.
+/// Returns `UNEQUAL_LENGTHS` exactly if the buffers differ in length, and else what
+/// `fotsgure_gcm_seal` returns.
 #[unsafe(no_mangle)]
 pub extern "C" fn fotsgure_gcm_seal_to(
     gcm: &Gcm,

@@ -1,4 +1,4 @@
-//! The width of the words on which the exports process many blocks: the build for vectors of 256
-//! bits has `Wide` here.
+//! The width of the words on which the exports process many blocks, for every processor of a
+//! target. The build for vectors of 256 bits is proved with `Width256` here.
 
-pub type BuildWidth = aes_hybrid::widths::Narrow;
+pub type BuildWidth = aes_hybrid::widths::Width128;

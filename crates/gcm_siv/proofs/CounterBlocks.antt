@@ -29,18 +29,19 @@ counter_next start j i n is =
     on m j i = omega arith
 
 -- after one more counter block is written, each one up to it is a counter block
-pub counted_one : (start : List ℕ) (blocks : List (List ℕ)) (j i k n : ℕ) (block : List ℕ)
+pub siv_counter_block_written : (start : List ℕ) (blocks : List (List ℕ)) (j i k n : ℕ)
+    (block : List ℕ)
     → n ≡ counter start (j + i)
     → block ≡ to_le_bytes w32 n ++ drop 4 start → i < length blocks
     → ((m : ℕ) → m < i → get_or blocks m [] ≡ counter_block start (j + m)) → k < i + 1
     → get_or (set blocks i block) k [] ≡ counter_block start (j + k)
 unfolding counter_block
-counted_one start blocks j i k n block is made fits before below =
+siv_counter_block_written start blocks j i k n block is made fits before below =
     rw (made ∙ ap (λ m. to_le_bytes w32 m ++ drop 4 start) is)
     (fill_by_more (λ m. counter_block start (j + m)) blocks i [] fits before k below)
 
 -- what a loop over counter blocks uses: its first counter, the next one, and one more block written
-pub ruleset counted = (counter_first, counter_next, counted_one)
+pub ruleset counted = (counter_first, counter_next, siv_counter_block_written)
 
 -- a counter block is the one before it, counted on by one
 pub block_on : (block : List ℕ) (j : ℕ)

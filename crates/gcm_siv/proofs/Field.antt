@@ -166,11 +166,11 @@ dot_is a b small =
     ∙ ap (product a) (back_one b small)
 
 -- POLYVAL's value after j blocks, by GCM's products
-pub summed_is : (h s : ℕ) (x : List ℕ) (j : ℕ) → h < 2 ^ 128
+pub polyval_summed : (h s : ℕ) (x : List ℕ) (j : ℕ) → h < 2 ^ 128
     → hashed_as (from_le_bytes w128) (next_v h) s x j ≡ summed h s x j
 unfolding hashed_as summed number_at block_at
-summed_is h s x zero small = refl
-summed_is h s x (suc j) small =
+polyval_summed h s x zero small = refl
+polyval_summed h s x (suc j) small =
     let block : ℕ = from_le_bytes w128 (slice_range x (16 * j) (16 * j + 16)) in
-    ap (λ y. product (bit_xor y block) (next_v h)) (summed_is h s x j small)
+    ap (λ y. product (bit_xor y block) (next_v h)) (polyval_summed h s x j small)
     ∙ sym (dot_is (bit_xor (summed h s x j) block) h small)

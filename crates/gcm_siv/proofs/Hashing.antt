@@ -8,7 +8,7 @@ use Rattle.gcm.specs.Hashed.{hashed_as}
 use Rattle.aes_cipher.proofs.Strings.{length-padded}
 use Rattle.gcm.proofs.Messages.Hashing.{hashed_as_pieces}
 use Rattle.gcm_siv.specs.GcmSiv.{hash, length_block, polyval}
-use Rattle.gcm_siv.proofs.Field.{summed_is}
+use Rattle.gcm_siv.proofs.Field.{polyval_summed}
 
 -- S_s of additional data and a text, by GCM's products
 pub hash_is : (h g : ℕ) (a p : List ℕ) → g ≡ next_v h → h < 2 ^ 128
@@ -22,4 +22,4 @@ hash_is h g a p is small =
     ((length a + 15) / 16)
     ((length p + 15) / 16) (length-padded a) (length-padded p) refl)
     ∙ ap (λ v. hashed_as (from_le_bytes w128) v 0 x (length x / 16)) is
-    ∙ summed_is h 0 x (length x / 16) small
+    ∙ polyval_summed h 0 x (length x / 16) small

@@ -49,7 +49,7 @@ dot a b = times (times a b) inverse_power
 
 -- ---- POLYVAL (3)
 
--- X_j, here counted from 0: sixteen bytes, the first of which has the coefficients of x^0 to x^7
+-- X_j, here counted from 0: sixteen bytes; the first one has the coefficients of x^0 to x^7
 unfoldable pub block_at : List ℕ → ℕ → ℕ
 block_at x j = from_le_bytes w128 (slice_range x (16 * j) (16 * j + 16))
 
@@ -109,13 +109,15 @@ unfoldable pub counter_mode : List (List ℕ) → List ℕ → List ℕ → List
 unfolding keystream_byte
 counter_mode w block x = plus_stream (keystream_byte w block) 0 x
 
--- ---- a message under its keys (4): round keys w of the encryption key, and the element h that the authentication key writes
+-- ---- a message under its keys (4)
+-- (w are the round keys of the encryption key, and h is the element that the authentication key
+-- writes)
 
 -- the lengths of additional data and a text in bits, as 64 of them each
 unfoldable pub length_block : List ℕ → List ℕ → List ℕ
 length_block a p = to_le_bytes w64 (8 * length a) ++ to_le_bytes w64 (8 * length p)
 
--- S_s, of additional data and a plain text, each padded as in GCM: with zeros behind it, as few as
+-- S_s, of additional data and a plain text, each padded as in GCM: followed by as few zeros as
 -- fill its last block
 unfoldable pub hash : ℕ → List ℕ → List ℕ → ℕ
 unfolding polyval padded length_block

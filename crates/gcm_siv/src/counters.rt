@@ -27,7 +27,7 @@ fn counter_of(block: &Block) -> u32
     u32::from_le_bytes(bytes)
 }
 
-// An initial counter block, the first 32 bits of which count, modulo 2^32, their lowest byte first.
+// An initial counter block, whose first 32 bits count, modulo 2^32, their lowest byte first.
 #[derive(Drop)]
 struct FirstBits {
     start: Block,

@@ -1,6 +1,7 @@
-//! AES-GCM-SIV at values from outside, as contracts, so that a slip in a definition is refused: RFC
-//! 8452, section 7, appendix A, of appendix C.1 the message of eight bytes, and of C.2 one of
-//! twenty with additional data. The last one shows that a text comes back, as callers can prove it.
+//! AES-GCM-SIV at values from outside, as contracts. With them the prover refuses a mistake in a
+//! definition. The values are from RFC 8452: section 7, appendix A, the message of eight bytes in
+//! appendix C.1, and one of twenty with additional data in C.2. The last call shows that a text
+//! comes back, as callers can prove it.
 //!
 //! `bytes n 0x..` is the n bytes that these digits write.
 
@@ -25,12 +26,12 @@ use crate::lengths::LONGEST;
 use crate::mode::GcmSiv;
 use aes_cipher::cipher::{Block, BlockCipherEncrypt, KeyInit};
 
-/// How many bytes a text may have, and additional data.
+/// The most bytes that a text may have, and the most of additional data.
 pub fn limit_examples()
     ensures { LONGEST ≡ 2 ^ 36 }
 {}
 
-/// A product, a dot product, and x^-128 (section 7), which x^128 takes to 1.
+/// A product, a dot product, and x^-128, whose product with x^128 is 1 (section 7).
 #[tactic(auto, unfolding(crate::proofs::OnLiterals::siv_on_literals))]
 pub fn field_examples()
     ensures times { times (from_le_bytes w128 (bytes 16 0x66e94bd4ef8a2c3b884cfa59ca342b2e))
@@ -52,8 +53,8 @@ pub fn polyval_examples()
         ≡ from_le_bytes w128 (bytes 16 0xf7a3b47b846119fae5b7866cf5e5b77e) }
 {}
 
-/// POLYVAL of no blocks is 0, and each further block is summed and multiplied in the same way,
-/// however many came before (3).
+/// POLYVAL of no blocks is 0. Each further block is summed and multiplied in the same way, at any
+/// place (3).
 #[tactic(auto, unfolding(crate::proofs::OnLiterals::polyval_steps))]
 pub fn polyval_rules()
     ensures none { (h : ℕ) → polyval h [] ≡ 0 }
@@ -78,8 +79,9 @@ pub fn message_rules()
         (counter_block (first_counter t) (i / 16))) (i % 16)) 0 x }
 {}
 
-/// A counter counts the first 32 bits of a block on, modulo 2^32, the lowest byte first, however far
-/// it has come. A tag's highest bit is set for the first one, also where it is set already.
+/// A counter counts on the first 32 bits of a block, modulo 2^32, the lowest byte first, however
+/// far it has come. The first counter block is the tag with its highest bit set, also if it is set
+/// already.
 #[tactic(auto, using(crate::proofs::CounterBlocks::block_on), unfolding(crate::proofs::OnLiterals::siv_on_literals))]
 pub fn counter_examples()
     ensures next { counter_block (bytes 16 0xff0000000102030405060708090a0b8c) 1
@@ -109,7 +111,7 @@ pub fn size_examples()
     ensures others { (n : ℕ) → IsSivKeySize n → (n ≡ 16) ⊎ (n ≡ 32) }
 {}
 
-/// The lengths in bits of the longest strings: every byte of them counts.
+/// The lengths in bits of the longest strings. Every byte of the strings counts.
 pub fn length_examples()
     ensures { (a p : List ℕ) → length a ≡ 2 ^ 36 → length p ≡ 2 ^ 36 - 1
         → length_block a p ≡ bytes 16 0x0000000080000000f8ffffff7f000000 }
@@ -226,7 +228,7 @@ fn encrypted_under_256()
 {}
 
 /// Twenty bytes, and eighteen of additional data, under this key (appendix C.2). The last byte of
-/// S_s has its highest bit set, and that of the tag has not.
+/// S_s has its highest bit set. That of the tag doesn't.
 pub fn gcm_siv_256_example()
     ensures tag { tag (bytes 32 0x0100000000000000000000000000000000000000000000000000000000000000)
         (bytes 12 0x030000000000000000000000)

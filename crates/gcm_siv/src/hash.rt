@@ -8,8 +8,8 @@ ghost use Rattle.gcm_siv.specs.GcmSiv.{hash, length_block};
 use aes_cipher::blocks::{block_of_halves, number_of_block};
 use aes_cipher::cipher::Block;
 use gcm::{
-    ByteOrder, Factor, Multiples, MultiplesRoom, ProductRoom, SubkeyRoom, SubkeyWordsRoom, Table,
-    TableRoom, WithHoles, WithMasks, hash_singly, hash_string, hash_string_and_end,
+    BitwiseFactor, ByteOrder, Factor, FactorWithHoles, Multiples, MultiplesRoom, ProductRoom,
+    SubkeyRoom, SubkeyWordsRoom, Table, TableRoom, hash_singly, hash_string, hash_string_and_end,
     number_of_words,
 };
 use std::simd::prelude::*;
@@ -47,7 +47,7 @@ fn last_block(additional: &[u8], text: &[u8]) -> u8x16
     LowestFirst::highest_first(u8x16::from_array(lengths))
 }
 
-// The block that a number of GCM's field stands for, its bytes in the other order.
+// The block that a number of GCM's field stands for. Its bytes are in the reverse order.
 fn bytes_of(value: u8x16) -> Block
     ensures { result ≡ to_le_bytes w128 (from_be_bytes w128 value) }
 {
@@ -75,22 +75,22 @@ fn hash_by<F: Factor>(factor: &F, zero: F::Value, additional: &[u8], text: &[u8]
 {
     let first = hash_singly::<F, LowestFirst>(factor, zero, additional);
     let second = hash_singly::<F, LowestFirst>(factor, first, text);
-    factor.after(second, last_block(additional, text))
+    factor.hash_block(second, last_block(additional, text))
 }
 
 // Room for a few blocks: multiples of the factor alone.
 impl PolyvalRoom for TableRoom {
     fn hash(&self, additional: &[u8], text: &[u8]) -> Block {
         let zero = u8x16::splat(0);
-        bytes_of(hash_by(&Table::lent(self), zero, additional, text))
+        bytes_of(hash_by(&Table::new(self), zero, additional, text))
     }
 }
 
-// Room for many blocks: multiples of the factor's square and cube too, so that three blocks are
-// hashed at once.
+// Room for many blocks. It also has multiples of the factor's square and cube, so that three blocks
+// are hashed at once.
 impl PolyvalRoom for MultiplesRoom {
     fn hash(&self, additional: &[u8], text: &[u8]) -> Block {
-        let multiples = Multiples::lent(self);
+        let multiples = Multiples::new(self);
         let value = hash_string::<LowestFirst>(&multiples, u8x16::splat(0), additional);
         let end = last_block(additional, text);
         bytes_of(hash_string_and_end::<LowestFirst>(&multiples, value, text, end))
@@ -101,7 +101,7 @@ impl PolyvalRoom for MultiplesRoom {
 impl PolyvalRoom for SubkeyRoom {
     fn hash(&self, additional: &[u8], text: &[u8]) -> Block {
         let h = number_of_block(&self[0]);
-        hash_by(&WithMasks { h }, 0, additional, text).to_le_bytes()
+        hash_by(&BitwiseFactor { h }, 0, additional, text).to_le_bytes()
     }
 }
 
@@ -110,6 +110,6 @@ impl PolyvalRoom for SubkeyRoom {
 impl PolyvalRoom for SubkeyWordsRoom {
     fn hash(&self, additional: &[u8], text: &[u8]) -> Block {
         let h = number_of_words(self);
-        hash_by(&WithHoles { h }, 0, additional, text).to_le_bytes()
+        hash_by(&FactorWithHoles { h }, 0, additional, text).to_le_bytes()
     }
 }

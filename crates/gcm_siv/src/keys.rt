@@ -46,13 +46,14 @@ fn first_halves(one: &Block, other: &Block) -> Block
     block_of_halves(&first, &second)
 }
 
-/// Room for the keys of a message: the authentication key in the first block, the encryption key in
-/// the two after it, of which a key of 16 bytes is the first. The others are as secret.
-pub type KeyRoom = [Block; 6];
+/// Room for the keys of a message. The first block is the authentication key. The two blocks after
+/// it are the encryption key, or the first of these two if the key has 16 bytes. The other blocks
+/// are as secret.
+pub type DerivedKeysRoom = [Block; 6];
 
-// Writes those of six blocks, two by two, into the first three.
+// Writes the first halves of six blocks, two by two, into the first three blocks.
 #[tactic(auto, unfolding(crate::specs::Private::halves_of_six))]
-fn put_halves(blocks: &mut KeyRoom)
+fn put_halves(blocks: &mut DerivedKeysRoom)
     ensures { take 3 blocks.new ≡ halves_of_six blocks.old }
 {
     blocks[0] = first_halves(&blocks[0], &blocks[1]);
@@ -60,10 +61,15 @@ fn put_halves(blocks: &mut KeyRoom)
     blocks[2] = first_halves(&blocks[4], &blocks[5]);
 }
 
-/// Writes the keys of a message under a key of `size` bytes. It has four blocks encrypted for 16
-/// bytes, and six for 32.
+/// Writes the keys of a message under a key of `size` bytes. Four blocks are encrypted if it has 16
+/// bytes, and six if it has 32.
 #[tactic(auto, using(crate::proofs::DerivedKeys::derived_is))]
-pub fn derive<C: BlockCipherEncrypt>(cipher: &C, size: usize, nonce: &[u8; 12], keys: &mut KeyRoom)
+pub fn derive<C: BlockCipherEncrypt>(
+    cipher: &C,
+    size: usize,
+    nonce: &[u8; 12],
+    keys: &mut DerivedKeysRoom,
+)
     requires { IsSivKeySize size }
     ensures { let blocks = size / 16 + 1 in
         take blocks keys.new ≡ take blocks (derived_keys (C.round_keys cipher.now) nonce.now) }

@@ -12,13 +12,13 @@ pub(crate) fn are_allowed(additional: &[u8], text: &[u8]) -> bool
     text.len() as u64 <= LONGEST && additional.len() as u64 <= LONGEST
 }
 
-// How many bytes of additional data and text together are few: then the multiples of one factor
-// take less time than those of its powers.
-const FEW: usize = 160;
+// The most bytes of additional data and text together in a short message, for which the multiples
+// of one factor take less time than those of its powers.
+const LONGEST_SHORT: usize = 160;
 
-/// Returns whether additional data and a text of these lengths are a few blocks.
-pub fn are_few(additional: usize, text: usize) -> bool
+/// Returns whether a message is short whose additional data and text have these lengths.
+pub fn is_short(additional: usize, text: usize) -> bool
     ensures { IsTrue result ↔ (additional + text ≤ 160) }
 {
-    additional <= FEW && text <= FEW - additional
+    additional <= LONGEST_SHORT && text <= LONGEST_SHORT - additional
 }

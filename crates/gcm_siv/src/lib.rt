@@ -1,5 +1,5 @@
-//! AES-GCM-SIV (RFC 8452): encryption that shows whether a message was changed, and that a repeated
-//! nonce does not break, over any cipher that is made from a key.
+//! AES-GCM-SIV (RFC 8452) over any cipher that is made from a key. It encrypts messages, and shows
+//! whether a message was changed. A repeated nonce doesn't break it.
 #![tactic(auto)]
 
 mod counters;
@@ -14,8 +14,8 @@ mod mode;
 
 pub use errors::{Refused, TooLong};
 pub use hash::PolyvalRoom;
-pub use keys::{KeyRoom, derive, put_authentication};
+pub use keys::{DerivedKeysRoom, derive, put_authentication};
 pub use laws::text_twice;
-pub use lengths::{LONGEST, are_few};
+pub use lengths::{LONGEST, is_short};
 pub use message::{open, seal};
 pub use mode::GcmSiv;

@@ -12,7 +12,7 @@ use aes_cipher::blocks::{blocks_equal, sum_of_blocks};
 use aes_cipher::cipher::{Block, BlockCipherEncrypt};
 use aes_cipher::zeroize::{MustWipe, wipe_stack};
 
-// What the tag is the cipher of, of S_s and the nonce.
+// The block whose encryption is the tag, made of S_s and the nonce.
 fn tag_input(sum: &Block, nonce: &[u8; 12]) -> Block
     ensures { let block = fips.add_round_key sum.now (nonce.now ++ replicate 4 0) in
         result ≡ take 15 block ++ slice_index block 15 % 128 ∷ [] }
@@ -83,14 +83,14 @@ fn is_tag<C: BlockCipherEncrypt, R: PolyvalRoom>(
 }
 
 // Encrypts or decrypts a text that has a tag.
-fn apply<C: BlockCipherEncrypt>(cipher: &C, tag: &Block, text: &mut [u8])
+fn process_text<C: BlockCipherEncrypt>(cipher: &C, tag: &Block, text: &mut [u8])
     ensures { text.new ≡ text_under (C.round_keys cipher.now) tag.now text.old }
 {
     add_keystream(cipher, &first_counter(tag), text);
 }
 
-/// Encrypts a text in place, and returns the tag. In a call of its own, as `open`, so that its stack
-/// can be wiped.
+/// Encrypts a text in place, and returns the tag. This is a call of its own, as `open`, so that its
+/// stack can be wiped.
 #[inline(never)]
 pub fn seal<C: BlockCipherEncrypt, R: PolyvalRoom>(
     cipher: &C,
@@ -108,12 +108,12 @@ pub fn seal<C: BlockCipherEncrypt, R: PolyvalRoom>(
 {
     let mut tag = [0; 16];
     put_tag(cipher, room, nonce, additional, text, &mut tag);
-    apply(cipher, &tag, text);
+    process_text(cipher, &tag, text);
     tag
 }
 
 /// Decrypts a text in place if its tag is right, and returns whether it is. A text that is refused
-/// is encrypted again, so that it is as it came.
+/// is encrypted again, so that it is unchanged.
 #[inline(never)]
 pub fn open<C: BlockCipherEncrypt, R: PolyvalRoom>(
     cipher: &C,
@@ -133,19 +133,19 @@ pub fn open<C: BlockCipherEncrypt, R: PolyvalRoom>(
         ≡ text_under (C.round_keys cipher.now) tag.now text.old }
     ensures untouched { result ≡ false → text.new ≡ text.old }
 {
-    apply(cipher, tag, text);
+    process_text(cipher, tag, text);
     if is_tag(cipher, room, nonce, additional, text, tag) {
         return true;
     }
-    apply(cipher, tag, text);
+    process_text(cipher, tag, text);
     false
 }
 
 // The most bytes of stack of a message.
 const MESSAGE_STACK: usize = 4352;
 
-/// Wipes the stack that a message used, in a call from the same function: its keys, values of
-/// POLYVAL, the right tag of a refused message and blocks of the keystream may be there.
+/// Wipes the stack that a message used, in a call from the same function. The message's keys,
+/// values of POLYVAL, the right tag of a refused message and blocks of the keystream may be there.
 #[inline(always)]
 pub(crate) fn wipe_message_stack() {
     wipe_stack::<MESSAGE_STACK>();

@@ -1,4 +1,4 @@
-//! Messages under a key-generating key: each call derives the keys of its nonce, and wipes them.
+//! Messages under a key-generating key. Each call derives the keys of its nonce, and wipes them.
 
 ghost use Rattle.std.specs.Prelude.{◌≡◌, ◌↔◌, ◌⊎◌, ℕ, List, [], ◌++◌, ◌^◌, ◌<◌, ◌≤◌, length};
 ghost use Rattle.std.specs.Prelude.{slice_index_or, false, IsTrue, IsOk, IsErr, IfOk, OnOk, OnErr};
@@ -11,8 +11,8 @@ ghost use Rattle.gcm_siv.specs.GcmSiv.{IsSivKeySize};
 
 use crate::errors::{Refused, TooLong};
 use crate::hash::PolyvalRoom;
-use crate::keys::{KeyRoom, derive, put_authentication};
-use crate::lengths::{are_allowed, are_few};
+use crate::keys::{DerivedKeysRoom, derive, put_authentication};
+use crate::lengths::{are_allowed, is_short};
 use crate::message::{open, seal, wipe_message_stack};
 use aes_cipher::cipher::{Block, BlockCipherEncrypt, KeyInit};
 use aes_cipher::not_clone::NotClone;
@@ -20,8 +20,9 @@ use aes_cipher::zeroize::{MustWipe, ZeroizeOnDrop};
 use gcm::{MultiplesRoom, TableRoom};
 use std::marker::Model;
 
-// The cipher of a message, of its keys: that of the block after the first, or of the two blocks.
-fn message_cipher<C: KeyInit + Drop>(keys: &KeyRoom) -> C
+// Makes the cipher of a message from the message's keys: from the block after the first one, or
+// from the two blocks after it.
+fn message_cipher<C: KeyInit + Drop>(keys: &DerivedKeysRoom) -> C
     requires { IsSivKeySize C.KEY_SIZE }
     ensures short { C.KEY_SIZE ≡ 16 → C.own_key result ≡ slice_index_or keys.now 1 [] }
     ensures long { C.KEY_SIZE ≡ 32
@@ -56,7 +57,7 @@ impl<C: KeyInit + BlockCipherEncrypt + Drop> Model for GcmSiv<C> {
 impl<C: KeyInit + BlockCipherEncrypt + Drop> NotClone for GcmSiv<C> {}
 
 impl<C: KeyInit + BlockCipherEncrypt + Drop> GcmSiv<C> {
-    /// AES-GCM-SIV over the cipher of a key of 16 or 32 bytes.
+    /// Makes AES-GCM-SIV over the cipher of a key of 16 or 32 bytes.
     pub fn new(cipher: C) -> Self
         requires { IsSivKeySize C.KEY_SIZE }
         ensures { result ≡ C.own_key cipher }
@@ -73,12 +74,12 @@ impl<C: KeyInit + BlockCipherEncrypt + Drop> GcmSiv<C> {
         ensures encryption { C.round_keys result
             ≡ fips.key_expansion (encryption_key self.now nonce.now) }
     {
-        let mut keys = MustWipe::<KeyRoom>::zeroed();
+        let mut keys = MustWipe::<DerivedKeysRoom>::zeroed();
         derive(&self.cipher, C::KEY_SIZE, nonce, keys.value_mut());
         put_authentication(&keys.value()[0], room);
         let cipher = message_cipher(keys.value());
         keys.wipe();
-        self.cipher.has_key();
+        self.cipher.key_has_its_size();
         cipher
     }
 
@@ -98,8 +99,8 @@ impl<C: KeyInit + BlockCipherEncrypt + Drop> GcmSiv<C> {
         tag
     }
 
-    // Encrypts a text in place and returns the tag, with the room that takes less time. In a call
-    // of its own, so that its stack can be wiped.
+    // Encrypts a text in place and returns the tag, with the room that takes less time. This is a
+    // call of its own, so that its stack can be wiped.
     #[inline(never)]
     fn seal_message(&self, nonce: &[u8; 12], additional: &[u8], text: &mut [u8]) -> Block
         requires additional { length additional.now ≤ 2 ^ 36 }
@@ -107,7 +108,7 @@ impl<C: KeyInit + BlockCipherEncrypt + Drop> GcmSiv<C> {
         ensures tag { result ≡ rfc.tag self.now nonce.now additional.now text.old }
         ensures encrypted { text.new ≡ rfc.text self.now nonce.now result text.old }
     {
-        if are_few(additional.len(), text.len()) {
+        if is_short(additional.len(), text.len()) {
             self.seal_in::<TableRoom>(nonce, additional, text)
         } else {
             self.seal_in::<MultiplesRoom>(nonce, additional, text)
@@ -139,8 +140,8 @@ impl<C: KeyInit + BlockCipherEncrypt + Drop> GcmSiv<C> {
         is_right
     }
 
-    // Decrypts a text in place if the tag is right, with the room that takes less time. In a call
-    // of its own, so that its stack can be wiped.
+    // Decrypts a text in place if the tag is right, with the room that takes less time. This is a
+    // call of its own, so that its stack can be wiped.
     #[inline(never)]
     fn open_message(
         &self,
@@ -157,7 +158,7 @@ impl<C: KeyInit + BlockCipherEncrypt + Drop> GcmSiv<C> {
             ≡ rfc.text self.now nonce.now tag.now text.old }
         ensures untouched { result ≡ false → text.new ≡ text.old }
     {
-        if are_few(additional.len(), text.len()) {
+        if is_short(additional.len(), text.len()) {
             self.open_in::<TableRoom>(nonce, additional, text, tag)
         } else {
             self.open_in::<MultiplesRoom>(nonce, additional, text, tag)
@@ -165,7 +166,7 @@ impl<C: KeyInit + BlockCipherEncrypt + Drop> GcmSiv<C> {
     }
 
     /// Encrypts a text in place, and returns the tag, which shows whether the text or the
-    /// additional data was changed (4). Draw the nonce at random. One that comes again tells
+    /// additional data was changed (4). Draw the nonce at random. If a nonce comes again, it shows
     /// whether the two messages are the same.
     ///
     /// # Errors
@@ -195,7 +196,7 @@ impl<C: KeyInit + BlockCipherEncrypt + Drop> GcmSiv<C> {
     }
 
     /// Decrypts a text in place if the tag is right (5). The tag can be computed only when the text
-    /// is decrypted, and is compared without an early exit; a text that is refused is encrypted
+    /// is decrypted, and is compared without an early exit. A text that is refused is encrypted
     /// again.
     ///
     /// # Errors

@@ -64,21 +64,21 @@ semiblock_more key others i half lt sized is before =
 
 module _ (f : List ℕ → List ℕ) (steps : List (List ℕ) → ℕ → List (List ℕ)) where
   -- the halves of f of a block
-  pub as_block : (a : List ℕ) (others : List (List ℕ)) (a_new r_new : List ℕ) → length others ≡ 1
+  pub two_semiblocks_as_block : (a : List ℕ) (others : List (List ℕ)) (a_new r_new : List ℕ) → length others ≡ 1
       → a_new ≡ take 8 (f (a ++ get_or others 0 [])) → r_new ≡ drop 8 (f (a ++ get_or others 0 []))
       → a_new ∷ set others 0 r_new ≡ block_or_steps f steps (a ∷ others)
   unfolding block_or_steps
-  as_block a [] a_new r_new one is_a is_r = absurd (omega arith)
-  as_block a (r ∷ []) a_new r_new one is_a is_r =
+  two_semiblocks_as_block a [] a_new r_new one is_a is_r = absurd (omega arith)
+  two_semiblocks_as_block a (r ∷ []) a_new r_new one is_a is_r =
       (λ j. is_a j ∷ is_r j ∷ [])
       ∙ (λ j. let b = f (a ++ sym (append-nil r) j) in take 8 b ∷ drop 8 b ∷ [])
-  as_block a (r ∷ s ∷ rs) a_new r_new one is_a is_r = absurd (omega arith)
+  two_semiblocks_as_block a (r ∷ s ∷ rs) a_new r_new one is_a is_r = absurd (omega arith)
 
   -- all steps of a string that isn't one
-  pub as_steps : (s : List (List ℕ)) (n : ℕ) → n ≡ length s - 1 → (length s ≡ 2 → ⊥)
+  pub other_strings_as_steps : (s : List (List ℕ)) (n : ℕ) → n ≡ length s - 1 → (length s ≡ 2 → ⊥)
       → steps s (6 * n) ≡ block_or_steps f steps s
   unfolding block_or_steps
-  as_steps s n is other =
+  other_strings_as_steps s n is other =
       let b : List ℕ = f (concat s) in
       ap (λ m. steps s (6 * m)) is
       ∙ ap (λ t. if t then take 8 b ∷ drop 8 b ∷ [] else steps s (6 * (length s - 1)))

@@ -13,7 +13,7 @@ use Rattle.key_wrap.specs.KeyWrap.{unwrapped_from, wrap_step, wrapped, wrapped_a
 use Rattle.key_wrap.specs.Padded.{block_or_steps, unwrapped_string, wrapped_string}
 use Rattle.aes_cipher.proofs.BlockNumbers.{number_block}
 use Rattle.aes_planes.proofs.Standard.States.{take_bytes, drop_bytes}
-use Rattle.key_wrap.proofs.Padding.{as_steps}
+use Rattle.key_wrap.proofs.Padding.{other_strings_as_steps}
 use Rattle.key_wrap.proofs.Turns.{unwrap_last}
 
 -- ---- numbers added to semiblocks
@@ -170,7 +170,7 @@ module _ (w : List (List ℕ))
       let c : List (List ℕ) = wrapped_after w s (6 * n) in
       let long = after_length s (6 * n) in
       ap (block_or_steps (inv_cipher_with w) (unwrapped_from w))
-      (sym (as_steps (cipher_with w) (wrapped_after w) s n refl (λ two. omega (arith, two))))
-      ∙ sym (as_steps (inv_cipher_with w) (unwrapped_from w) c n (omega (arith, long))
+      (sym (other_strings_as_steps (cipher_with w) (wrapped_after w) s n refl (λ two. omega (arith, two))))
+      ∙ sym (other_strings_as_steps (inv_cipher_with w) (unwrapped_from w) c n (omega (arith, long))
       (λ two. omega (arith, two, long)))
       ∙ after_undone s (6 * n) (omega (arith, few)) all some

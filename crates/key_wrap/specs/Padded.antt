@@ -16,7 +16,7 @@ padded_check = 0xa6 ∷ 0x59 ∷ 0x59 ∷ 0xa6 ∷ []
 unfoldable pub heading : ℕ → List ℕ
 heading bytes = padded_check ++ to_be_bytes w32 bytes
 
--- how many semiblocks a number of bytes fills, the last of which may be filled in part
+-- how many semiblocks a number of bytes fills; the last one may be filled in part
 unfoldable pub filled : ℕ → ℕ
 filled bytes = (bytes + 7) / 8
 

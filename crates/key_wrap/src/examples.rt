@@ -1,5 +1,6 @@
-//! Key wrap at values from outside, as contracts, so that a slip in a definition is refused: RFC
-//! 3394, 4.1, and RFC 5649, 6. The last two show that a key comes back, as callers can prove it.
+//! Key wrap at values from outside, as contracts: RFC 3394, 4.1, and RFC 5649, 6. With them the
+//! prover refuses a mistake in a definition. The last two calls show that a key comes back, as
+//! callers can prove it.
 //!
 //! `bytes n 0x..` is the n bytes that these digits write.
 
@@ -15,7 +16,7 @@ ghost use Rattle.key_wrap.specs.Padded.{filled, wrapped_string, unwrapped_string
 ghost use Rattle.key_wrap.specs.Padded.{FitPadded, FitUnpadded};
 
 use crate::errors::InvalidCount;
-use crate::laws::{are_semiblocks, padding_undone, wrapping_undone};
+use crate::laws::{padding_undone, semiblocks_have_8_bytes, wrapping_undone};
 use crate::padded::{unwrap_padded, wrap_padded};
 use crate::steps::Semiblock;
 use crate::wrapping::{unwrap, wrap};
@@ -39,8 +40,8 @@ pub fn count_examples()
     ensures too_many_filled { ¬ FitUnpadded (2 ^ 29 + 1) (2 ^ 29 + 2) }
 {}
 
-/// A step's number counts in all eight bytes of a semiblock: by hand, for the first step, for one
-/// whose number has more than 32 bits, and for the last one of the longest key.
+/// The number of a step is added to all eight bytes of a semiblock. Worked out by hand for the
+/// first step, for one whose number has more than 32 bits, and for the last one of the longest key.
 #[tactic(auto, unfolding(crate::specs::KeyWrap::number_added, aes_planes::specs::BigEndian::bytes))]
 pub fn number_examples()
     ensures first { number_added (replicate 8 0) 1 ≡ bytes 8 0x0000000000000001 }
@@ -48,9 +49,9 @@ pub fn number_examples()
     ensures last { number_added (replicate 8 0xa6) (6 * (2 ^ 54 - 1)) ≡ bytes 8 0xa7d959595959595c }
 {}
 
-/// Each step is as the first one, whatever its number, and there are six for each semiblock of the
-/// key; a string of more than two semiblocks goes through the same steps with padding and without
-/// (6.1; 6.2, algorithm 3; 6.3, algorithms 5 and 6).
+/// Each step is as the first one, whatever its number. There are six for each semiblock of the key.
+/// A string of more than two semiblocks goes through the same steps with padding and without (6.1;
+/// 6.2, algorithm 3; 6.3, algorithms 5 and 6).
 #[tactic(auto, unfolding(crate::proofs::OnLiterals::step_rules))]
 pub fn step_rules()
     ensures begun { (w s : List (List ℕ)) → wrapped_after w s 0 ≡ s }
@@ -71,8 +72,9 @@ pub fn step_rules()
         ≡ unwrapped_from w (a ∷ r ∷ q ∷ rs) (6 * length (r ∷ q ∷ rs)) }
 {}
 
-/// One step, on any number of semiblocks: the first one takes its number, each but the last moves up
-/// by one, and the last one is the second half of the block (6.1, algorithm 1, step 2).
+/// One step, on any number of semiblocks. The step's number is added to the first one. Each of the
+/// others moves up by one, and the last one becomes the second half of the block (6.1, algorithm 1,
+/// step 2).
 #[tactic(auto, unfolding(crate::specs::KeyWrap::wrap_step))]
 pub fn single_step_rules()
     ensures first { (w rs : List (List ℕ)) (a r : List ℕ) (t : ℕ)
@@ -87,8 +89,8 @@ pub fn single_step_rules()
         → length (wrap_step w t (a ∷ r ∷ rs)) ≡ length rs + 2 }
 {}
 
-// The blocks of the twelve steps of W: in each the first semiblock, and that of the key whose turn
-// it is.
+// The blocks of the twelve steps of W. Each has the first semiblock, and that semiblock of the key
+// whose turn it is.
 #[tactic(auto, using(aes_planes::proofs::OnLiterals::ciphers), unfolding(aes_planes::proofs::OnLiterals::aes_by_table))]
 fn encrypted_blocks()
     ensures one { fips.cipher_with
@@ -169,7 +171,7 @@ pub fn padded_192_example()
     encrypted_padded_block();
 }
 
-/// Wraps a key and unwraps it again: it isn't refused, and comes back.
+/// Wraps a key and unwraps it again. It isn't refused, and comes back.
 ///
 /// # Errors
 ///
@@ -186,8 +188,8 @@ pub fn there_and_back<C: BlockCipherEncrypt + BlockCipherDecrypt>(
     ensures back { OnOk result (back.new ≡ key.now) }
 {
     wrapping_undone();
-    cipher.has_round_keys();
-    are_semiblocks(key);
+    cipher.round_keys_are_blocks();
+    semiblocks_have_8_bytes(key);
     wrap(cipher, key, sealed)?;
     match unwrap(cipher, sealed, back) {
         Ok(()) => Ok(()),
@@ -195,7 +197,7 @@ pub fn there_and_back<C: BlockCipherEncrypt + BlockCipherDecrypt>(
     }
 }
 
-/// Pads and wraps a key, and unwraps it again: it isn't refused, and the first bytes of what comes
+/// Pads and wraps a key, and unwraps it again. It isn't refused, and the first bytes of what comes
 /// back are the key.
 ///
 /// # Errors
@@ -214,7 +216,7 @@ pub fn padded_there_and_back<C: BlockCipherEncrypt + BlockCipherDecrypt>(
     ensures back { IfOk result (λ count. take count (concat back.new) ≡ key.now) }
 {
     padding_undone();
-    cipher.has_round_keys();
+    cipher.round_keys_are_blocks();
     wrap_padded(cipher, key, sealed)?;
     match unwrap_padded(cipher, sealed, back) {
         Ok(count) => Ok(count),

@@ -11,20 +11,20 @@ use aes_cipher::blocks::halves_and_blocks;
 use aes_planes::laws;
 
 // No effect; states that a semiblock is eight bytes.
-fn is_semiblock(half: Semiblock)
-    ensures { IsSemiblock half }
+fn semiblock_has_8_bytes(semiblock: Semiblock)
+    ensures { IsSemiblock semiblock }
 {}
 
 /// No effect; states that each semiblock of a key is eight bytes.
-pub fn are_semiblocks(key: &[Semiblock])
+pub fn semiblocks_have_8_bytes(key: &[Semiblock])
     ensures { All IsSemiblock key.now }
 {
     for i in 0..key.len() {
-        is_semiblock(key[i]);
+        semiblock_has_8_bytes(key[i]);
     }
 }
 
-/// No effect; states that unwrapping undoes wrapping, under round keys of the standard: the key
+/// No effect; states that unwrapping undoes wrapping, under round keys of the standard. The key
 /// comes back, and the semiblock before it is the integrity check (KW, 6.2).
 pub fn wrapping_undone()
     ensures { (w key : List (List ℕ)) → fips.AreRoundKeys w → All IsSemiblock key → 1 ≤ length key →
@@ -36,8 +36,8 @@ pub fn wrapping_undone()
 }
 
 /// No effect; states that a string of semiblocks that unwrapping accepts is the wrapping of the key
-/// that comes out, under round keys of the standard: no other string is accepted for that key (KW,
-/// 6.2).
+/// that comes out, under round keys of the standard. So no other string is accepted for that key
+/// (KW, 6.2).
 pub fn one_wrapping()
     ensures { (w key sealed : List (List ℕ)) → fips.AreRoundKeys w → All IsSemiblock sealed
         → 2 ≤ length sealed → length sealed ≤ 2 ^ 54
@@ -48,7 +48,7 @@ pub fn one_wrapping()
 }
 
 /// No effect; states that unwrapping undoes wrapping with padding, under round keys of the
-/// standard: no key is refused, and each comes back (KWP, 6.3).
+/// standard. No key is refused, and each comes back (KWP, 6.3).
 pub fn padding_undone()
     ensures { (w : List (List ℕ)) (key : List ℕ) → fips.AreRoundKeys w → fips.IsBytes key
         → 1 ≤ length key →

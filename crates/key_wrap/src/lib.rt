@@ -1,6 +1,6 @@
 //! Key wrap without and with padding (KW and KWP, SP 800-38F, 6.2 and 6.3; RFC 3394 and RFC 5649)
-//! over any block cipher: encrypts keys under a key, from one buffer to another, and shows whether
-//! what comes back was changed.
+//! over any block cipher. It encrypts keys under a key, from one buffer to another, and shows
+//! whether a wrapped key was changed.
 #![tactic(auto)]
 
 mod errors;

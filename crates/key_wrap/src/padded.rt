@@ -25,8 +25,8 @@ const MOST_FILLED: u64 = 1 << 29;
 ///
 /// # Errors
 ///
-/// `InvalidCount` exactly if the key is empty or has 2^32 bytes or more, or the output is of
-/// another length than one semiblock more than the key fills; it is then unchanged.
+/// `InvalidCount` exactly if the key is empty or has 2^32 bytes or more, or the output isn't one
+/// semiblock longer than the key fills. The output is then unchanged.
 #[tactic(auto, unfolding(crate::specs::Padded::filled))]
 #[inline(never)]
 pub fn wrap_padded<C: BlockCipherEncrypt>(
@@ -87,20 +87,20 @@ fn semiblock_at(bytes: &[u8], start: usize) -> Semiblock
 {
     let rest = &bytes[start..];
     let count = rest.len().min(8);
-    let mut half = [0; 8];
-    half[..count].copy_from_slice(&rest[..count]);
-    half
+    let mut semiblock = [0; 8];
+    semiblock[..count].copy_from_slice(&rest[..count]);
+    semiblock
 }
 
 /// Unwraps a key that was wrapped with padding (KWP-AD): `output` has one semiblock less than
-/// `sealed`. Returns how many bytes the key has, the first ones of the output; zeros follow. It
-/// branches on lengths, and once on whether all that it compares is right.
+/// `sealed`. Returns how many bytes the key has. They are the first bytes of the output, and zeros
+/// follow. The call branches on lengths, and once on whether all that it compares is right.
 ///
 /// # Errors
 ///
-/// `InvalidCount` exactly if no key becomes this many semiblocks, or the output is of another length;
-/// it is then unchanged. Else `Refused` exactly if the key was not wrapped with padding under this
-/// cipher's; the output is then zeros.
+/// `InvalidCount` exactly if no key becomes this many semiblocks, or the output has another length.
+/// The output is then unchanged. Else `Refused` exactly if the key was not wrapped with padding
+/// under the key of this cipher. The output is then zeros.
 #[inline(never)]
 pub fn unwrap_padded<C: BlockCipherDecrypt>(
     cipher: &C,
@@ -130,9 +130,9 @@ pub fn unwrap_padded<C: BlockCipherDecrypt>(
     Ok(length_in(&check))
 }
 
-// What differs between semiblocks, `check` the first of them, and those of a key with its padding,
-// put together. A call that is never inlined, so that a compiler can't make several branches of the
-// one on whether it is 0.
+// Returns 0 exactly if semiblocks, which begin with `check`, are those of a key with its
+// padding: the bitwise or of all that differs. Never inlined, so that a compiler can't make several
+// branches of the one on whether it is 0.
 #[inline(never)]
 fn difference(check: &Semiblock, others: &[Semiblock]) -> u64
     requires some { 1 ≤ length others.now }
@@ -155,32 +155,32 @@ fn length_in(check: &Semiblock) -> u32
 }
 
 // The two numbers that a semiblock writes.
-fn numbers_of(half: &Semiblock) -> (u32, u32)
-    ensures first { result.0 ≡ from_be_bytes w32 (take 4 half.now) }
-    ensures second { result.1 ≡ from_be_bytes w32 (drop 4 half.now) }
+fn numbers_of(semiblock: &Semiblock) -> (u32, u32)
+    ensures first { result.0 ≡ from_be_bytes w32 (take 4 semiblock.now) }
+    ensures second { result.1 ≡ from_be_bytes w32 (drop 4 semiblock.now) }
 {
     let mut first = [0; 4];
     let mut second = [0; 4];
-    first.copy_from_slice(&half[..4]);
-    second.copy_from_slice(&half[4..]);
+    first.copy_from_slice(&semiblock[..4]);
+    second.copy_from_slice(&semiblock[4..]);
     (u32::from_be_bytes(first), u32::from_be_bytes(second))
 }
 
-// The last `count` bytes of a semiblock, put together. They are chosen by masks: a shift by a number
-// that isn't known is a branch on it where words are shorter than what is shifted.
-fn last_bytes(half: &Semiblock, count: u32) -> u8
+// The bitwise or of the last `count` bytes of a semiblock. Masks choose these bytes: if words are
+// shorter than a number, a shift of the number by a variable distance branches on the distance.
+fn last_bytes(semiblock: &Semiblock, count: u32) -> u8
     requires { count < 8 }
-    ensures { (result ≡ 0) ↔ (drop (8 - count) half.now ≡ replicate count 0) }
+    ensures { (result ≡ 0) ↔ (drop (8 - count) semiblock.now ≡ replicate count 0) }
 {
     let mut bytes = 0;
     for i in 0..8 {
-        bytes |= half[7 - i] & mask_below(i as u32, count);
+        bytes |= semiblock[7 - i] & mask_below(i as u32, count);
     }
     bytes
 }
 
-// 255 if a place is below a count, else 0. A call that is never inlined, so that a compiler can't
-// make a branch of what is masked.
+// 255 if a place is below a count, else 0. Never inlined, so that a compiler can't turn a mask into
+// a branch.
 #[inline(never)]
 fn mask_below(place: u32, count: u32) -> u8
     requires place { place < 8 }

@@ -1,5 +1,5 @@
 //! The wrapping function W and its inverse (SP 800-38F, 6.1), in place: six turns over the
-//! semiblocks of a key; and what stands for W where it has too few.
+//! semiblocks of a key. If a string has too few semiblocks for W, a call of the cipher replaces W.
 
 ghost use Rattle.std.specs.Prelude.{◌≡◌, ◌+◌, ◌*◌, ◌^◌, ◌<◌, ◌≤◌, List, ℕ, ◌∷◌, ◌++◌, drop, length};
 ghost use Rattle.std.specs.Prelude.{take};
@@ -17,10 +17,10 @@ pub type Semiblock = [u8; 8];
 // Adds a number to a semiblock, whose first byte is the highest.
 #[tactic(auto, unfolding(crate::specs::KeyWrap::number_added))]
 #[inline(always)]
-fn add_number(half: &Semiblock, number: u64) -> Semiblock
-    ensures { result ≡ number_added half.now number }
+fn add_number(semiblock: &Semiblock, number: u64) -> Semiblock
+    ensures { result ≡ number_added semiblock.now number }
 {
-    (u64::from_be_bytes(*half) ^ number).to_be_bytes()
+    (u64::from_be_bytes(*semiblock) ^ number).to_be_bytes()
 }
 
 // Encrypts the block that two semiblocks form.
@@ -37,19 +37,21 @@ fn encrypt_halves<C: BlockCipherEncrypt>(cipher: &C, first: &mut Semiblock, seco
     *second = low;
 }
 
-// One step of W: `half` is the semiblock whose turn it is.
+// One step of W: `semiblock` is the one whose turn it is.
 fn wrap_step<C: BlockCipherEncrypt>(
     cipher: &C,
     check: &mut Semiblock,
-    half: &mut Semiblock,
+    semiblock: &mut Semiblock,
     number: u64,
 )
-    ensures check { let b = fips.cipher_with (C.round_keys cipher.now) (check.old ++ half.old) in
+    ensures check { let b =
+        fips.cipher_with (C.round_keys cipher.now) (check.old ++ semiblock.old) in
         check.new ≡ number_added (take 8 b) number }
-    ensures half { let b = fips.cipher_with (C.round_keys cipher.now) (check.old ++ half.old) in
-        half.new ≡ drop 8 b }
+    ensures semiblock { let b =
+        fips.cipher_with (C.round_keys cipher.now) (check.old ++ semiblock.old) in
+        semiblock.new ≡ drop 8 b }
 {
-    encrypt_halves(cipher, check, half);
+    encrypt_halves(cipher, check, semiblock);
     *check = add_number(check, number);
 }
 
@@ -87,8 +89,8 @@ pub(crate) fn wrap_in_place<C: BlockCipherEncrypt>(
     }
 }
 
-// Decrypts the block that two semiblocks form, and overwrites it: half of it can be a piece of a
-// key.
+// Decrypts the block that two semiblocks form. The block is then overwritten, since half of it can
+// be a piece of a key.
 fn decrypt_halves<C: BlockCipherDecrypt>(cipher: &C, first: &mut Semiblock, second: &mut Semiblock)
     ensures first { let b =
         fips.inv_cipher_with (C.round_keys cipher.now) (first.old ++ second.old) in
@@ -109,18 +111,20 @@ fn decrypt_halves<C: BlockCipherDecrypt>(cipher: &C, first: &mut Semiblock, seco
 fn unwrap_step<C: BlockCipherDecrypt>(
     cipher: &C,
     check: &mut Semiblock,
-    half: &mut Semiblock,
+    semiblock: &mut Semiblock,
     number: u64,
 )
     ensures check { let b =
-        fips.inv_cipher_with (C.round_keys cipher.now) (number_added check.old number ++ half.old)
-        in check.new ≡ take 8 b }
-    ensures half { let b =
-        fips.inv_cipher_with (C.round_keys cipher.now) (number_added check.old number ++ half.old)
-        in half.new ≡ drop 8 b }
+        fips.inv_cipher_with (C.round_keys cipher.now)
+        (number_added check.old number ++ semiblock.old) in
+        check.new ≡ take 8 b }
+    ensures semiblock { let b =
+        fips.inv_cipher_with (C.round_keys cipher.now)
+        (number_added check.old number ++ semiblock.old) in
+        semiblock.new ≡ drop 8 b }
 {
     *check = add_number(check, number);
-    decrypt_halves(cipher, check, half);
+    decrypt_halves(cipher, check, semiblock);
 }
 
 // The steps of the inverse with each semiblock once, from the last on.

@@ -27,7 +27,7 @@ fn is_allowed(count: usize) -> bool
 /// # Errors
 ///
 /// `InvalidCount` exactly if the key has fewer than two semiblocks or 2^54 or more, or the output
-/// is of another length than one semiblock more than the key; it is then unchanged.
+/// isn't one semiblock longer than the key. The output is then unchanged.
 #[inline(never)]
 pub fn wrap<C: BlockCipherEncrypt>(
     cipher: &C,
@@ -58,7 +58,7 @@ pub(crate) fn copy_apart(sealed: &[Semiblock], output: &mut [Semiblock]) -> Semi
     sealed[0]
 }
 
-// Writes all semiblocks but the first to the output, and returns that one.
+// Unwraps all semiblocks. Writes all but the first to the output, and returns the first.
 fn unwrap_all<C: BlockCipherDecrypt>(
     cipher: &C,
     sealed: &[Semiblock],
@@ -79,9 +79,9 @@ fn unwrap_all<C: BlockCipherDecrypt>(
 ///
 /// # Errors
 ///
-/// `InvalidCount` exactly if no key becomes this many semiblocks, or the output is of another length;
-/// it is then unchanged. Else `Refused` exactly if the key was not wrapped under this cipher's; the
-/// output is then zeros.
+/// `InvalidCount` exactly if no key becomes this many semiblocks, or the output has another length.
+/// The output is then unchanged. Else `Refused` exactly if the key was not wrapped under the key of
+/// this cipher. The output is then zeros.
 #[inline(never)]
 pub fn unwrap<C: BlockCipherDecrypt>(
     cipher: &C,

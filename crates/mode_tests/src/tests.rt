@@ -1,4 +1,5 @@
-//! What no clause says: that the modes answer, with the standards' values, over ciphers of each size of keys.
+//! What no clause says: that the modes answer, with the standards' values, over ciphers of each
+//! size of keys.
 
 mod cases;
 mod ccm_messages;

@@ -1,4 +1,5 @@
-//! The blocks of SP 800-38A, F.1, encrypted under the keys of FIPS 197, appendix A; and blocks that differ from one another.
+//! The blocks of SP 800-38A, F.1, encrypted under the keys of FIPS 197, appendix A; and blocks that
+//! differ from one another.
 
 /// The four blocks that SP 800-38A encrypts in its examples.
 pub const PLAIN: [u128; 4] = [

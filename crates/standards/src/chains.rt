@@ -1,4 +1,5 @@
-//! The blocks of SP 800-38A, F.1, in cipher block chaining (F.2), under the keys of FIPS 197, appendix A.
+//! The blocks of SP 800-38A, F.1, in cipher block chaining (F.2), under the keys of FIPS 197,
+//! appendix A.
 
 /// The initialization vector of F.2.
 pub const IV: u128 = 0x000102030405060708090a0b0c0d0e0f;

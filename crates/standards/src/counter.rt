@@ -1,4 +1,5 @@
-//! The first two blocks of SP 800-38A, F.1, in counter mode (F.5.1), under the key of 16 bytes of FIPS 197, appendix A.
+//! The first two blocks of SP 800-38A, F.1, in counter mode (F.5.1), under the key of 16 bytes of
+//! FIPS 197, appendix A.
 
 /// The initial counter block of F.5.1.
 pub const IV: u128 = 0xf0f1f2f3f4f5f6f7f8f9fafbfcfdfeff;

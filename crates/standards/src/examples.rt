@@ -9,8 +9,8 @@ use crate::keys::{
 /// A key, a block, and the block encrypted.
 pub type Example<'a> = (&'a [u8], u128, u128);
 
-/// FIPS 197, appendices C.1 to C.3 and B; SP 800-38A, F.1.1, F.1.3 and F.1.5, the first block of each; and blocks of
-/// zeros under keys of zeros, by OpenSSL.
+/// FIPS 197, appendices C.1 to C.3 and B; SP 800-38A, F.1.1, F.1.3 and F.1.5, the first block of
+/// each; and blocks of zeros under keys of zeros, by OpenSSL.
 pub const EXAMPLES: [Example<'static>; 10] = [
     (&KEY_128, PLAIN, BY_128),
     (&KEY_192, PLAIN, BY_192),

@@ -1,5 +1,5 @@
-//! The keys of FIPS 197: those of appendix C, which count from 00 on, with the block there and that block encrypted;
-//! and those of appendix A, under which SP 800-38A has its examples.
+//! The keys of FIPS 197. Those of appendix C count from 00 on, and have the block there and that
+//! block encrypted. Under those of appendix A, SP 800-38A has its examples.
 
 /// Appendix C.1.
 pub const KEY_128: [u8; 16] = [
@@ -47,7 +47,8 @@ pub const KEY_A3: [u8; 32] = [
     0x1f, 0x35, 0x2c, 0x07, 0x3b, 0x61, 0x08, 0xd7, 0x2d, 0x98, 0x10, 0xa3, 0x09, 0x14, 0xdf, 0xf4,
 ];
 
-/// The block of zeros under the key of 16 zeros, by OpenSSL. It is the hash key of test case 1 of the specification of GCM.
+/// The block of zeros under the key of 16 zeros, by OpenSSL. It is the hash key of test case 1 of
+/// the specification of GCM.
 pub const ZEROS_BY_128: u128 = 0x66e94bd4ef8a2c3b884cfa59ca342b2e;
 
 /// Under the key of 24 zeros, by OpenSSL.

@@ -1,4 +1,5 @@
-//! Keys, blocks and answers that the standards print or OpenSSL gives, and blocks that differ, for the tests of all crates.
+//! Keys, blocks and answers that the standards print or OpenSSL gives, and blocks that differ, for
+//! the tests of all crates.
 #![tactic(auto)]
 
 pub mod blocks;

@@ -17,13 +17,13 @@
 //!
 //! # Errors
 //!
-//! A call returns [`Error`], which says nothing more, and whose message is `aead::Error`:
+//! A call returns [`Error`], which says nothing more. Its message is `aead::Error`:
 //!
 //! - `encrypt..`, if the text has more than [`P_MAX`] bytes, the additional data more than [`A_MAX`], or the nonce none;
 //! - `decrypt..`, in the same cases, and if the tag isn't that of this key, nonce, additional data and text.
 //!
-//! A text that is refused stays as it was. From buffer to buffer the output is then all zeros; with short tags it is as it
-//! was. `encrypt_in_place` and `decrypt_in_place` also fail if the buffer can't hold a tag, or holds none.
+//! In place, a refused text stays unchanged. From buffer to buffer the output of a refused text is all zeros, or with short
+//! tags unchanged. `encrypt_in_place` and `decrypt_in_place` also fail if the buffer can't hold a tag, or holds none.
 //!
 //! # Not as in `aes-gcm`
 //!

@@ -15,14 +15,14 @@
 //!
 //! # Errors
 //!
-//! A call returns [`Error`], which says nothing more, and whose message is `aead::Error`:
+//! A call returns [`Error`], which says nothing more. Its message is `aead::Error`:
 //!
 //! - `encrypt..`, if the text has more than [`P_MAX`] bytes, or the additional data more than [`A_MAX`];
 //! - `decrypt..`, in the same cases, and if the tag isn't that of this key, nonce, additional data and text.
 //!
-//! In place, a text that is refused is, when the call returns, as it was; during the call it is decrypted. From buffer to
-//! buffer the output is then all zeros. `encrypt_in_place` and `decrypt_in_place` also fail if the buffer
-//! can't hold a tag, or holds none.
+//! In place, a refused text is unchanged when the call returns. During the call it is decrypted. From buffer to buffer the
+//! output of a refused text is all zeros. `encrypt_in_place` and `decrypt_in_place` also fail if the buffer can't hold a
+//! tag, or holds none.
 
 use crate::keys;
 use aead::{TagPosition, inout::InOutBuf};

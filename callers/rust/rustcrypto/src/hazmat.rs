@@ -31,7 +31,8 @@ macro_rules! rounds {
             /// The same of each of eight blocks, with the round key at the same place.
             pub fn $name_par(blocks: &mut Block8, round_keys: &Block8) {
                 let (blocks, round_keys) = ((&raw mut *blocks).cast(), (&raw const *round_keys).cast());
-                // SAFETY: as above; eight blocks are 128 bytes.
+                // SAFETY: the pointers come from references that are valid for the call, and one of them is mutable, so that
+                // they don't overlap. Eight blocks are 128 bytes.
                 unsafe { c::$call_par(blocks, round_keys) }
             }
         )*

@@ -8,15 +8,15 @@ use fotsgure_sys::gcm as c;
 pub(crate) type Text<'inp, 'out> = InOutBuf<'inp, 'out, u8>;
 
 fn into_raw(text: Text<'_, '_>) -> (*const u8, *mut u8, usize) {
-    let count = text.len();
+    let len = text.len();
     let (input, output) = text.into_raw();
-    (input, output, count)
+    (input, output, len)
 }
 
 /// A struct without a key.
 const NO_KEY: c::fotsgure_gcm = c::fotsgure_gcm { key_length: 0, round_keys: [0; 240], multiples: [0; 1536] };
 
-/// A message of which nothing has come.
+/// A message before its first piece.
 const NO_MESSAGE: c::fotsgure_gcm_message = c::fotsgure_gcm_message {
     additional: 0,
     text: 0,
@@ -51,7 +51,7 @@ impl Gcm {
     /// The same with the key of a block cipher.
     pub(crate) fn of(cipher: &Schedule) -> Self {
         let mut gcm = Gcm(NO_KEY);
-        // SAFETY: as above; the other struct holds a key.
+        // SAFETY: as in `new`; the other struct holds a key.
         let status = unsafe { c::fotsgure_gcm_set_key_of(&mut gcm.0, cipher.as_c()) };
         assert_eq!(status, c::FOTSGURE_GCM_DONE, "a schedule has a key");
         gcm
@@ -60,33 +60,41 @@ impl Gcm {
     /// Encrypts a text, and returns the whole tag.
     pub(crate) fn seal(&self, nonce: &[u8], additional: &[u8], text: Text<'_, '_>) -> Result<[u8; 16], Refused> {
         let mut tag = [0; 16];
-        let (iv, iv_length) = (nonce.as_ptr(), nonce.len());
-        let (data, length) = (additional.as_ptr(), additional.len());
-        let (from, to, count) = into_raw(text);
-        done(if from == to.cast_const() {
+        let (nonce_ptr, nonce_len) = (nonce.as_ptr(), nonce.len());
+        let (data_ptr, data_len) = (additional.as_ptr(), additional.len());
+        let (input, output, len) = into_raw(text);
+        done(if input == output.cast_const() {
             // SAFETY: `self` holds a key; the slices are borrowed for the call, and those that are written are mutable, so
             // that they overlap nothing.
-            unsafe { c::fotsgure_gcm_seal(&self.0, iv, iv_length, data, length, to, count, &mut tag) }
+            unsafe { c::fotsgure_gcm_seal(&self.0, nonce_ptr, nonce_len, data_ptr, data_len, output, len, &mut tag) }
         } else {
-            // SAFETY: as above; the two buffers of a `Text` are the same or don't overlap.
-            unsafe { c::fotsgure_gcm_seal_to(&self.0, iv, iv_length, data, length, from, count, to, count, &mut tag) }
+            // SAFETY: as for `fotsgure_gcm_seal`; the two buffers of a `Text` are the same or don't overlap.
+            unsafe {
+                c::fotsgure_gcm_seal_to(
+                    &self.0, nonce_ptr, nonce_len, data_ptr, data_len, input, len, output, len, &mut tag,
+                )
+            }
         })?;
         Ok(tag)
     }
 
     /// Decrypts a text if its tag of 16 bytes is right. If it isn't, another buffer is zeros.
     pub(crate) fn open(&self, nonce: &[u8], additional: &[u8], text: Text<'_, '_>, tag: &[u8]) -> Result<(), Refused> {
-        let (iv, iv_length) = (nonce.as_ptr(), nonce.len());
-        let (data, length) = (additional.as_ptr(), additional.len());
-        let (from, to, count) = into_raw(text);
-        let (wanted, size) = (tag.as_ptr(), tag.len());
-        done(if from == to.cast_const() {
+        let (nonce_ptr, nonce_len) = (nonce.as_ptr(), nonce.len());
+        let (data_ptr, data_len) = (additional.as_ptr(), additional.len());
+        let (input, output, len) = into_raw(text);
+        let (tag_ptr, tag_len) = (tag.as_ptr(), tag.len());
+        done(if input == output.cast_const() {
             // SAFETY: as in `seal`.
-            unsafe { c::fotsgure_gcm_open(&self.0, iv, iv_length, data, length, to, count, wanted, size) }
+            unsafe {
+                c::fotsgure_gcm_open(&self.0, nonce_ptr, nonce_len, data_ptr, data_len, output, len, tag_ptr, tag_len)
+            }
         } else {
             // SAFETY: as in `seal`.
             unsafe {
-                c::fotsgure_gcm_open_to(&self.0, iv, iv_length, data, length, from, count, to, count, wanted, size)
+                c::fotsgure_gcm_open_to(
+                    &self.0, nonce_ptr, nonce_len, data_ptr, data_len, input, len, output, len, tag_ptr, tag_len,
+                )
             }
         })
     }
@@ -103,15 +111,15 @@ impl Gcm {
         let message = &mut accepted.message;
         // SAFETY: as in `seal`, and `message` is mutable.
         done(unsafe { c::fotsgure_gcm_begin(&self.0, message, nonce.as_ptr(), nonce.len()) })?;
-        // SAFETY: as above.
+        // SAFETY: as in `seal`, and `message` is mutable.
         done(unsafe { c::fotsgure_gcm_additional(&self.0, message, additional.as_ptr(), additional.len()) })?;
-        // SAFETY: as above.
+        // SAFETY: as in `seal`, and `message` is mutable.
         done(unsafe { c::fotsgure_gcm_verify(&self.0, message, text.as_ptr(), text.len()) })?;
         if tag.len() == 16 {
-            // SAFETY: as above.
+            // SAFETY: as in `seal`, and `message` is mutable.
             done(unsafe { c::fotsgure_gcm_accept(&self.0, message, tag.as_ptr(), tag.len()) })?;
         } else {
-            // SAFETY: as above.
+            // SAFETY: as in `seal`, and `message` is mutable.
             done(unsafe { c::fotsgure_gcm_accept_short(&self.0, message, tag.len(), tag.as_ptr(), tag.len()) })?;
         }
         Ok(accepted)
@@ -163,15 +171,17 @@ impl GcmSiv {
     /// Encrypts a text, and returns its tag.
     pub(crate) fn seal(&self, nonce: &[u8; 12], additional: &[u8], text: Text<'_, '_>) -> Result<[u8; 16], Refused> {
         let mut tag = [0; 16];
-        let (data, length) = (additional.as_ptr(), additional.len());
-        let (from, to, count) = into_raw(text);
-        done(if from == to.cast_const() {
+        let (data_ptr, data_len) = (additional.as_ptr(), additional.len());
+        let (input, output, len) = into_raw(text);
+        done(if input == output.cast_const() {
             // SAFETY: `self` holds a key; the slices are borrowed for the call, and those that are written are mutable, so
             // that they overlap nothing.
-            unsafe { c::fotsgure_gcm_siv_seal(&self.0, nonce, data, length, to, count, &mut tag) }
+            unsafe { c::fotsgure_gcm_siv_seal(&self.0, nonce, data_ptr, data_len, output, len, &mut tag) }
         } else {
-            // SAFETY: as above; the two buffers of a `Text` are the same or don't overlap.
-            unsafe { c::fotsgure_gcm_siv_seal_to(&self.0, nonce, data, length, from, count, to, count, &mut tag) }
+            // SAFETY: as for `fotsgure_gcm_siv_seal`; the two buffers of a `Text` are the same or don't overlap.
+            unsafe {
+                c::fotsgure_gcm_siv_seal_to(&self.0, nonce, data_ptr, data_len, input, len, output, len, &mut tag)
+            }
         })?;
         Ok(tag)
     }
@@ -184,14 +194,14 @@ impl GcmSiv {
         text: Text<'_, '_>,
         tag: &[u8; 16],
     ) -> Result<(), Refused> {
-        let (data, length) = (additional.as_ptr(), additional.len());
-        let (from, to, count) = into_raw(text);
-        done(if from == to.cast_const() {
+        let (data_ptr, data_len) = (additional.as_ptr(), additional.len());
+        let (input, output, len) = into_raw(text);
+        done(if input == output.cast_const() {
             // SAFETY: as in `seal`.
-            unsafe { c::fotsgure_gcm_siv_open(&self.0, nonce, data, length, to, count, tag) }
+            unsafe { c::fotsgure_gcm_siv_open(&self.0, nonce, data_ptr, data_len, output, len, tag) }
         } else {
             // SAFETY: as in `seal`.
-            unsafe { c::fotsgure_gcm_siv_open_to(&self.0, nonce, data, length, from, count, to, count, tag) }
+            unsafe { c::fotsgure_gcm_siv_open_to(&self.0, nonce, data_ptr, data_len, input, len, output, len, tag) }
         })
     }
 }

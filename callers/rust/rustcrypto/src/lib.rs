@@ -1,7 +1,7 @@
 //! AES (FIPS 197), proved, under the names and traits of RustCrypto's crate `aes`, over the C library `fotsgure_aes`. With
-//! the feature `aead`, AES-GCM and AES-GCM-SIV under those of `aes-gcm` and `aes-gcm-siv`, over `fotsgure_gcm`.
+//! the feature `aead` it has AES-GCM and AES-GCM-SIV under those of `aes-gcm` and `aes-gcm-siv`, over `fotsgure_gcm`.
 //!
-//! A crate that depends on `aes` 0.9 takes this one by a line of its `Cargo.toml`, and no line of its code changes:
+//! A crate that depends on `aes` 0.9 can use this one instead. A line of its `Cargo.toml` changes, and none of its code:
 //!
 //! ```toml
 //! aes = { package = "fotsgure-rustcrypto", path = "CLONE/callers/rust/rustcrypto" }
@@ -9,7 +9,7 @@
 //!
 //! The crates in `patch`, named `aes` and `aes-gcm`, do the same for dependencies of dependencies, by `[patch]`.
 //!
-//! **A block cipher alone protects no message.** Take AES-GCM-SIV or AES-GCM for messages.
+//! **A block cipher alone protects no message.** Use AES-GCM-SIV or AES-GCM for messages.
 //!
 //! ```
 //! use fotsgure_rustcrypto::Aes128;
@@ -31,23 +31,23 @@
 //! # Errors
 //!
 //! [`KeyInit::new_from_slice`](cipher::KeyInit::new_from_slice) returns [`InvalidLength`](cipher::InvalidLength) if the
-//! slice isn't as long as the key of the type, and the calls named `_b2b` return
-//! [`NotEqualError`](cipher::inout::NotEqualError) if the two slices differ in length: nothing was changed then. Nothing
-//! else of the block cipher fails, and nothing panics.
+//! slice isn't as long as the key of the type. The calls named `_b2b` return
+//! [`NotEqualError`](cipher::inout::NotEqualError) if the two slices differ in length, and nothing was changed then. No other
+//! call of the block cipher fails, and none panics.
 //!
 //! # Not as in `aes`
 //!
 //! - No instructions for AES are used: [`hardware_accelerated`] returns false. That is the point on processors without
 //!   them, and the price on others.
-//! - It needs `std` for nothing, and libc's `memcpy`, `memmove` and `memset`, on x86-64 with SSSE3 and SSE4.2 and on
-//!   64-bit ARM; 16 KiB of stack.
+//! - It doesn't need `std`. On x86-64 with SSSE3 and SSE4.2 and on 64-bit ARM it needs libc's `memcpy`, `memmove` and
+//!   `memset`, and 16 KiB of stack.
 //! - With the feature `zeroize` the types are `ZeroizeOnDrop`. They are wiped without it too.
 //!
 //! # Features
 //!
 //! `aead`, with `alloc`, `arrayvec`, `bytes`, `getrandom` and `rand_core` as in the crate `aead`; `zeroize`;
-//! `hazmat`, single rounds; `hazmat-tags`, tags of 4 and 8 bytes; `cipher04` and `aead05`, the same types under the traits that aes 0.8 and aes-gcm
-//! 0.10 have.
+//! `hazmat`, single rounds; `hazmat-tags`, tags of 4 and 8 bytes; `cipher04` and `aead05`, the same types under the traits
+//! that aes 0.8 and aes-gcm 0.10 have.
 
 #![no_std]
 #![cfg_attr(docsrs, feature(doc_cfg))]

@@ -39,7 +39,7 @@ impl Schedule {
             // SAFETY: `self` holds a key, and `Blocks` lends `count` blocks at `output`.
             unsafe { c::fotsgure_aes_encrypt_blocks(&self.0, output, count) }
         } else {
-            // SAFETY: as above; the two buffers of `Blocks` are the same or don't overlap.
+            // SAFETY: as for `fotsgure_aes_encrypt_blocks`; the two buffers of `Blocks` are the same or don't overlap.
             unsafe { c::fotsgure_aes_encrypt_blocks_to(&self.0, input, count, output, count) }
         };
         debug_assert_eq!(status, c::FOTSGURE_AES_DONE);

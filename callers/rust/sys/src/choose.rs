@@ -37,7 +37,7 @@ fn extended() -> u32 {
 /// Whether the processor has all of x86-64-v2.
 #[allow(unused_unsafe)]
 fn has_v2() -> bool {
-    // SAFETY: as above.
+    // SAFETY: each x86-64 processor has CPUID.
     unsafe { __cpuid(1).ecx & OF_V2 == OF_V2 && extended() & LAHF_LM != 0 }
 }
 
@@ -58,7 +58,7 @@ fn has_v3() -> bool {
 const NOT_ASKED: u8 = 0;
 /// For every processor.
 const V1: u8 = 1;
-/// For x86-64-v2, whose byte shuffle the library takes.
+/// For x86-64-v2, whose byte shuffle the library uses.
 pub const V2: u8 = 2;
 /// For x86-64-v3.
 pub const V3: u8 = 3;

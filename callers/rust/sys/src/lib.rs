@@ -1,6 +1,6 @@
 //! The proved assembly of `dist`, and its calls under the names that they have in C: those of `fotsgure_aes.h` and, with
 //! the feature `gcm`, of `fotsgure_gcm.h`. The heads of these files, in this package's folder `dist/include`, say what a
-//! caller must ensure: each call here is unsafe, and nothing checks it. Take a crate over this one instead:
+//! caller must ensure: each call here is unsafe, and nothing checks it. Use a crate over this one instead:
 //! `fotsgure_aes`, or `fotsgure-rustcrypto`, which has the traits of RustCrypto.
 //!
 //! rustc assembles it: no C compiler is needed. On x86-64 there are three builds, and the first call asks the processor

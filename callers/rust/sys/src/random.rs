@@ -1,9 +1,9 @@
-//! A message of AES-GCM-SIV under a nonce that the system draws: what is around the proved call, as in dist's `seal_random.c`.
+//! A message of AES-GCM-SIV under a nonce that the system draws: the code around the proved call, as in dist's `seal_random.c`.
 
 use crate::gcm::{fotsgure_gcm_siv, fotsgure_gcm_siv_seal, FOTSGURE_GCM_DONE, FOTSGURE_GCM_NO_RANDOMNESS};
 
 #[cfg(not(any(unix, windows)))]
-compile_error!("the feature `random` needs a system that has random numbers: take the feature `gcm`");
+compile_error!("the feature `random` needs a system that has random numbers: use the feature `gcm`");
 
 /// Fills a nonce with random bytes, and returns whether the system had them.
 #[cfg(windows)]

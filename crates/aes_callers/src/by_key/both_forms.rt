@@ -6,12 +6,12 @@ ghost use Rattle.aes_planes.specs.Fips197 as fips;
 use super::{both_ways, decrypting, encrypting};
 use aes_cipher::aes::{AesCipher, Bits128, Bits192, Bits256, BothWays, KeySize};
 use aes_cipher::cipher::{Block, Decrypt, Encrypt};
-use aes_hybrid::widths::{Narrow, Width};
+use aes_hybrid::widths::{Width, Width128};
 use aes_hybrid::{BothWaysKeys, EncryptionKeys};
 
-/// Returns the type for both directions of a size of keys and a width of words, and a block
-/// encrypted and decrypted. What the types are made of is proved here once for all sizes and both
-/// widths.
+/// Returns a value of the type for both directions, for a size of keys and a width of words, and a
+/// block encrypted and decrypted. What the types are made of is proved here once for all sizes and
+/// both widths.
 pub fn of_both<K: KeySize, W: Width>(
     key: &K::Key,
     block: &Block,
@@ -23,7 +23,7 @@ pub fn of_both<K: KeySize, W: Width>(
     both_ways(key, block)
 }
 
-/// Returns the one that encrypts, and a block encrypted.
+/// Returns a value of the type that encrypts, and a block encrypted.
 pub fn of_enc<K: KeySize, W: Width>(
     key: &K::Key,
     block: &Block,
@@ -34,7 +34,7 @@ pub fn of_enc<K: KeySize, W: Width>(
     encrypting(key, block)
 }
 
-/// Returns the one that decrypts, and a block decrypted.
+/// Returns a value of the type that decrypts, and a block decrypted.
 pub fn of_dec<K: KeySize, W: Width>(
     key: &K::Key,
     block: &Block,
@@ -51,7 +51,7 @@ pub fn aes_128(key: &[u8; 16], block: &Block) -> (aes_hybrid::Aes128, Block, Blo
     ensures encrypted { result.1 ≡ fips.cipher key.now block.now }
     ensures decrypted { result.2 ≡ fips.inv_cipher key.now block.now }
 {
-    of_both::<Bits128, Narrow>(key, block)
+    of_both::<Bits128, Width128>(key, block)
 }
 
 /// Returns the `Aes128Enc` of a key of 16 bytes, and a block encrypted under that key.
@@ -59,7 +59,7 @@ pub fn aes_128_enc(key: &[u8; 16], block: &Block) -> (aes_hybrid::Aes128Enc, Blo
     ensures value { result.0 ≡ key.now }
     ensures encrypted { result.1 ≡ fips.cipher key.now block.now }
 {
-    of_enc::<Bits128, Narrow>(key, block)
+    of_enc::<Bits128, Width128>(key, block)
 }
 
 /// Returns the `Aes128Dec` of a key of 16 bytes, and a block decrypted under that key.
@@ -67,7 +67,7 @@ pub fn aes_128_dec(key: &[u8; 16], block: &Block) -> (aes_hybrid::Aes128Dec, Blo
     ensures value { result.0 ≡ key.now }
     ensures decrypted { result.1 ≡ fips.inv_cipher key.now block.now }
 {
-    of_dec::<Bits128, Narrow>(key, block)
+    of_dec::<Bits128, Width128>(key, block)
 }
 
 /// Returns the `Aes192` of a key of 24 bytes, and a block encrypted and decrypted under that key.
@@ -76,7 +76,7 @@ pub fn aes_192(key: &[u8; 24], block: &Block) -> (aes_hybrid::Aes192, Block, Blo
     ensures encrypted { result.1 ≡ fips.cipher key.now block.now }
     ensures decrypted { result.2 ≡ fips.inv_cipher key.now block.now }
 {
-    of_both::<Bits192, Narrow>(key, block)
+    of_both::<Bits192, Width128>(key, block)
 }
 
 /// Returns the `Aes192Enc` of a key of 24 bytes, and a block encrypted under that key.
@@ -84,7 +84,7 @@ pub fn aes_192_enc(key: &[u8; 24], block: &Block) -> (aes_hybrid::Aes192Enc, Blo
     ensures value { result.0 ≡ key.now }
     ensures encrypted { result.1 ≡ fips.cipher key.now block.now }
 {
-    of_enc::<Bits192, Narrow>(key, block)
+    of_enc::<Bits192, Width128>(key, block)
 }
 
 /// Returns the `Aes192Dec` of a key of 24 bytes, and a block decrypted under that key.
@@ -92,7 +92,7 @@ pub fn aes_192_dec(key: &[u8; 24], block: &Block) -> (aes_hybrid::Aes192Dec, Blo
     ensures value { result.0 ≡ key.now }
     ensures decrypted { result.1 ≡ fips.inv_cipher key.now block.now }
 {
-    of_dec::<Bits192, Narrow>(key, block)
+    of_dec::<Bits192, Width128>(key, block)
 }
 
 /// Returns the `Aes256` of a key of 32 bytes, and a block encrypted and decrypted under that key.
@@ -101,7 +101,7 @@ pub fn aes_256(key: &[u8; 32], block: &Block) -> (aes_hybrid::Aes256, Block, Blo
     ensures encrypted { result.1 ≡ fips.cipher key.now block.now }
     ensures decrypted { result.2 ≡ fips.inv_cipher key.now block.now }
 {
-    of_both::<Bits256, Narrow>(key, block)
+    of_both::<Bits256, Width128>(key, block)
 }
 
 /// Returns the `Aes256Enc` of a key of 32 bytes, and a block encrypted under that key.
@@ -109,7 +109,7 @@ pub fn aes_256_enc(key: &[u8; 32], block: &Block) -> (aes_hybrid::Aes256Enc, Blo
     ensures value { result.0 ≡ key.now }
     ensures encrypted { result.1 ≡ fips.cipher key.now block.now }
 {
-    of_enc::<Bits256, Narrow>(key, block)
+    of_enc::<Bits256, Width128>(key, block)
 }
 
 /// Returns the `Aes256Dec` of a key of 32 bytes, and a block decrypted under that key.
@@ -117,5 +117,5 @@ pub fn aes_256_dec(key: &[u8; 32], block: &Block) -> (aes_hybrid::Aes256Dec, Blo
     ensures value { result.0 ≡ key.now }
     ensures decrypted { result.1 ≡ fips.inv_cipher key.now block.now }
 {
-    of_dec::<Bits256, Narrow>(key, block)
+    of_dec::<Bits256, Width128>(key, block)
 }

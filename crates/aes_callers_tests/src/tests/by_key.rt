@@ -2,7 +2,7 @@
 
 use aes_callers::by_key::{both_forms, planes};
 use aes_cipher::aes::{Bits128, Bits192, Bits256, KeySize};
-use aes_hybrid::widths::Wide;
+use aes_hybrid::widths::Width256;
 use standards::keys::{BY_128, BY_192, BY_256, KEY_128, KEY_192, KEY_256, PLAIN};
 
 #[test]
@@ -39,13 +39,13 @@ fn names_of_aes_hybrid_answer(rt: HostRuntime) {
     assert!(rt; both_forms::aes_256_dec(&KEY_256, &by_256).1 == plain);
 }
 
-// Whether the types of `aes_hybrid` for a size do, with words of 256 bits.
+// Whether the types of `aes_hybrid` for a size answer too, with words of 256 bits.
 fn wide_types_answer<K: KeySize>(key: &K::Key, encrypted: u128) -> bool {
     let plain = PLAIN.to_be_bytes();
     let block = encrypted.to_be_bytes();
-    both_forms::of_both::<K, Wide>(key, &plain).1 == block
-        && both_forms::of_enc::<K, Wide>(key, &plain).1 == block
-        && both_forms::of_dec::<K, Wide>(key, &block).1 == plain
+    both_forms::of_both::<K, Width256>(key, &plain).1 == block
+        && both_forms::of_enc::<K, Width256>(key, &plain).1 == block
+        && both_forms::of_dec::<K, Width256>(key, &block).1 == plain
 }
 
 #[test]

@@ -40,7 +40,8 @@ fn callers_have_the_blocks_of_the_standard(rt: HostRuntime) {
     assert!(rt; blocks == [BY_128.to_be_bytes(); 9]);
 }
 
-// Whether the callers over any cipher have the block of a key, as an array and as a slice.
+// Whether the callers over any cipher encrypt the block as wanted, under a key as an array and as a
+// slice.
 fn goes_there_and_back<C>(key: &C::Key, bytes: &[u8], wanted: u128) -> bool
 where
     C: KeyInit + BlockCipherEncrypt + BlockCipherDecrypt + Drop,
@@ -51,7 +52,8 @@ where
     by_key == wanted.to_be_bytes() && by_slice == Ok(by_key) && block == PLAIN.to_be_bytes()
 }
 
-// The type of `aes` for a size. With the size as a parameter, it is proved once for all sizes.
+// Whether they do so for the type of `aes` for a size. With the size as a parameter, it is proved
+// once for all sizes.
 fn type_goes_there_and_back<K: KeySize>(key: &K::Key, bytes: &[u8], wanted: u128) -> bool {
     goes_there_and_back::<FixslicedAes<K, BothWays>>(key, bytes, wanted)
 }
@@ -77,7 +79,7 @@ fn slices_go_there_and_back(rt: HostRuntime) {
     assert!(rt; slice_there_and_back::<Bits256>(&KEY_256) == different_blocks());
 }
 
-// The counters are seen by contracts alone: what is left to see is that the calls answer.
+// Only contracts see the counters. The test shows that the calls return.
 #[test]
 fn counted_calls_answer(rt: HostRuntime) {
     let mut blocks = [PLAIN.to_be_bytes(); 9];

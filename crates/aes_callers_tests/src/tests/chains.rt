@@ -20,7 +20,8 @@ fn comes_back<C: BlockCipherEncrypt + BlockCipherDecrypt>(cipher: &C) -> bool {
     row == blocks(&PLAIN)
 }
 
-// Whether they do by the type of `aes` for a size. With the size as a parameter, it is proved once for all sizes.
+// Whether the chained blocks come back by the type of `aes` for a size. With the size as a
+// parameter, it is proved once for all sizes.
 fn comes_back_under<K: KeySize>(key: &K::Key) -> bool {
     comes_back(&FixslicedAes::<K, BothWays>::new(key))
 }
@@ -37,8 +38,8 @@ fn a_chain_comes_back(rt: HostRuntime) {
     );
 }
 
-// NIST's example of CMAC with a key of 16 bytes, on an empty message (SP 800-38B, D.1): its one block is the padding
-// summed with the second subkey.
+// NIST's example of CMAC with a key of 16 bytes, on an empty message (SP 800-38B, D.1): its one
+// block is the padding summed with the second subkey.
 #[test]
 fn chains_to_a_value(rt: HostRuntime) {
     let last = [block_of_number(0x80 << 120 ^ 0xf7ddac306ae266ccf90bc11ee46d513b)];

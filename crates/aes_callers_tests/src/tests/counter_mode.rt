@@ -32,7 +32,8 @@ fn takes_two_parts<C: BlockCipherEncrypt>(cipher: &C) -> bool {
     apply_to_parts(&mut mode, &mut head, &mut rest).is_ok() && mode.position() == 32
 }
 
-// Whether the message is encrypted from each of some positions on, and the keystream ends where it should.
+// Whether the message is encrypted from each of some positions on, and the keystream ends where it
+// should.
 fn starts_at_any_position<C: BlockCipherEncrypt>(cipher: &C) -> bool {
     let mut right = true;
     for at in [0, 1, 15, 16, 17, 31, 32] {
@@ -55,8 +56,8 @@ fn gives_its_cipher_back<C: BlockCipherEncrypt>(cipher: &C) -> bool {
     back.is_ok() && bytes == ENCRYPTED && block == wanted
 }
 
-// Whether the callers that take a cipher answer, each by its name. With the size as a parameter, the type of `aes` is
-// proved to be a cipher once.
+// Whether the callers that take a cipher answer, each by its name. With the size as a parameter,
+// the type of `aes` is proved to be a cipher once.
 fn answers_of<K: KeySize>(key: &K::Key) -> [(&'static str, bool); 3] {
     let cipher = FixslicedAes::<K, Encrypt>::new(key);
     [
@@ -73,7 +74,7 @@ fn callers_with_a_cipher_answer(rt: HostRuntime) {
     }
 }
 
-// A cipher that no key expands to: the crate rests on the trait alone.
+// A cipher that no key expands to: counter mode depends on the trait alone.
 #[test]
 fn adds_what_the_cipher_of_the_counter_is(rt: HostRuntime) {
     let cipher = ByBackend {

@@ -1,4 +1,4 @@
-//! Clones and conversions: ciphers with the key of another.
+//! Clones and conversions, which make a cipher with the key of another.
 
 ghost use Rattle.std.specs.Prelude.{◌≡◌, ⊤};
 

@@ -17,7 +17,7 @@ pub trait CountsLayers: StoredKeys {
     /// How many S-box layers a key's expansion runs.
     ghost SCHEDULE_LAYERS: { ℕ };
 
-    /// How many S-box layers that many blocks of a slice take.
+    /// How many S-box layers run for that many blocks of a slice.
     ghost layers_for: { ℕ → ℕ };
 
     /// Writes the round keys of a key to wiped room, and counts the S-box layers.
@@ -59,8 +59,9 @@ impl<S: CountsLayers, D> AesCipher<S, D> {
 }
 
 impl<S: CountsLayers, D: Allows<Encrypt>> AesCipher<S, D> {
-    /// Encrypts each block in place (Cipher, FIPS 197, 5.1), and counts the S-box layers: as many
-    /// as the cipher has rounds for each whole batch, and as many for each block after them.
+    /// Encrypts each block in place (Cipher, FIPS 197, 5.1), and counts the S-box layers. Each
+    /// whole batch runs as many layers as the cipher has rounds, and so does each block after the
+    /// batches.
     #[inline(always)]
     pub fn encrypt_blocks_counted(&self, blocks: &mut [Block], layers: &mut Layers)
         ensures blocks { Each (fips.cipher self.now) blocks.old blocks.new }
@@ -71,8 +72,9 @@ impl<S: CountsLayers, D: Allows<Encrypt>> AesCipher<S, D> {
 }
 
 impl<S: CountsLayers, D: Allows<Decrypt>> AesCipher<S, D> {
-    /// Decrypts each block in place (InvCipher, FIPS 197, 5.3), and counts the S-box layers: as
-    /// many as the cipher has rounds for each whole batch, and as many for each block after them.
+    /// Decrypts each block in place (InvCipher, FIPS 197, 5.3), and counts the S-box layers. Each
+    /// whole batch runs as many layers as the cipher has rounds, and so does each block after the
+    /// batches.
     #[inline(always)]
     pub fn decrypt_blocks_counted(&self, blocks: &mut [Block], layers: &mut Layers)
         ensures blocks { Each (fips.inv_cipher self.now) blocks.old blocks.new }

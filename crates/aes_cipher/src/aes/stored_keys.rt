@@ -11,8 +11,8 @@ use crate::cipher::{
 
 /// The stored round keys of a key, in some form. Contracts see the key that they are read as.
 ///
-/// Whoever implements it answers for the wipe: a drop has to overwrite the round keys. No clause
-/// asks for it, and `AesCipher` has the mark `ZeroizeOnDrop` over every form.
+/// An implementation has to wipe: its drop has to overwrite the round keys. No clause requires
+/// this, but `AesCipher` has the mark `ZeroizeOnDrop` over every form.
 pub trait StoredKeys: Drop {
     /// The size of the key.
     type Size: KeySize;
@@ -48,7 +48,7 @@ pub trait StoredKeys: Drop {
         ensures same { key result ≡ key self.now };
 
     /// No effect; states that the key has as many bytes as its size says.
-    fn has_key(&self)
+    fn key_has_its_size(&self)
         requires keyed { AreKeyed self.now }
         ensures sized { length (key self.now) ≡ Self.Size.SIZE }
         ensures bytes { fips.IsBytes (key self.now) };
@@ -88,7 +88,7 @@ pub trait Decrypts: Processes<Decrypt> {
 
 /// Stored round keys that are made from those of S, which has the same key.
 pub trait MadeFrom<S: StoredKeys>: StoredKeys {
-    /// Returns the round keys of the key of others.
+    /// Returns the round keys, in this form, of the key of `keys`.
     fn made_from(keys: &S) -> Self
         requires keyed { S.AreKeyed keys.now }
         ensures keyed { Self.AreKeyed result }

@@ -1,4 +1,4 @@
-//! The names of the ciphers as text, which shows nothing of a key.
+//! The names of the ciphers as text. It shows nothing of a key.
 
 use super::AesCipher;
 use super::direction_sets::Directions;

@@ -8,17 +8,17 @@ ghost use Rattle.aes_cipher.specs.Blocks.{blocks_of, Sixteens};
 use super::PartialBlock;
 use crate::cipher::{Block, CipherIn, Direction};
 
-// How many blocks are handed to a cipher at once: batches of any backend here, in a kibibyte of the
-// stack.
+// How many blocks are passed to a cipher at once. This number makes whole batches of every backend
+// here, and needs a kibibyte of the stack.
 const BLOCKS_AT_ONCE: usize = 64;
 
 // No effect; states that each block of a program has sixteen bytes.
-fn have_sixteen(blocks: &[Block])
+fn blocks_have_16_bytes(blocks: &[Block])
     ensures { Sixteens blocks.now }
 {}
 
-// Processes bytes by way of as many blocks: the standard library lends a slice of bytes as one of
-// blocks, but doesn't say what the bytes are when it comes back.
+// Processes bytes by way of blocks in `room`. The standard library can lend a slice of bytes as a
+// slice of blocks, but doesn't say what the bytes are afterwards.
 fn process_part<D: Direction, C: CipherIn<D>>(cipher: &C, bytes: &mut [u8], room: &mut [Block])
     requires as_many { length bytes.old ≡ 16 * length room.old }
     ensures { first_chunks 16 (length room.old) bytes.new
@@ -28,7 +28,7 @@ fn process_part<D: Direction, C: CipherIn<D>>(cipher: &C, bytes: &mut [u8], room
     let (blocks, _) = bytes.as_chunks();
     room.copy_from_slice(blocks);
     cipher.process_blocks(room);
-    have_sixteen(room);
+    blocks_have_16_bytes(room);
     bytes.copy_from_slice(room.as_flattened());
 }
 

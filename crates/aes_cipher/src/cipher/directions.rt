@@ -1,5 +1,5 @@
-//! The two directions: encryption and decryption; and ciphers in one of them, for code that is
-//! written once for both.
+//! The two directions, encryption and decryption, and ciphers in one of them. Code that uses these
+//! is written once for both directions.
 
 ghost use Rattle.std.specs.Prelude.{◌≡◌, ◌≢◌, ◌↔◌, ℕ, List, length, IsErr, OnOk, OnErr};
 ghost use Rattle.aes_planes.specs.Each.{Each};
@@ -25,7 +25,7 @@ pub trait Direction {
     /// What the last round does before it adds its round key: it does not mix columns.
     ghost last_step: { List ℕ → List ℕ };
 
-    /// What holds for this direction, of what holds for encryption and what holds for decryption.
+    /// Selects the claim for this direction from one for encryption and one for decryption.
     ghost either: { Type 0 → Type 0 → Type 0 };
 }
 

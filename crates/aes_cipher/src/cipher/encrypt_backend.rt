@@ -21,10 +21,10 @@ pub trait BlockCipherEncBackend: ParBlocksSizeUser + RoundKeysUser {
         requires one_batch { length blocks.old ≡ Self.PAR_BLOCKS }
         ensures { Each (fips.cipher_with (Self.round_keys self.now)) blocks.old blocks.new };
 
-    /// Encrypts the first blocks of one batch in place, `count` of them, under the value's round
-    /// keys (Cipher, FIPS 197, 5.1). Each of the others is then unchanged or encrypted too, since
-    /// the whole batch may take less time than its first blocks. So let none of them be a block
-    /// whose encryption is a secret, as that of zeros is in GCM.
+    /// Encrypts the first `count` blocks of one batch in place, under the value's round keys
+    /// (Cipher, FIPS 197, 5.1). Each of the others is then unchanged or encrypted too, since the
+    /// whole batch may take less time than its first blocks. Don't pass, among the others, a block
+    /// whose encryption is a secret, such as a block of zeros in GCM.
     #[tactic(auto, using(crate::proofs::FirstBlocks::first_blocks))]
     #[inline(always)]
     fn encrypt_first_blocks(&self, count: usize, blocks: &mut [Block])

@@ -26,7 +26,7 @@ pub trait KeyInit: KeySizeUser + RoundKeysUser {
         ensures made { IfOk result (λ made. own_key made ≡ key.now) };
 
     /// No effect; states that the value's key has KEY_SIZE bytes.
-    fn has_key(&self)
+    fn key_has_its_size(&self)
         ensures sized { length (own_key self.now) ≡ Self.KEY_SIZE }
         ensures bytes { fips.IsBytes (own_key self.now) };
 

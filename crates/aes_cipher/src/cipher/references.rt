@@ -11,8 +11,8 @@ use super::sizes::Block;
 impl<C: RoundKeysUser> RoundKeysUser for &C {
     ghost round_keys = { λ lent. C.round_keys lent.now };
 
-    fn has_round_keys(&self) {
-        (**self).has_round_keys();
+    fn round_keys_are_blocks(&self) {
+        (**self).round_keys_are_blocks();
     }
 
     ghost two_round_keys = { λ lent. C.two_round_keys lent.now };

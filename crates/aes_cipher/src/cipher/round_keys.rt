@@ -12,12 +12,12 @@ pub trait RoundKeysUser {
     ghost round_keys: { Self → List (List ℕ) };
 
     /// No effect; states that the value's round keys are two blocks or more.
-    fn has_round_keys(&self)
+    fn round_keys_are_blocks(&self)
         ensures { fips.AreRoundKeys (round_keys self.now) };
 
     /// No effect; states that Cipher and InvCipher under the value's round keys undo each other
     /// (FIPS 197, 5.3).
-    final fn has_inverse_ciphers(&self)
+    final fn ciphers_undo_each_other(&self)
         ensures inv_after { (b : List ℕ) → fips.IsBlock b
             → fips.inv_cipher_with (round_keys self.now)
             (fips.cipher_with (round_keys self.now) b) ≡ b }
@@ -25,7 +25,7 @@ pub trait RoundKeysUser {
             (fips.inv_cipher_with (round_keys self.now) b) ≡ b }
     {
         laws::inverse_ciphers_with();
-        self.has_round_keys();
+        self.round_keys_are_blocks();
     }
 
     /// A value has two round keys or more.

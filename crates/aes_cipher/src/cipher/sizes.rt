@@ -5,7 +5,8 @@ ghost use Rattle.std.proofs.Common.{refl};
 
 use super::round_keys::RoundKeysUser;
 
-/// A block: sixteen bytes, that of row `r` and column `c` at place `r + 4 * c` (FIPS 197, 3.4).
+/// A block of sixteen bytes. The byte of row `r` and column `c` is at place `r + 4 * c` (FIPS 197,
+/// 3.4).
 pub type Block = [u8; 16];
 
 /// A type that is made from a key.
@@ -35,7 +36,7 @@ pub trait BlockSizeUser {
     ghost sixteen: { BLOCK_SIZE ≡ 16 };
 }
 
-/// Round keys are blocks, so every type that has round keys works on blocks.
+/// Round keys are blocks. Therefore every type that has round keys works on blocks.
 impl<T: RoundKeysUser> BlockSizeUser for T {
     ghost BLOCK_SIZE = { 16 };
 

@@ -6,7 +6,7 @@ use super::wipe;
 use crate::cipher::Block;
 use aes_planes::soft::word::Word;
 
-/// What an array or a slice can be made of that is overwritten with zeros.
+/// An element of arrays and slices that can be overwritten with zeros.
 pub trait Element: Copy {
     /// The element whose bits are all 0.
     ghost ZERO: { Self };
@@ -15,7 +15,7 @@ pub trait Element: Copy {
     fn zero() -> Self
         ensures { result ≡ ZERO };
 
-    /// Returns some byte of the element. Nothing is claimed of it: it is read so that a compiler
+    /// Returns some byte of the element. No clause says which byte: it is read so that a compiler
     /// can't leave out writes.
     fn some_byte(self) -> u8;
 }

@@ -1,12 +1,12 @@
-//! Values that are dropped as zeros alone: whoever holds one has to wipe it first.
+//! Values that are dropped only as zeros. Their owner has to wipe them first.
 
 ghost use Rattle.std.specs.Prelude.{◌≡◌};
 
 use super::Zeroize;
 use std::marker::Model;
 
-/// A value whose drop requires that it is zero, so code that drops it without a wipe isn't proved.
-/// It is neither `Copy` nor `Clone`. Contracts see the value.
+/// A value whose drop requires that it is zero. The prover refuses code that drops it without a
+/// wipe. A `MustWipe` is neither `Copy` nor `Clone`. Contracts see the value.
 pub struct MustWipe<V: Zeroize> {
     value: V,
 }
@@ -21,7 +21,7 @@ impl<V: Zeroize> MustWipe<V> {
     ghost use Rattle.std.specs.Borrow.{sem};
     ghost use Rattle.aes_cipher.specs.Lends.{lends_must_wipe};
 
-    /// Takes a value.
+    /// Makes a `MustWipe` of a value.
     #[inline(always)]
     pub fn new(value: V) -> MustWipe<V>
         ensures { result ≡ value }

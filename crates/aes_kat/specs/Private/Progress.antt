@@ -3,8 +3,9 @@ use Rattle.std.specs.Prelude.{ℕ, List, ◌++◌, ◌≡◌, Bool, ◌||◌, Op
 use Rattle.std.specs.Io.KnownBytes.{Appends}
 use Rattle.aes_kat.specs.Answers.{answers_to, has_fault, BeginsWith}
 
--- Whatever comes next: `written` and the answers to `after` and it are the answers to `before` and it. The latter have a
--- fault if `fault` says so, or if the answers to `after` and it have one.
+-- For each text that comes next: the answers to `before` and that text are `written` and the
+-- answers to `after` and that text. The first answers have a fault exactly if `fault` says so or
+-- the others have one.
 pub record Answered (before after written : List ℕ) (fault : Bool) : Type 0 where
   pub answers : (next : List ℕ) → answers_to (before ++ next) ≡ written ++ answers_to (after ++ next)
   pub faults : (next : List ℕ) → has_fault (before ++ next) ≡ (fault || has_fault (after ++ next))
@@ -17,7 +18,7 @@ Gathers old new before after fault = (written : List ℕ) × (new ≡ old ++ wri
 abbrev pub Advances : Option (List ℕ) → Option (List ℕ) → List ℕ → List ℕ → Bool → Type 0
 Advances old new before after fault = (written : List ℕ) × Appends old new written × Answered before after written fault
 
--- the known bytes grew by a beginning of the answers to `before` and whatever comes next
+-- the known bytes grew by a beginning of the answers to `before` and any text after it
 abbrev pub StopsWithin : Option (List ℕ) → Option (List ℕ) → List ℕ → Type 0
 StopsWithin old new before =
     (front : List ℕ) × Appends old new front × ((next : List ℕ) → BeginsWith (answers_to (before ++ next)) front)

@@ -20,7 +20,7 @@ fn digits(alloc: Global, bytes: &[u8]) -> Result<String, Fail> {
     Ok(text)
 }
 
-// A line alone has its answer.
+// Checks that a line alone has its answer.
 fn answered<R: Abort + AllocGlobal>(rt: &R, line: &str, answer: &str) -> Result<(), Fail> {
     check(rt, &[(line, answer)], 0)
 }
@@ -62,7 +62,7 @@ fn reads_digits_of_either_case(rt: HostRuntime) -> Result<(), Fail> {
     check(&rt, &rows, 0)
 }
 
-// Appends `count` blocks in digits: the four from the first on, over and over.
+// Appends `count` blocks in digits: the four blocks, from the first on, again and again.
 fn push_blocks(text: &mut Vec<u8>, blocks: &[u128; 4], count: usize) -> Result<(), Fail> {
     for block in blocks.iter().cycle().take(count) {
         text.extend_from_slice(format!(in *text.allocator(); "{block:032x}")?.as_bytes())?;
@@ -150,7 +150,7 @@ fn makes_single_rounds(rt: HostRuntime) -> Result<(), Fail> {
     Ok(())
 }
 
-// The S-box turns 00 into 63, and equal columns stay as they are.
+// The S-box turns 00 into 63, and the other steps don't change blocks of equal bytes.
 #[test]
 fn makes_single_rounds_of_equal_bytes(rt: HostRuntime) -> Result<(), Fail> {
     let rows = [

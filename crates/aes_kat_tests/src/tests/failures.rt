@@ -1,4 +1,4 @@
-//! A run whose input, output or memory fails: it answers `Failed`, and what it wrote is a beginning
+//! A run whose input, output or memory fails. It answers `Failed`, and what it wrote is a beginning
 //! of the answers.
 use super::outside::{drip_of, nibble_of};
 use aes_kat::{run, run_in, status};
@@ -6,8 +6,8 @@ use bumpalo::Bump;
 use std::io::ErrorKind;
 use std::test::Fail;
 
-// Three lines that are answered, and a fault: FIPS 197, appendix C.1; equal columns stay under both
-// mixings.
+// Three lines that are answered, and a fault: FIPS 197, appendix C.1, and columns of equal bytes,
+// which neither mixing changes.
 const INPUT: &[u8] = b"mix 63636363636363636363636363636363\n\
     enc 000102030405060708090a0b0c0d0e0f 00112233445566778899aabbccddeeff\n\
     enc 00 00\ninvmix 63636363636363636363636363636363";
@@ -77,8 +77,8 @@ fn fails_where_the_flush_fails(rt: HostRuntime) -> Result<(), Fail> {
     Ok(())
 }
 
-// No clause says that the flush at the end is made: a writer that holds bytes back has given all of
-// them out.
+// No clause says that the run flushes at its end. This writer holds bytes back, and has then given
+// out all of them.
 #[test]
 fn flushes_all_that_was_written(rt: HostRuntime) -> Result<(), Fail> {
     let mut input = INPUT;
@@ -104,9 +104,9 @@ fn writes_answers_before_the_next_read(rt: HostRuntime) -> Result<(), Fail> {
 // The bytes that one read of a run needs: its first allocation.
 const FIRST_ALLOCATION: usize = 64 * 1024;
 
-// An arena of one chunk gives out no byte twice while a run lasts, so each allocation needs more of
-// it than all before: with one byte more left in it each time, every allocation of the run is
-// refused in turn, until none is.
+// An arena of one chunk gives out no byte twice during a run, so each allocation needs more of the
+// arena than all those before it. Each run here has one byte more. So every allocation is refused
+// in some run, until none is.
 #[test]
 fn stops_where_each_allocation_is_refused(rt: HostRuntime) -> Result<(), Fail> {
     let mut refused = 0usize;

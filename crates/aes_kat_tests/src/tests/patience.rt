@@ -1,4 +1,4 @@
-//! Long runs: no number of reads, of writes or of bytes makes a run fail, which no clause says.
+//! Long runs. No number of reads, of writes or of bytes makes a run fail, which no clause says.
 use super::outside::{drip_of, nibble_of};
 use aes_kat::{run, status};
 use std::alloc::Global;

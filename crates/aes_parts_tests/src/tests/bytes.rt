@@ -1,4 +1,5 @@
-//! What no clause says: that the calls on bytes answer, and that a long slice is what its blocks are.
+//! What no clause says: that the calls on bytes answer. Bytes of many blocks become what their
+//! blocks become.
 
 use super::cipher::calls::rest_of_the_example;
 use aes_cipher::bytes::{PartialBlock, blocks_and_bytes, decrypt_bytes, encrypt_bytes};

@@ -69,8 +69,8 @@ fn gates<W: Word>(a: W, b: W) -> [W; 4] {
 
 // A word shifted left and right by a row, and turned by one.
 fn moved<W: Word>(a: W) -> [W; 3] {
-    let n = W::ror_distance(1, 0);
-    [a.shift_left(n), a.shift_right(n), a.ror(n)]
+    let row = W::ror_distance(1, 0);
+    [a.shift_left(row), a.shift_right(row), a.ror(row)]
 }
 
 // Each word that is made of a constant.
@@ -113,7 +113,8 @@ fn there_and_back<W: Word>(block: Block) -> [Block; 2] {
     [block_of(&back), unpacked(&planes)]
 }
 
-// The planes of a batch that is zero but for bytes: a slot, a place in its block, and a value for each.
+// The planes of a batch that is zero but for bytes: a slot, a place in its block, and a value for
+// each.
 fn planes_of_bytes<W: Word>(bytes: &[(usize, usize, u8)]) -> [W; 8] {
     let mut blocks = W::Blocks::zero();
     for &(slot, place, value) in bytes {

@@ -1,4 +1,4 @@
-//! Single rounds on the standard's worked values; the ciphers stand in a file of their own.
+//! Single rounds on the standard's worked values. The ciphers have a file of their own.
 
 ghost use Rattle.std.specs.Prelude.{◌≡◌, ◌%◌};
 
@@ -49,8 +49,8 @@ fn around<W: Word>(start: Block) -> Block {
     state
 }
 
-// FIPS 197, appendix C.1, rounds 1 to 8 of the cipher. S of 0 is 0x63, and equal bytes stay as they are under the other
-// steps.
+// FIPS 197, appendix C.1, rounds 1 to 8 of the cipher. S of 0 is 0x63, and equal bytes stay as they
+// are under the other steps.
 #[test]
 fn makes_rounds_of_the_cipher(rt: HostRuntime) {
     for i in 0..8usize {
@@ -86,7 +86,7 @@ fn comes_back_around_under_the_zero_key(rt: HostRuntime) {
     assert!(rt; around::<u16>(start) == start);
 }
 
-// A round of each cipher on eight blocks at once, each under the round key of its own.
+// A round of each cipher on eight blocks at once, each under its own round key.
 fn rounds_at_once<W: Word>(start: [Block; 8], round_keys: &[Block; 8]) -> [[Block; 8]; 2]
     requires { 8 % W.BLOCKS ≡ 0 }
 {
@@ -97,7 +97,8 @@ fn rounds_at_once<W: Word>(start: [Block; 8], round_keys: &[Block; 8]) -> [[Bloc
     [forward, back]
 }
 
-// Against the single calls; the first block is that of FIPS 197, appendix C.1, round 1 of the cipher.
+// Against the single calls; the first block is that of FIPS 197, appendix C.1, round 1 of the
+// cipher.
 #[test]
 fn makes_eight_rounds_at_once(rt: HostRuntime) {
     let mut blocks = [[0u8; 16]; 8];

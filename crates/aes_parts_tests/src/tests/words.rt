@@ -1,4 +1,5 @@
-//! What is tried on every word, written over any word: so the words are shown to be words once, and not in every test.
+//! What is tried on every word, written for any word. So the words are proved to be words once, and
+//! not in every test.
 
 use aes_planes::soft::word::Word;
 use std::process::Abort;

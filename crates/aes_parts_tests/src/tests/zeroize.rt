@@ -1,4 +1,4 @@
-//! Words that are wiped, by themselves and in a wiped.
+//! Words that are wiped, alone and in a `Wiped`.
 
 use aes_cipher::zeroize::{
     MustWipe, Wiped, Zeroize, ZeroizeOnDrop, zeroize_elements, zeroize_words,
@@ -47,7 +47,7 @@ fn lets_go_of_what_was_wiped(rt: HostRuntime) {
     assert!(rt; *kept.value() == [0; 2]);
 }
 
-// Drops a value whose words are wiped by that.
+// Drops a value, which wipes its words.
 fn let_go_of<T: ZeroizeOnDrop + Drop>(_value: T) {}
 
 #[test]

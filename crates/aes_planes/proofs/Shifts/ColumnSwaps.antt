@@ -39,11 +39,11 @@ module _ {A : Type 0} {bits : A → List Bool} {n B R H Q N S : ℕ}
       reads p b ∙ (λ t. bit (get_or nibbles (row t) 0) (column t))
 
 -- f of whichever of three numbers two tests choose
-chosen : (b q : Bool) (f : ℕ → Bool) (u v x : ℕ)
+value_of_choice : (b q : Bool) (f : ℕ → Bool) (u v x : ℕ)
     → cond b (f u) (cond q (f v) (f x)) ≡ f (cond b u (cond q v x))
-chosen true q f u v x = refl
-chosen false true f u v x = refl
-chosen false false f u v x = refl
+value_of_choice true q f u v x = refl
+value_of_choice false true f u v x = refl
+value_of_choice false false f u v x = refl
 
 -- what a mask lets through, where two bits are the same under it
 let_through : (p q m : Bool) → (m ≡ true → p ≡ q) → (p && m) ≡ (q && m)
@@ -142,7 +142,7 @@ module _ (d : ℕ) (nibbles : List ℕ) (ok : (r c : ℕ) → r < 4 → c < 4
     swapped_rc r c h l dl =
         (λ t. xor (xor (own r c) (moved_at r c h l t)) (moved_up r c h l dl (cases_lt c d) t))
         ∙ swapped (own r c) (own r (c + d)) (own r (c - d)) (named r c) _ (apart r c h l)
-        ∙ chosen (named r c) (nat_le d c && named r (c - d)) (own r) (c + d) (c - d) c
+        ∙ value_of_choice (named r c) (nat_le d c && named r (c - d)) (own r) (c + d) (c - d) c
 
 -- ---- eight words
 

@@ -31,9 +31,9 @@ add_twice a b = xor_assoc a b b ∙ ap (field_add a) (xor_self b) ∙ xor_zero_r
 -- ---- products of bytes
 
 -- the term of a bit: that of a sum of two bits is the sum of theirs
-chosen : (a p q : ℕ) → p < 2 → q < 2 → (if bit_xor p q == 1 then a else 0)
+bit_term_add : (a p q : ℕ) → p < 2 → q < 2 → (if bit_xor p q == 1 then a else 0)
     ≡ field_add (if p == 1 then a else 0) (if q == 1 then a else 0)
-chosen a = by_pairs _ (sym (xor_zero_r 0)) (sym (xor_zero_l a)) (sym (xor_zero_r a))
+bit_term_add a = by_pairs _ (sym (xor_zero_r 0)) (sym (xor_zero_l a)) (sym (xor_zero_r a))
     (sym (xor_self a))
 
 -- a product is linear in its second factor
@@ -45,7 +45,8 @@ low_product_add (suc n) a b c =
     let p : bit_xor b c % 2 ≡ bit_xor (b % 2) (c % 2) = xor_mod b c 1 in
     let q : bit_xor b c / 2 ≡ bit_xor (b / 2) (c / 2) = xor_shr b c 1 in
     (λ i. field_add (if p i == 1 then a else 0) (low_product n (xtime a) (q i)))
-    ∙ (λ i. field_add (chosen a (b % 2) (c % 2) (mod-lt b (omega arith)) (mod-lt c (omega arith)) i)
+    ∙ (λ i. field_add (bit_term_add a (b % 2) (c % 2) (mod-lt b (omega arith))
+    (mod-lt c (omega arith)) i)
     (low_product_add n (xtime a) (b / 2) (c / 2) i))
     ∙ add_swap (if b % 2 == 1 then a else 0) (if c % 2 == 1 then a else 0)
     (low_product n (xtime a) (b / 2))

@@ -137,7 +137,8 @@ module _ {n w : ℕ} {lane : ℕ → ℕ} (laws : IsLayout n w lane) where
       ∙ ap (λ o. lane_from x o source) start)
       ∙ read x i k (16 * (j / 16)) source some there none
 
-  -- ---- rotations and shifts by bits, of those by bytes: in each lane the high bits of a, and then the low ones of b
+  -- ---- rotations and shifts by bits, made of those by bytes
+  -- (in each lane are the high bits of a, and then the low bits of b)
 
   -- lanes that are joined of two parts are right if each of the two is
   funnel : (p q : ℕ) (a b : List ℕ) (f : ℕ → Bool) → p + q ≡ 8 → length a ≡ n → length b ≡ n
@@ -164,23 +165,25 @@ module _ {n w : ℕ} {lane : ℕ → ℕ} (laws : IsLayout n w lane) where
       → Each1 (Fits w8) a
       → Turned w x (laid w lane a) (8 * (m / 8)) → Turned w x (laid w lane b) (8 * (m / 8 + 1))
       → Turned w x (laid w lane (funneled n (m % 8) (8 - m % 8) a b)) m
-  rotated x a b m d e f t u =
+  rotated x a b m a_long b_long a_fits a_is b_is =
       let size : w ≡ 8 * n = laws.sized in
-      funnel (m % 8) (8 - m % 8) a b _ (omega arith) d e f
-      (λ i l s. t (i + m % 8) (omega (arith, size, s, l)) ∙ ap (λ v. at x (v % w)) (omega arith))
-      (λ i l s. u (i - (8 - m % 8)) (omega (arith, l)) ∙ ap (λ v. at x (v % w)) (omega (arith, s)))
+      funnel (m % 8) (8 - m % 8) a b _ (omega arith) a_long b_long a_fits
+      (λ i l s. a_is (i + m % 8) (omega (arith, size, s, l))
+      ∙ ap (λ v. at x (v % w)) (omega arith))
+      (λ i l s. b_is (i - (8 - m % 8)) (omega (arith, l))
+      ∙ ap (λ v. at x (v % w)) (omega (arith, s)))
 
   -- shifts to the right
   pub shifted_right : (x : List Bool) (a b : List ℕ) (m : ℕ) → length a ≡ n → length b ≡ n
       → Each1 (Fits w8) a
       → Right w x (laid w lane a) (8 * (m / 8)) → Right w x (laid w lane b) (8 * (m / 8 + 1))
       → Right w x (laid w lane (funneled n (m % 8) (8 - m % 8) a b)) m
-  shifted_right x a b m d e f t u =
+  shifted_right x a b m a_long b_long a_fits a_is b_is =
       let size : w ≡ 8 * n = laws.sized in
-      funnel (m % 8) (8 - m % 8) a b _ (omega arith) d e f
-      (λ i l s. t (i + m % 8) (omega (arith, size, s, l))
+      funnel (m % 8) (8 - m % 8) a b _ (omega arith) a_long b_long a_fits
+      (λ i l s. a_is (i + m % 8) (omega (arith, size, s, l))
       ∙ ap (λ v. nat_lt v w && at x v) (omega arith))
-      (λ i l s. u (i - (8 - m % 8)) (omega (arith, l))
+      (λ i l s. b_is (i - (8 - m % 8)) (omega (arith, l))
       ∙ ap (λ v. nat_lt v w && at x v) (omega (arith, s)))
 
   -- shifts to the left
@@ -188,10 +191,10 @@ module _ {n w : ℕ} {lane : ℕ → ℕ} (laws : IsLayout n w lane) where
       → Each1 (Fits w8) a
       → Left w x (laid w lane a) (8 * (m / 8 + 1)) → Left w x (laid w lane b) (8 * (m / 8))
       → Left w x (laid w lane (funneled n (8 - m % 8) (m % 8) a b)) m
-  shifted_left x a b m d e f t u =
+  shifted_left x a b m a_long b_long a_fits a_is b_is =
       let size : w ≡ 8 * n = laws.sized in
-      funnel (8 - m % 8) (m % 8) a b _ (omega arith) d e f
-      (λ i l s. t (i + (8 - m % 8)) (omega (arith, size, s, l))
+      funnel (8 - m % 8) (m % 8) a b _ (omega arith) a_long b_long a_fits
+      (λ i l s. a_is (i + (8 - m % 8)) (omega (arith, size, s, l))
       ∙ left_by x (8 * (m / 8 + 1)) m (i + (8 - m % 8)) i (omega arith))
-      (λ i l s. u (i - m % 8) (omega (arith, l))
+      (λ i l s. b_is (i - m % 8) (omega (arith, l))
       ∙ left_by x (8 * (m / 8)) m (i - m % 8) i (omega (arith, s)))

@@ -120,8 +120,9 @@ pub rotate_part : (x a b : List ℕ) (n : ℕ) → length a ≡ 16 → length b 
     → Turned 128 (lane_bits x) (lane_bits a) (8 * (n / 8))
     → Turned 128 (lane_bits x) (lane_bits b) (8 * ((n / 8 + 1) % 16))
     → Turned 128 (lane_bits x) (lane_bits (funneled 16 (n % 8) (8 - n % 8) a b)) n
-rotate_part x a b n d e f t u =
-    rotated narrow (lane_bits x) a b n d e f t (λ i l. u i l ∙ ap (at (lane_bits x)) (omega arith))
+rotate_part x a b n a_long b_long a_fits a_is b_is =
+    rotated narrow (lane_bits x) a b n a_long b_long a_fits a_is
+    (λ i l. b_is i l ∙ ap (at (lane_bits x)) (omega arith))
 
 pub ruleset rotate_calls = (rotate_whole, rotate_part)
 

@@ -56,21 +56,21 @@ shift_left_whole w x y n z t i l =
 -- a shift right by n bits, and then by eight, is one by m
 pub right_again : (w : ℕ) (x y z : List Bool) (n m : ℕ) → Right w x y n → Right w y z 8 → m ≡ n + 8
     → Right w x z m
-right_again w x y z n m t u e i l = u i l ∙ elim (cases_lt (i + 8) w) [
+right_again w x y z n m y_is z_is m_is i l = z_is i l ∙ elim (cases_lt (i + 8) w) [
   | inl lt ↦
-      let place : i + 8 + n ≡ i + m = omega (arith, e) in
-      ap (λ b. b && at y (i + 8)) (lt-ltb (i + 8) w lt) ∙ t (i + 8) lt
+      let place : i + 8 + n ≡ i + m = omega (arith, m_is) in
+      ap (λ b. b && at y (i + 8)) (lt-ltb (i + 8) w lt) ∙ y_is (i + 8) lt
       ∙ ap (λ v. nat_lt v w && at x v) place
   | inr le ↦ ap (λ b. b && at y (i + 8)) (le-ltb (i + 8) w le)
-      ∙ ap (λ c. c && at x (i + m)) (sym (le-ltb (i + m) w (omega (arith, e, le))))
+      ∙ ap (λ c. c && at x (i + m)) (sym (le-ltb (i + m) w (omega (arith, m_is, le))))
 ]
 
 -- a shift left by n bits, and then by eight, is one by m
 pub left_again : (w : ℕ) (x y z : List Bool) (n m : ℕ) → Left w x y n → Left w y z 8 → m ≡ n + 8
     → Left w x z m
-left_again w x y z n m t u e i l = u i l ∙ elim (cases_lt i 8) [
+left_again w x y z n m y_is z_is m_is i l = z_is i l ∙ elim (cases_lt i 8) [
   | inl lt ↦ ap (λ b. b && at y (i - 8)) (lt-leb 8 i lt)
-      ∙ ap (λ c. c && at x (i - m)) (sym (lt-leb m i (omega (arith, e, lt))))
-  | inr le ↦ ap (λ b. b && at y (i - 8)) (le-leb 8 i le) ∙ t (i - 8) (omega (arith, l))
-      ∙ left_by x n m (i - 8) i (omega (arith, e, le))
+      ∙ ap (λ c. c && at x (i - m)) (sym (lt-leb m i (omega (arith, m_is, lt))))
+  | inr le ↦ ap (λ b. b && at y (i - 8)) (le-leb 8 i le) ∙ y_is (i - 8) (omega (arith, l))
+      ∙ left_by x n m (i - 8) i (omega (arith, m_is, le))
 ]

@@ -170,11 +170,13 @@ one_packed planes block lp typed turned =
 pub word_to_four : (f : ℕ → ℕ) (bs : List ℕ) (x : ℕ) → bs ≡ to_le_bytes w32 x
     → f 0 ≡ get_or bs 0 0 → f 1 ≡ get_or bs 1 0 → f 2 ≡ get_or bs 2 0 → f 3 ≡ get_or bs 3 0
     → (j p : ℕ) → j < 4 → p < 8 → bit (f j) p ≡ at (word_bits 32 x) (8 * j + p)
-word_to_four f bs x e a b c d j p hj hp = by_four (λ j. bit (f j) p ≡ bit x (8 * j + p))
-    ((λ t. bit ((a ∙ ap (λ v. get_or v 0 0) e) t) p) ∙ bit_low x 8 p hp ∙ ap (bit x) (omega arith))
-    ((λ t. bit ((b ∙ ap (λ v. get_or v 1 0) e) t) p) ∙ field_bit x 8 8 p hp)
-    ((λ t. bit ((c ∙ ap (λ v. get_or v 2 0) e) t) p) ∙ field_bit x 16 8 p hp)
-    ((λ t. bit ((d ∙ ap (λ v. get_or v 3 0) e) t) p) ∙ field_bit x 24 8 p hp) j hj
+word_to_four f bs x bytes_are first second third fourth j p hj hp =
+    by_four (λ j. bit (f j) p ≡ bit x (8 * j + p))
+    ((λ t. bit ((first ∙ ap (λ v. get_or v 0 0) bytes_are) t) p) ∙ bit_low x 8 p hp
+    ∙ ap (bit x) (omega arith))
+    ((λ t. bit ((second ∙ ap (λ v. get_or v 1 0) bytes_are) t) p) ∙ field_bit x 8 8 p hp)
+    ((λ t. bit ((third ∙ ap (λ v. get_or v 2 0) bytes_are) t) p) ∙ field_bit x 16 8 p hp)
+    ((λ t. bit ((fourth ∙ ap (λ v. get_or v 3 0) bytes_are) t) p) ∙ field_bit x 24 8 p hp) j hj
     ∙ reads 32 x (8 * j + p) (omega arith)
 
 -- four bytes that make a word of 32 bits have the word's bits, eight each from the lowest on

@@ -152,12 +152,13 @@ abbrev pub one_or_none : Bool → ℕ
 one_or_none b = cond b 255 0
 
 -- a lane of all ones or all zeros for each of sixteen bits
-abbrev chosen : List Bool → List ℕ
-chosen ms = sel_l ms (replicate 16 255) (replicate 16 0)
+abbrev lanes_by_bits : List Bool → List ℕ
+lanes_by_bits ms = sel_l ms (replicate 16 255) (replicate 16 0)
 
 -- lanes of ones where those of x have all bits of those of m
 abbrev ones_where : List ℕ → List ℕ → List ℕ
-ones_where x m = chosen (map (top 7) (zip2 (λ a b. cond (nat_eq a b) 255 0) (zip2 bit_and x m) m))
+ones_where x m =
+    lanes_by_bits (map (top 7) (zip2 (λ a b. cond (nat_eq a b) 255 0) (zip2 bit_and x m) m))
 
 -- where lane j of m has bit p alone, lane j is ones or zeros by bit p of that of x
 pub lane_with : (x m : List ℕ) (j p : ℕ) → length x ≡ 16 → length m ≡ 16 → Each1 (Fits w8) x
@@ -168,7 +169,7 @@ lane_with x m j p d e f hj hp is =
     let tests : List Bool = zip2 nat_eq kept m in
     let long : length kept ≡ 16 = length-zip2 bit_and x m (d ∙ sym e) ∙ d in
     let whole : length tests ≡ 16 = length-zip2 nat_eq kept m (long ∙ sym e) ∙ long in
-    ap (λ v. get_or (chosen v) j 0) (tops_compared w8 nat_eq kept m)
+    ap (λ v. get_or (lanes_by_bits v) j 0) (tops_compared w8 nat_eq kept m)
     ∙ get_or-sel_l tests (replicate 16 255) (replicate 16 0) j 0 (omega (arith, whole)) hj hj
     ∙ (λ i. cond (get_or tests j false) (get_or-replicate {A = ℕ} 16 j 255 0 hj i)
     (get_or-replicate {A = ℕ} 16 j 0 0 hj i))

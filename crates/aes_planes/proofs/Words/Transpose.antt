@@ -27,18 +27,20 @@ chooses b =
     && same (xor (at b 0) (xor (at b 1) (at b 0) && at b 2)) (cond (at b 2) (at b 1) (at b 0))
 
 -- a bit that differs is flipped exactly where the mask says so
-chosen : (a b k : Bool) → (xor a (xor a b && k) ≡ cond k b a) × (xor a (xor b a && k) ≡ cond k b a)
+flipped_by_mask : (a b k : Bool)
+    → (xor a (xor a b && k) ≡ cond k b a) × (xor a (xor b a && k) ≡ cond k b a)
 unfolding all_bools chooses same
-chosen a b k =
+flipped_by_mask a b k =
     let t = and_parts _ _ (all_bools_tells 3 chooses refl (a ∷ b ∷ k ∷ []) refl) in
     (same_tells _ _ t.0, same_tells _ _ t.1)
 
 -- a bit that differs from one that may come from below the lowest place is flipped where the mask
 -- says so
-chosen_if : (a b c l k : Bool) → (l ≡ true → c ≡ a)
+flipped_by_mask_if : (a b c l k : Bool) → (l ≡ true → c ≡ a)
     → xor a (l && (xor b c && k)) ≡ cond (l && k) b a
-chosen_if a b c true k e = ap (λ c. xor a (xor b c && k)) (e refl) ∙ (chosen a b k).1
-chosen_if a b c false k e = xor_false a
+flipped_by_mask_if a b c true k e = ap (λ c. xor a (xor b c && k)) (e refl)
+    ∙ (flipped_by_mask a b k).1
+flipped_by_mask_if a b c false k e = xor_false a
 
 -- the bits of high under the mask m that differ from those of low s places up
 abbrev pub differing : ℕ → ℕ → ℕ → ℕ → ℕ
@@ -56,7 +58,7 @@ exchanged_high : (s m low high i : ℕ) → bit (bit_xor high (differing s m low
     ≡ cond (bit m i) (bit low (i + s)) (bit high i)
 exchanged_high s m low high i = bit_of_xor high (differing s m low high) i
     ∙ ap (xor (bit high i)) (differing_bit s m low high i)
-    ∙ (chosen (bit high i) (bit low (i + s)) (bit m i)).0
+    ∙ (flipped_by_mask (bit high i) (bit low (i + s)) (bit m i)).0
 
 -- the lower number takes its bits under the mask from the upper one
 exchanged_low : (w s m low high i : ℕ) → i < w
@@ -65,7 +67,8 @@ exchanged_low : (w s m low high i : ℕ) → i < w
 exchanged_low w s m low high i h = bit_of_xor low (differing s m low high * 2 ^ s % 2 ^ w) i
     ∙ ap (xor (bit low i)) (bit_shl w (differing s m low high) s i h
     ∙ ap (λ b. nat_le s i && b) (differing_bit s m low high (i - s)))
-    ∙ chosen_if (bit low i) (bit high (i - s)) (bit low (i - s + s)) (nat_le s i) (bit m (i - s))
+    ∙ flipped_by_mask_if (bit low i) (bit high (i - s)) (bit low (i - s + s)) (nat_le s i)
+    (bit m (i - s))
     (λ e. let le : s ≤ i = leb-true s i e in ap (bit low) (omega (arith, le)))
 
 -- ---- the same in each lane, under a byte that shifts none of its bits out of a lane

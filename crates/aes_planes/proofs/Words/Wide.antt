@@ -183,7 +183,8 @@ rotate_even x y b z t i l = t i l ∙ ap (at x) (omega arith)
 -- a rotation by an odd number of bytes is one by pairs and one byte more
 pub rotate_odd : (x y z : List Bool) (b : ℕ) → b % 2 ≡ 1 → Turned 256 x y (16 * (b / 2))
     → Turned 256 y z 8 → Turned 256 x z (8 * b)
-rotate_odd x y z b h t u i l = u i l ∙ t ((i + 8) % 256) (omega arith) ∙ ap (at x) (omega arith)
+rotate_odd x y z b odd y_is z_is i l =
+    z_is i l ∙ y_is ((i + 8) % 256) (omega arith) ∙ ap (at x) (omega arith)
 
 pub ruleset rotate_bytes_calls = (rotate_even, rotate_odd)
 
@@ -195,7 +196,8 @@ right_even x y b z t i l = t i l ∙ ap (λ v. nat_lt v 256 && at x v) (omega ar
 -- a shift to the right by an odd number of bytes is one by pairs and one byte more
 pub right_odd : (x y z : List Bool) (b : ℕ) → b % 2 ≡ 1 → Right 256 x y (16 * (b / 2))
     → Right 256 y z 8 → Right 256 x z (8 * b)
-right_odd x y z b h t u = right_again 256 x y z (16 * (b / 2)) (8 * b) t u (omega (arith, h))
+right_odd x y z b odd y_is z_is =
+    right_again 256 x y z (16 * (b / 2)) (8 * b) y_is z_is (omega (arith, odd))
 
 pub ruleset bytes_right_calls = (right_even, right_odd)
 
@@ -209,7 +211,8 @@ left_even x y b z t i l =
 -- a shift to the left by an odd number of bytes is one by pairs and one byte more
 pub left_odd : (x y z : List Bool) (b : ℕ) → b % 2 ≡ 1 → Left 256 x y (16 * (b / 2))
     → Left 256 y z 8 → Left 256 x z (8 * b)
-left_odd x y z b h t u = left_again 256 x y z (16 * (b / 2)) (8 * b) t u (omega (arith, h))
+left_odd x y z b odd y_is z_is =
+    left_again 256 x y z (16 * (b / 2)) (8 * b) y_is z_is (omega (arith, odd))
 
 pub ruleset bytes_left_calls = (left_even, left_odd)
 
@@ -220,8 +223,9 @@ pub rotate_part : (x a b : List ℕ) (n : ℕ) → length a ≡ 32 → length b 
     → Turned 256 (wide_bits x) (wide_bits a) (8 * (n / 8))
     → Turned 256 (wide_bits a) (wide_bits b) 8
     → Turned 256 (wide_bits x) (wide_bits (funneled 32 (n % 8) (8 - n % 8) a b)) n
-rotate_part x a b n d e f t u = rotated wide (wide_bits x) a b n d e f t (λ i l.
-    u i l ∙ t ((i + 8) % 256) (omega arith) ∙ ap (at (wide_bits x)) (omega arith))
+rotate_part x a b n a_long b_long a_fits a_is b_is =
+    rotated wide (wide_bits x) a b n a_long b_long a_fits a_is (λ i l.
+    b_is i l ∙ a_is ((i + 8) % 256) (omega arith) ∙ ap (at (wide_bits x)) (omega arith))
 
 pub ruleset rotate_calls = (rotate_whole, rotate_part)
 
@@ -229,9 +233,10 @@ pub ruleset rotate_calls = (rotate_whole, rotate_part)
 pub shift_right_part : (x a b : List ℕ) (n : ℕ) → length a ≡ 32 → length b ≡ 32 → Each1 (Fits w8) a
     → Right 256 (wide_bits x) (wide_bits a) (8 * (n / 8)) → Right 256 (wide_bits a) (wide_bits b) 8
     → Right 256 (wide_bits x) (wide_bits (funneled 32 (n % 8) (8 - n % 8) a b)) n
-shift_right_part x a b n d e f t u = shifted_right wide (wide_bits x) a b n d e f t
-    (right_again 256 (wide_bits x) (wide_bits a) (wide_bits b) (8 * (n / 8)) (8 * (n / 8 + 1)) t u
-    (omega arith))
+shift_right_part x a b n a_long b_long a_fits a_is b_is =
+    shifted_right wide (wide_bits x) a b n a_long b_long a_fits a_is
+    (right_again 256 (wide_bits x) (wide_bits a) (wide_bits b) (8 * (n / 8)) (8 * (n / 8 + 1))
+    a_is b_is (omega arith))
 
 pub ruleset shift_right_calls = (shift_right_whole, shift_right_part)
 
@@ -239,9 +244,10 @@ pub ruleset shift_right_calls = (shift_right_whole, shift_right_part)
 pub shift_left_part : (x a b : List ℕ) (n : ℕ) → length a ≡ 32 → length b ≡ 32 → Each1 (Fits w8) b
     → Left 256 (wide_bits x) (wide_bits a) (8 * (n / 8)) → Left 256 (wide_bits a) (wide_bits b) 8
     → Left 256 (wide_bits x) (wide_bits (funneled 32 (8 - n % 8) (n % 8) b a)) n
-shift_left_part x a b n d e f t u = shifted_left wide (wide_bits x) b a n e d f
-    (left_again 256 (wide_bits x) (wide_bits a) (wide_bits b) (8 * (n / 8)) (8 * (n / 8 + 1)) t u
-    (omega arith)) t
+shift_left_part x a b n a_long b_long b_fits a_is b_is =
+    shifted_left wide (wide_bits x) b a n b_long a_long b_fits
+    (left_again 256 (wide_bits x) (wide_bits a) (wide_bits b) (8 * (n / 8)) (8 * (n / 8 + 1))
+    a_is b_is (omega arith)) a_is
 
 pub ruleset shift_left_calls = (shift_left_whole, shift_left_part)
 

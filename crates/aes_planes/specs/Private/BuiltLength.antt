@@ -1,5 +1,6 @@
--- How long a list is that is built of a function, and the shape of words whose bits are built: the one proof among the
--- definitions, since the law of an implementation may cite no file of proofs of its own crate.
+-- How long a list is that is built of a function, and the shape of words whose bits are built: the
+-- one proof among the definitions, since the law of an implementation may cite no file of proofs of
+-- its own crate.
 use Rattle.std.proofs.Common.{◌≡◌, ℕ, zero, suc, ◌+◌, ◌*◌, ◌≤◌, Bool, length, refl, ap}
 use Rattle.aes_planes.specs.Bits.{IsShape}
 use Rattle.aes_planes.specs.Fips197.{build, build_from}

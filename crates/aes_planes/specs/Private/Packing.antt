@@ -1,9 +1,11 @@
--- Packing: the exchanges of bits between eight words that turn them over the diagonal, and blocks row by row.
+-- Packing: the exchanges of bits between eight words that turn them over the diagonal, and blocks
+-- row by row.
 use Rattle.std.specs.Prelude.{ℕ, ◌+◌, ◌-◌, ◌*◌, ◌/◌, ◌%◌, Bool, cond, ◌&&◌, nat_le, nat_lt, List}
 use Rattle.aes_planes.specs.Bits.{bit}
 use Rattle.aes_planes.specs.Fips197 as fips
 
--- whether bit r of word w is exchanged: the four lower words of pairs come first, then the upper ones
+-- whether bit r of word w is exchanged: the four lower words of pairs come first, then the upper
+-- ones
 abbrev pub is_exchanged : ℕ → ℕ → ℕ → ℕ → Bool
 is_exchanged s m w r = cond (nat_lt w 4) (nat_le s r && bit m (r - s)) (bit m r)
 

@@ -1,5 +1,5 @@
 //! What a key schedule does to columns: the round constant, sums from left to right, and round keys
-//! that straddle two.
+//! that are made of halves of two others.
 
 ghost use Rattle.std.specs.Prelude.{◌≡◌, ℕ, cond, nat_lt, ◌+◌, ◌-◌, ◌*◌, ◌%◌, ◌^◌, ◌<◌, ◌≤◌, ◌⊎◌};
 ghost use Rattle.std.specs.Prelude.{length, map, slice_index_or};
@@ -35,11 +35,11 @@ pub fn add_round_constant<W: Word>(state: &mut [W; 8], constant: u8)
     *state = W::sum_planes(state, &W::constant_planes(constant));
 }
 
-/// Puts sums of columns in the place of the eight words at `offset`: a round key, where they hold
-/// the substituted last one (FIPS 197, 5.2).
+/// Replaces the eight words at `offset` by sums of columns. If they hold the last round key after
+/// SubBytes, they then hold the next round key (FIPS 197, 5.2).
 ///
-/// Column `c` becomes the sum of columns 0 to `c` of the round key `idx_xor` words earlier and of
-/// one byte for each row: the one that a rotation of the words at `offset` by `idx_ror` brings to
+/// Column `c` becomes the sum of columns 0 to `c` of the round key `idx_xor` words earlier, plus
+/// one byte for each row. A rotation of the words at `offset` by `idx_ror` brings that byte to
 /// column 0. The other words stay.
 #[inline(always)]
 pub fn xor_columns<W: Word>(round_keys: &mut [W], offset: usize, idx_xor: usize, idx_ror: u32)

@@ -8,7 +8,7 @@ ghost use Rattle.aes_planes.specs.Private.Swaps.{swapped_bit, is_swap_at, column
 
 use crate::soft::word::Word;
 
-// Swaps the bits under the mask with those so far above them.
+// Swaps the bits under the mask with those `shift` places above them.
 #[inline(always)]
 fn delta_swap_1<W: Word>(x: W, shift: u32, mask: W) -> W
     requires below_bits { shift < W.BITS }
@@ -22,7 +22,8 @@ fn delta_swap_1<W: Word>(x: W, shift: u32, mask: W) -> W
     low.bit_xor(up)
 }
 
-// Swaps in every plane the columns that the mask names in each row with those so far on.
+// Swaps in every plane the columns that the mask names in each row with the columns `shift` places
+// above.
 #[inline(always)]
 fn swap_columns<W: Word>(state: &mut [W; 8], shift: u32, mask: W)
     requires below_bits { shift < W.BITS }

@@ -1,4 +1,4 @@
-//! All rounds, one after the other, in either direction, on blocks that go through them together.
+//! All rounds, one after the other, in either direction, on blocks that are processed together.
 
 ghost use Rattle.std.specs.Prelude.{◌≡◌, ◌≤◌, length};
 ghost use Rattle.aes_planes.specs.Each.{Each};
@@ -51,7 +51,7 @@ fn apply_rounds<D: SingleRounds>(blocks: &mut [Block], round_keys: &[Block])
 fn last_step<D: SingleRounds>(blocks: &mut [Block])
     ensures { Each D.last_step blocks.old blocks.new }
 {
-    D::is_unmixed();
+    D::unmixed_round_is_last();
     round::<D>(blocks, &ZERO_KEY);
     unmix::<D>(blocks);
 }

@@ -33,7 +33,7 @@ impl<const RK: usize> AesEnc<RK> {
         ensures { ⟦<Aes<RK> as RoundKeysUser>⟧.round_keys result
             ≡ ⟦<AesEnc<RK> as RoundKeysUser>⟧.round_keys self.now }
     {
-        Aes::of(&self.round_keys)
+        Aes::with_round_keys(&self.round_keys)
     }
 
     /// Returns the inverse cipher under the same round keys.
@@ -42,7 +42,7 @@ impl<const RK: usize> AesEnc<RK> {
             ≡ ⟦<AesEnc<RK> as RoundKeysUser>⟧.round_keys
             self.now }
     {
-        AesDec::of(&self.round_keys)
+        AesDec::with_round_keys(&self.round_keys)
     }
 }
 
@@ -51,8 +51,8 @@ impl<const RK: usize> NotClone for AesEnc<RK> {}
 impl<const RK: usize> RoundKeysUser for AesEnc<RK> {
     ghost round_keys = { λ cipher. cipher.round_keys };
 
-    fn has_round_keys(&self) {
-        laws::are_blocks(&self.round_keys);
+    fn round_keys_are_blocks(&self) {
+        laws::blocks_have_16_bytes(&self.round_keys);
     }
 
     ghost two_round_keys = { λ cipher. cipher.two_round_keys };

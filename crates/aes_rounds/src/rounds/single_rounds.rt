@@ -29,9 +29,9 @@ pub(super) trait SingleRounds: Direction {
     fn unmix(block: &mut Block)
         ensures { block.new ≡ unmixed block.old };
 
-    // No effect; states that a round under the zero key is the last round once its column mixing is
-    // undone.
-    fn is_unmixed()
+    // No effect; states that a round under the zero key, with its column mixing undone, is the last
+    // round.
+    fn unmixed_round_is_last()
         ensures { (b : List ℕ) → unmixed (fips.add_round_key (Self.step b) (replicate 16 0))
             ≡ Self.last_step b };
 }
@@ -53,7 +53,7 @@ impl SingleRounds for Encrypt {
     }
 
     #[tactic(auto, using(aes::proofs::SingleRounds::mixing_undone))]
-    fn is_unmixed() {}
+    fn unmixed_round_is_last() {}
 }
 
 // EqInvCipher (FIPS 197, 5.3.5).
@@ -73,5 +73,5 @@ impl SingleRounds for Decrypt {
     }
 
     #[tactic(auto, using(aes::proofs::SingleRounds::inverse_mixing_undone))]
-    fn is_unmixed() {}
+    fn unmixed_round_is_last() {}
 }

@@ -18,7 +18,7 @@ use std::marker::PhantomData;
 use std::slice;
 
 /// Works round by round, under a list of RK round keys in the standard's order. The directions D
-/// are both, or decryption alone.
+/// are both, or only decryption.
 pub struct WithInverse<const RK: usize, D> {
     round_keys: [Block; RK],
     inverted_keys: [Block; RK],
@@ -51,11 +51,11 @@ impl<const RK: usize, D> WithInverse<RK, D> {
         requires { (RK ≡ 11) ⊎ (RK ≡ 13) ⊎ (RK ≡ 15) }
         ensures { ⟦<WithInverse<RK, D> as RoundKeysUser>⟧.round_keys result ≡ round_keys.now }
     {
-        WithInverse::of(round_keys)
+        WithInverse::with_round_keys(round_keys)
     }
 
     // Keeps the round keys, and computes the inverted ones.
-    pub(super) fn of(round_keys: &[Block; RK]) -> WithInverse<RK, D>
+    pub(super) fn with_round_keys(round_keys: &[Block; RK]) -> WithInverse<RK, D>
         requires { 2 ≤ RK }
         ensures { ⟦<WithInverse<RK, D> as RoundKeysUser>⟧.round_keys result ≡ round_keys.now }
     {
@@ -79,8 +79,8 @@ impl<const RK: usize, D> WithInverse<RK, D> {
 impl<const RK: usize, D> RoundKeysUser for WithInverse<RK, D> {
     ghost round_keys = { λ cipher. cipher.round_keys };
 
-    fn has_round_keys(&self) {
-        laws::are_blocks(&self.round_keys);
+    fn round_keys_are_blocks(&self) {
+        laws::blocks_have_16_bytes(&self.round_keys);
     }
 
     ghost two_round_keys = { λ cipher. cipher.two_round_keys };

@@ -1,9 +1,11 @@
 //! Blocks under stored round keys: slices of them, single ones, and backends.
 
 pub(crate) mod backend;
+mod filled_up;
 mod slices;
 
 pub use backend::{Backend, decrypt_with_backend, encrypt_with_backend};
+pub use filled_up::process_filled_up;
 pub use slices::{
     process_batch_under, process_batches_under, process_block_under, process_blocks_under,
 };

@@ -7,4 +7,4 @@ mod rounds;
 
 pub use layouts::{Compact, Full, Layout};
 pub use planes::PlaneCipher;
-pub(crate) use planes::{process, process_in_a_call};
+pub(crate) use planes::{process, process_outlined};

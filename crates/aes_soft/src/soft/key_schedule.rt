@@ -11,9 +11,9 @@ use aes_planes::expansion::expand;
 use aes_planes::soft::sbox::Layers;
 use aes_planes::soft::word::Word;
 
-/// Writes the round keys of a key to words, as a layout stores them: KeyExpansion (FIPS 197, 5.2),
-/// each in every slot, with the ShiftRows that the ciphers defer and 0x63 that `sub_bytes` leaves
-/// out. No other copy is made.
+/// Writes the round keys of a key to words, as a layout stores them: KeyExpansion (FIPS 197, 5.2).
+/// Each is in every slot. It allows for the ShiftRows that the ciphers defer, and contains the 0x63
+/// that `sub_bytes` leaves out. No other copy is made.
 #[inline(always)]
 pub fn expand_stored<W: Word, L: Layout>(round_keys: &mut [W], key: &[u8], layers: &mut Layers)
     requires one_of_three { (length key.now ≡ 16)

@@ -19,7 +19,7 @@ pub type PlaneRoom = [u16; 120];
 
 /// Returns the stored round keys of a key: the first of the words.
 #[inline(always)]
-pub fn words_in_room<K: KeySize>(room: &Wiped<PlaneRoom>) -> &[u16]
+pub fn keys_in_room<K: KeySize>(room: &Wiped<PlaneRoom>) -> &[u16]
     ensures words { result.now ≡ stored_words K.SIZE room.now }
     ensures count { length result.now ≡ words_for K.SIZE }
 {
@@ -28,7 +28,7 @@ pub fn words_in_room<K: KeySize>(room: &Wiped<PlaneRoom>) -> &[u16]
 
 /// Writes the round keys of a key, as the full layout stores them: KeyExpansion (FIPS 197, 5.2).
 #[inline(always)]
-pub fn expand_words_in_room<K: KeySize>(room: &mut PlaneRoom, key: &[u8], layers: &mut Layers)
+pub fn expand_in_room<K: KeySize>(room: &mut PlaneRoom, key: &[u8], layers: &mut Layers)
     requires sized { length key.now ≡ K.SIZE }
     ensures schedule { IsFullSchedule (word_bits 16) 1 (stored_words K.SIZE room.new) }
     ensures key { key_of_planes (word_bits 16) 1 (stored_words K.SIZE room.new) ≡ key.now }
@@ -42,7 +42,7 @@ pub fn expand_words_in_room<K: KeySize>(room: &mut PlaneRoom, key: &[u8], layers
 /// No effect; states that stored round keys are read as a key of bytes, whose round keys are
 /// blocks.
 #[tactic(auto, using(crate::proofs::KeyOfPlanes::read_keys))]
-pub fn reads_key(words: &[u16])
+pub fn words_hold_a_key(words: &[u16])
     requires { (length words.now ≡ 88) ⊎ ((length words.now ≡ 104) ⊎ (length words.now ≡ 120)) }
     ensures sized { 2 * length (key_of_planes (word_bits 16) 1 words.now) + 56 ≡ length words.now }
     ensures bytes { fips.IsBytes (key_of_planes (word_bits 16) 1 words.now) }

@@ -4,13 +4,13 @@ ghost use Rattle.aes_planes.specs.Fips197 as fips;
 ghost use Rattle.aes_planes.specs.Planes.{held, words_at};
 
 use aes_planes::expansion::FourWords;
-use aes_planes::soft::copies::{round_key, store_round_key};
 use aes_planes::soft::key_columns::{add_round_constant, straddle_columns, summed_columns};
+use aes_planes::soft::round_keys::{round_key, store_round_key};
 use aes_planes::soft::sbox::{Layers, sub_bytes, sub_bytes_nots};
 use aes_planes::soft::word::Word;
 use std::marker::PhantomData;
 
-// SubBytes of every block, 0x63 and all.
+// SubBytes of every block, with the constant 0x63.
 #[tactic(auto, using(crate::proofs::Slots::substituted))]
 #[inline(always)]
 fn substitute<W: Word>(state: &mut [W; 8], layers: &mut Layers)
@@ -44,7 +44,7 @@ impl<W: Word> FourWords for PlaneWords<W> {
 
     #[inline(always)]
     fn load(key: &[u8], from: usize) -> [W; 8] {
-        // The bytes are lent, so that no copy of them stays behind.
+        // The bytes are lent, so that no copy of them is left.
         W::in_every_slot(key[from..from + 16].as_array::<16>().unwrap())
     }
 

@@ -1,4 +1,5 @@
-//! The backends of every cipher: what closures on them leave. Those of the round by round ciphers take eight blocks at once.
+//! The backends of every cipher: what closures on them leave. Those of the round by round ciphers
+//! take eight blocks at once.
 
 use super::every_cipher::{DirectionTrial, try_every_cipher};
 use aes::Block;
@@ -37,7 +38,8 @@ fn works_on_rows<D: Direction, C: CipherIn<D>>(cipher: &C) -> bool {
     mixed.blocks == wanted && five[..5] == wanted[..5] && five[5..] == plain[5..]
 }
 
-// A closure that does nothing, one that works twice, and blocks in slices, by what single calls leave.
+// A closure that does nothing, one that works twice, and blocks in slices, by what single calls
+// leave.
 struct Closures;
 
 impl DirectionTrial for Closures {

@@ -8,8 +8,8 @@ use aes_cipher::zeroize::ZeroizeOnDrop;
 use standards::keys::PLAIN;
 use std::test::Fail;
 
-// Whether slices of 0 to 64 bytes are accepted as keys exactly where they are as long as a key, and
-// blocks have 16 bytes. Its bound asks for the mark of types that are wiped when they are dropped.
+// Whether slices of 0 to 64 bytes are accepted as keys exactly if they are as long as a key, and
+// blocks have 16 bytes. The bound requires the mark of types that are wiped when they are dropped.
 fn takes_its_own_length_alone<C>(size: usize) -> bool
 where
     C: KeyInit + BlockSizeUser + ZeroizeOnDrop + Drop,
@@ -54,7 +54,8 @@ pub fn decrypts<C: BlockCipherDecrypt>(cipher: &C, encrypted: u128) -> bool {
     u128::from_be_bytes(block) == PLAIN
 }
 
-// Whether a value that encrypts, two that do both, two that decrypt, and clones of these have the key.
+// Whether a value that encrypts, two that do both, two that decrypt, and clones of these have the
+// key.
 fn keep_the_key<E, B, D>(
     enc: &E,
     (lent_both, both): (&B, &B),
@@ -77,8 +78,8 @@ where
     )
 }
 
-// Clones of the three types of a key and conversions between them, most of them after the value that they came from is
-// dropped.
+// Clones of the three types of a key, and conversions between them. Most are used after the value
+// that they came from is dropped.
 struct Copies;
 
 impl Trial for Copies {

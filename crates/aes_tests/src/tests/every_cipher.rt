@@ -1,4 +1,5 @@
-//! Every cipher of the library: the types of all crates, and what works round by round, by its backend.
+//! Every cipher of the library: the types of all crates, and ciphers that work round by round, by
+//! their backends.
 
 ghost use Rattle.std.specs.Prelude.{◌≡◌, ◌⊎◌};
 

@@ -17,8 +17,8 @@ fn laws_and_examples_can_be_called() {
     laws::inverse_ciphers_on_blocks();
     laws::expanded_keys();
     laws::sums_of_blocks();
-    laws::is_block([0; 16]);
-    laws::are_blocks(&[[0; 16]; 3]);
+    laws::block_has_16_bytes([0; 16]);
+    laws::blocks_have_16_bytes(&[[0; 16]; 3]);
     laws::each_in_its_place();
     held_holds();
     same_blocks_same_planes();

@@ -1,12 +1,12 @@
-//! The types of all crates by the forms of their round keys, so that what is tried with each of them is written and
-//! proved once.
+//! The types of all crates by the forms of their round keys. What is tried with each of them is
+//! written and proved once.
 
 use aes::Fixsliced;
 use aes_cipher::aes::{
     AesCipher, Bits128, Bits192, Bits256, BothWays, Decrypts, Encrypts, KeySize, MadeFrom,
 };
 use aes_cipher::cipher::{BlockCipherDecrypt, BlockCipherEncrypt, Decrypt, Encrypt, KeyInit};
-use aes_hybrid::widths::{Narrow, Wide, Width};
+use aes_hybrid::widths::{Width, Width128, Width256};
 use aes_hybrid::{BothWaysKeys, EncryptionKeys};
 use standards::keys::{
     BY_128, BY_192, BY_256, KEY_128, KEY_192, KEY_256, ZEROS_BY_128, ZEROS_BY_192, ZEROS_BY_256,
@@ -30,10 +30,10 @@ pub trait Forms {
 /// The type of a crate for both directions.
 pub type Both<F> = AesCipher<<F as Forms>::Both, BothWays>;
 
-/// The one that encrypts.
+/// The type of a crate that encrypts.
 pub type Enc<F> = AesCipher<<F as Forms>::Enc, Encrypt>;
 
-/// The one that decrypts.
+/// The type of a crate that decrypts.
 pub type Dec<F> = AesCipher<<F as Forms>::Dec, Decrypt>;
 
 // The forms of `aes`.
@@ -82,13 +82,13 @@ pub trait Trial {
     fn passes<F: Forms>(&self, known: &Known) -> Result<bool, Fail>;
 }
 
-// Asserts that the types for a size pass: those of `aes`, and of `aes_hybrid` in both widths. With the size as a
-// parameter, they are proved once for all sizes.
+// Asserts that the types for a size pass: those of `aes`, and of `aes_hybrid` in both widths. With
+// the size as a parameter, they are proved once for all sizes.
 fn try_size<T: Trial, K: KeySize>(rt: &impl Abort, trial: &T, known: &Known) -> Result<(), Fail> {
     let passed = [
         trial.passes::<Planes<K>>(known)?,
-        trial.passes::<Hybrids<K, Narrow>>(known)?,
-        trial.passes::<Hybrids<K, Wide>>(known)?,
+        trial.passes::<Hybrids<K, Width128>>(known)?,
+        trial.passes::<Hybrids<K, Width256>>(known)?,
     ];
     assert!(rt; passed == [true; 3], "{}", known.name);
     Ok(())

@@ -36,7 +36,7 @@ fn makes_the_rounds_of_the_standard(rt: HostRuntime) {
     }
 }
 
-// All eight rounds at once: each state goes on to the next under the round key of its own.
+// All eight rounds at once: each state becomes the next one, under its own round key.
 #[test]
 fn makes_eight_rounds_at_once(rt: HostRuntime) {
     let mut blocks = eight(&STATES, 0);

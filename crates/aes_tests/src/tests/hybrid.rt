@@ -5,11 +5,11 @@ use aes_cipher::aes::{AesCipher, Bits256, BothWays, KeySize};
 use aes_cipher::cipher::{BlockCipherDecrypt, BlockCipherEncrypt, KeyInit};
 use aes_ctr::add_keystream;
 use aes_hybrid::BothWaysKeys;
-use aes_hybrid::widths::{Narrow, Wide};
+use aes_hybrid::widths::{Width128, Width256};
 use standards::keys::{KEY_256, PLAIN};
 use std::test::Fail;
 
-// Whether keystream is the same whole and cut, and the same once more takes it away.
+// Whether the keystream is the same whole and cut, and is removed if it is added once more.
 fn adds_the_same_cut<C: BlockCipherEncrypt>(cipher: &C) -> bool {
     let iv = PLAIN.to_be_bytes();
     let mut whole = [0; 400];
@@ -64,8 +64,8 @@ where
 // The types for both directions, with the size as a parameter.
 fn types_agree<K: KeySize>(key: &K::Key) -> bool {
     widths_agree(
-        &AesCipher::<BothWaysKeys<K, Narrow>, BothWays>::new(key),
-        &AesCipher::<BothWaysKeys<K, Wide>, BothWays>::new(key),
+        &AesCipher::<BothWaysKeys<K, Width128>, BothWays>::new(key),
+        &AesCipher::<BothWaysKeys<K, Width256>, BothWays>::new(key),
     )
 }
 

@@ -19,7 +19,7 @@ impl<A: AlgorithmName> fmt::Display for Named<A> {
     }
 }
 
-// A page with room for some bytes, at most sixteen, which refuses whatever passes that.
+// A page with room for some bytes, at most sixteen. It refuses a text that needs more.
 #[derive(Drop)]
 struct Page {
     bytes: [u8; 16],
@@ -65,7 +65,8 @@ where
     right && written.length == wanted.length && written.bytes == wanted.bytes
 }
 
-// Whether the three types of a size have the name of the first, and those of one direction a longer one.
+// Whether the three types of a size have the name of the first, and those of one direction a longer
+// one.
 fn are_named<B, E, D>(both: &B, enc: &E, dec: &D, name: &str) -> bool
 where
     B: AlgorithmName + fmt::Debug,
@@ -75,8 +76,8 @@ where
     is_named(both, name, "") && is_named(enc, name, "Enc") && is_named(dec, name, "Dec")
 }
 
-// Whether a value is written exactly where there is room for its sixteen bytes, as those of `Aes256Enc { .. }`, its name
-// where there is room for nine, and it encrypts as before.
+// Whether a value is written exactly if there is room for its sixteen bytes, as for
+// `Aes256Enc { .. }`, and its name if there is room for nine. The value has to encrypt as before.
 fn needs_room<C>(cipher: &C, encrypted: u128) -> bool
 where
     C: BlockCipherEncrypt + AlgorithmName + fmt::Debug,

@@ -109,7 +109,7 @@ fn restored<const RK: usize>(round_keys: &[Block; RK], block: &mut Block)
     ensures { block.new ≡ block.old }
 {
     let cipher = AesEnc::new(round_keys);
-    cipher.has_inverse_ciphers();
+    cipher.ciphers_undo_each_other();
     cipher.encrypt_block(block);
     cipher.as_dec().decrypt_block(block);
 }
@@ -174,8 +174,8 @@ fn takes_round_keys_of_zeros(rt: HostRuntime) {
     assert!(rt; there_and_back(&[[0; 16]; 15], &zeros, &[[0xd2; 16]; 8]));
 }
 
-// Whether the last of the eight blocks becomes `wanted` under the round keys, and all types agree on
-// each of them, there and back.
+// Whether the last of the eight blocks becomes `wanted` under the round keys, and all types agree
+// on each of them, there and back.
 fn all_agree<const RK: usize>(round_keys: &[Block; RK], wanted: u128) -> bool
     requires { (RK ≡ 11) ⊎ (RK ≡ 13) ⊎ (RK ≡ 15) }
 {

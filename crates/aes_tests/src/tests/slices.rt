@@ -1,4 +1,4 @@
-//! Slices of blocks, short and long, those by the counted calls, and the batches of a backend.
+//! Slices of blocks, short and long, those of the counted calls, and the batches of a backend.
 
 ghost use Rattle.std.specs.Prelude.{⊤};
 
@@ -20,7 +20,8 @@ use standards::blocks::different_blocks;
 use standards::keys::{KEY_128, KEY_192, KEY_256, PLAIN};
 use std::test::Fail;
 
-// Whether slices of 0 to 17 blocks become the same by the counted call as by the other, and come back by the counted call.
+// Whether slices of 0 to 17 blocks become the same by the counted call and by the other call, and
+// come back by the counted call.
 fn counts_slices<S, E, D>(encrypts: &AesCipher<S, E>, decrypts: &AesCipher<S, D>) -> bool
 where
     S: CountsLayers + Encrypts + Decrypts,
@@ -42,7 +43,8 @@ where
     right
 }
 
-// The three types of `aes` for a key. With the size as a parameter, they are proved once for all sizes.
+// The three types of `aes` for a key. With the size as a parameter, they are proved once for all
+// sizes.
 fn planes_count_slices<K: KeySize>(key: &K::Key) -> bool {
     let both = FixslicedAes::<K, BothWays>::new(key);
     counts_slices(&both, &both)
@@ -59,8 +61,8 @@ fn counted_calls_process_the_same(rt: HostRuntime) {
     assert!(rt; planes_count_slices::<Bits256>(&KEY_256));
 }
 
-// Whether a hundred blocks of one byte come to other blocks by the call on slices that encrypts, and each comes back by
-// the call on blocks that decrypts; and the other way round.
+// Whether a hundred blocks change by the call on slices that encrypts, and each comes back by the
+// call on blocks that decrypts. Then the directions are exchanged.
 fn brings_back_a_hundred<C: BlockCipherEncrypt + BlockCipherDecrypt>(cipher: &C) -> bool {
     let mut there = [[0x2a; 16]; 100];
     let mut back = there;
@@ -93,7 +95,7 @@ fn there_and_back<E: BlockCipherEncrypt, D: BlockCipherDecrypt>(
     there && few == [PLAIN.to_be_bytes(); 7] && many == [PLAIN.to_be_bytes(); 19]
 }
 
-// A block's encryption, to which slices of it have to come.
+// The encryption of a block. Slices of that block have to become this.
 #[derive(Drop)]
 struct Repeated {
     encrypted: u128,
@@ -111,8 +113,8 @@ impl CipherTrial for Repeated {
     }
 }
 
-// What 23 different blocks come to, after the first of `different_blocks`, each way: block 15 there, which is in a batch,
-// and block 23, which is in none of planes.
+// What 23 different blocks become, after the first of `different_blocks`, each way. Block 15 there
+// is in a batch, and block 23 is in no batch of planes.
 #[derive(Drop)]
 struct Different {
     encrypted: [u128; 2],

@@ -35,7 +35,7 @@ where
         }
     }
 
-    // Whether every value that is left works as the standard has it.
+    // Whether every value that is left answers as the standard says.
     fn are_right(&self, encrypted: u128) -> bool {
         let enc = self.enc.as_ref().is_none_or(|enc| encrypts(enc, encrypted));
         let both = self.both.as_ref().is_none_or(|both| encrypts(both, encrypted)
@@ -64,7 +64,8 @@ const ORDERS: [[Kind; 3]; 6] = [
     [Kind::Dec, Kind::Both, Kind::Enc],
 ];
 
-// A value that encrypts, one that its clone became, and one that was made of it, while they are dropped in each order.
+// A value that encrypts, one that its clone became, and one that was made of it. They are dropped
+// in each order.
 struct Orders;
 
 impl Trial for Orders {

@@ -1,5 +1,5 @@
--- The texts of test cases 4 to 6 of GCM's submission to NIST, which have one key and one plain text:
--- the nonces differ.
+-- The texts of test cases 4 to 6 of GCM's submission to NIST, which have one key and one plain
+-- text: the nonces differ.
 use Rattle.std.proofs.Common.{◌≡◌, ℕ, List, [], ◌∷◌, ◌++◌, replicate, slice_index_or, sym, arith}
 use Rattle.std.specs.Int.{w128, to_be_bytes, from_be_bytes}
 use Rattle.aes_planes.specs.BigEndian.{bytes}

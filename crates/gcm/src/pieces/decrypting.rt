@@ -8,9 +8,9 @@ ghost use Rattle.gcm.specs.Pieces.{IsInText, IsAt, IsOutOfTurn, IsVerifying, IsD
 ghost use Rattle.gcm.specs.Pieces.{KeepsParts, phase_of};
 ghost use Rattle.gcm.specs.declared.message_state.Phase.{Phase};
 
-use super::is_turn;
+use super::may_enter;
 use crate::errors::{InvalidPiece, NotAccepted};
-use crate::gctr::{BlockRoom, add_gctr};
+use crate::gctr::{SecretBlock, add_gctr};
 use crate::hash_room::HashRoom;
 use crate::lengths::LONGEST_TEXT;
 use crate::message_state::{Message, Phase, number_of_phase, phase_of};
@@ -19,8 +19,8 @@ use crate::tags::{is_expected, is_short_tag};
 use aes_cipher::cipher::{Block, BlockCipherEncrypt};
 use aes_cipher::zeroize::wipe_stack;
 
-// Writes a claimed tag of 16 bytes or fewer, and behind it what the expected one has there: the two
-// are equal exactly if the claimed one is the first bytes of the expected one.
+// Writes a claimed tag of at most 16 bytes, and after it the bytes that the expected tag has
+// there. The result is the expected tag exactly if the claimed one is its first bytes.
 #[inline(always)]
 fn put_claimed(tag: &[u8], expected: &Block, claimed: &mut Block)
     requires { length tag.now ≤ 16 }
@@ -48,7 +48,7 @@ impl<'a, C: BlockCipherEncrypt, R: HashRoom> BorrowedGcm<'a, C, R> {
             → IsInText Phase.Verifying self.now iv a (c ++ text.now) message.new) }
         ensures untouched { OnErr result (message.new ≡ message.old) }
     {
-        self.turn_to(message, Phase::Verifying, text.len())?;
+        self.enter_phase(message, Phase::Verifying, text.len())?;
         self.hash_text(message, text);
         wipe_stack::<HASH_STACK>();
         Ok(())
@@ -72,7 +72,7 @@ impl<'a, C: BlockCipherEncrypt, R: HashRoom> BorrowedGcm<'a, C, R> {
         ensures kept { OnOk result (KeepsParts message.old message.new) }
         ensures untouched { OnErr result (message.new ≡ message.old) }
     {
-        if !is_turn(message, Phase::Verifying) {
+        if !may_enter(message, Phase::Verifying) {
             return Err(NotAccepted::OutOfTurn);
         }
         let is_right = self.is_tag_so_far(message, tag);
@@ -85,10 +85,10 @@ impl<'a, C: BlockCipherEncrypt, R: HashRoom> BorrowedGcm<'a, C, R> {
         Ok(())
     }
 
-    /// Compares a tag of fewer than 16 bytes as `accept` does one of 16. How many bytes all tags
-    /// under a key have is fixed with the key (5.2.1.2), and comes with no message. A forged tag of
-    /// n bytes is right with a chance of 1 in 256^n and more; of 4 and 8 bytes a key may check few
-    /// (appendix C).
+    /// Compares a tag of fewer than 16 bytes, as `accept` compares one of 16. All tags under a key
+    /// have the same length. It is fixed with the key (5.2.1.2), and doesn't come with a message. A
+    /// forged tag of n bytes is right with a chance of 1 in 256^n or more. A key may check only few
+    /// tags of 4 or 8 bytes (appendix C).
     ///
     /// # Errors
     ///
@@ -112,7 +112,7 @@ impl<'a, C: BlockCipherEncrypt, R: HashRoom> BorrowedGcm<'a, C, R> {
         ensures kept { OnOk result (KeepsParts message.old message.new) }
         ensures untouched { OnErr result (message.new ≡ message.old) }
     {
-        if !is_turn(message, Phase::Verifying) {
+        if !may_enter(message, Phase::Verifying) {
             return Err(NotAccepted::OutOfTurn);
         }
         if !is_short_tag(fixed_length, tag) {
@@ -128,7 +128,7 @@ impl<'a, C: BlockCipherEncrypt, R: HashRoom> BorrowedGcm<'a, C, R> {
         Ok(())
     }
 
-    /// Decrypts a piece in place, of any size, of the cipher text whose tag was right: give it the
+    /// Decrypts a piece in place, of any size, of the cipher text whose tag was right. Pass the
     /// same cipher text once more, from its beginning. Nothing of a message is given out before its
     /// tag was found right.
     ///
@@ -169,7 +169,7 @@ impl<'a, C: BlockCipherEncrypt, R: HashRoom> BorrowedGcm<'a, C, R> {
 
     /// Takes a piece of a cipher text whose tag is to be compared, and decrypts it in place at
     /// once. **What it gives out isn't authenticated**: use none of it before `accept` has found
-    /// the tag right, and forget it if it doesn't.
+    /// the tag right, and forget it if the tag is wrong.
     ///
     /// # Errors
     ///
@@ -190,7 +190,7 @@ impl<'a, C: BlockCipherEncrypt, R: HashRoom> BorrowedGcm<'a, C, R> {
         ensures untouched { OnErr result (message.new ≡ message.old) }
         ensures untouched_text { OnErr result (text.new ≡ text.old) }
     {
-        self.turn_to(message, Phase::Verifying, text.len())?;
+        self.enter_phase(message, Phase::Verifying, text.len())?;
         let position = 16 + message.text;
         self.hash_text(message, text);
         add_gctr(&self.cipher, &message.first, position, text);
@@ -198,23 +198,23 @@ impl<'a, C: BlockCipherEncrypt, R: HashRoom> BorrowedGcm<'a, C, R> {
         Ok(())
     }
 
-    // Whether a tag is that of what has come so far. A call of its own, so that its caller, which then
-    // wipes the stack, has nothing of the right tag in a register.
+    // Whether a tag is that of what has come so far. This is a call of its own: its caller, which
+    // then wipes the stack, has nothing of the right tag in a register.
     #[inline(never)]
     fn is_tag_so_far(&self, message: &Message, tag: &Block) -> bool
         ensures { (phase : Phase) (iv a c : List ℕ) → phase ≢ Phase.Additional
             → IsAt phase self.now iv a c message.now
             → IsTrue result ↔ (tag.now ≡ nist.tag self.now iv a c) }
     {
-        let mut expected = BlockRoom::zeroed();
+        let mut expected = SecretBlock::zeroed();
         self.put_tag_so_far(message, &mut expected.value_mut()[0]);
         let is_equal = is_expected(tag, &expected.value()[0]);
         expected.wipe();
         is_equal
     }
 
-    // Whether a tag of 16 bytes or fewer is the first bytes of that of what has come so far. A call of
-    // its own, as `is_tag_so_far`.
+    // Whether a tag of at most 16 bytes is the first bytes of the tag of what has come so far. This
+    // is a call of its own, as `is_tag_so_far`.
     #[inline(never)]
     fn is_short_tag_so_far(&self, message: &Message, tag: &[u8]) -> bool
         requires { length tag.now ≤ 16 }
@@ -222,8 +222,8 @@ impl<'a, C: BlockCipherEncrypt, R: HashRoom> BorrowedGcm<'a, C, R> {
             → IsAt phase self.now iv a c message.now
             → IsTrue result ↔ (tag.now ≡ nist.short_tag (length tag.now) self.now iv a c) }
     {
-        let mut expected = BlockRoom::zeroed();
-        let mut claimed = BlockRoom::zeroed();
+        let mut expected = SecretBlock::zeroed();
+        let mut claimed = SecretBlock::zeroed();
         self.put_tag_so_far(message, &mut expected.value_mut()[0]);
         put_claimed(tag, &expected.value()[0], &mut claimed.value_mut()[0]);
         let is_equal = is_expected(&claimed.value()[0], &expected.value()[0]);

@@ -7,7 +7,7 @@ ghost use Rattle.gcm.specs.Gcm.{IsTooMuchText};
 ghost use Rattle.gcm.specs.Pieces.{IsInText, IsEncrypting, IsOutOfTurn, no_message};
 ghost use Rattle.gcm.specs.declared.message_state.Phase.{Phase};
 
-use super::is_turn;
+use super::may_enter;
 use crate::errors::{InvalidPiece, OutOfTurn};
 use crate::gctr::add_gctr;
 use crate::hash_room::HashRoom;
@@ -37,7 +37,7 @@ impl<'a, C: BlockCipherEncrypt, R: HashRoom> BorrowedGcm<'a, C, R> {
         ensures untouched { OnErr result (message.new ≡ message.old) }
         ensures untouched_text { OnErr result (text.new ≡ text.old) }
     {
-        self.turn_to(message, Phase::Encrypting, text.len())?;
+        self.enter_phase(message, Phase::Encrypting, text.len())?;
         add_gctr(&self.cipher, &message.first, 16 + message.text, text);
         self.hash_text(message, text);
         wipe_stack::<TEXT_STACK>();
@@ -59,7 +59,7 @@ impl<'a, C: BlockCipherEncrypt, R: HashRoom> BorrowedGcm<'a, C, R> {
         ensures over { OnOk result (message.new ≡ no_message) }
         ensures untouched { OnErr result (message.new ≡ message.old) }
     {
-        if !is_turn(message, Phase::Encrypting) {
+        if !may_enter(message, Phase::Encrypting) {
             return Err(OutOfTurn);
         }
         let mut tag = [0; 16];

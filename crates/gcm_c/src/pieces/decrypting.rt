@@ -53,7 +53,7 @@ pub extern "C" fn fotsgure_gcm_verify(gcm: &Gcm, message: &mut Message, text: &[
     }
 }
 
-/// Compares the tag of what has come, without an early exit; if it is right, the cipher text may
+/// Compares the tag of what has come, without an early exit. If it is right, the cipher text may
 /// come once more. Returns `TAG_LENGTH`, `NO_KEY`, `OUT_OF_TURN` or `REFUSED`, the first of them
 /// that applies, and else `DONE`.
 #[unsafe(no_mangle)]
@@ -92,10 +92,11 @@ pub extern "C" fn fotsgure_gcm_accept(gcm: &Gcm, message: &mut Message, tag: &[u
     }
 }
 
-/// Compares a tag of fewer than 16 bytes, as `fotsgure_gcm_accept` one of 16: how many bytes all
-/// tags under the key have is fixed with the key (SP 800-38D, 5.2.1.2). Returns `TAG_LENGTH` if
-/// that isn't 4, 8 or 12 to 15, or if the tag has another length; `NO_KEY`, `OUT_OF_TURN` or
-/// `REFUSED`, the first of them that applies; and else `DONE`.
+/// Compares a tag of fewer than 16 bytes, as `fotsgure_gcm_accept` compares one of 16.
+/// `fixed_length` is the length of all tags under the key, and is fixed with the key (SP 800-38D,
+/// 5.2.1.2). Returns `TAG_LENGTH` if it isn't 4, 8 or 12 to 15, or if the tag has another length.
+/// Otherwise it returns `NO_KEY`, `OUT_OF_TURN` or `REFUSED`, the first of them that applies, and
+/// else `DONE`.
 #[unsafe(no_mangle)]
 pub extern "C" fn fotsgure_gcm_accept_short(
     gcm: &Gcm,
@@ -136,7 +137,7 @@ pub extern "C" fn fotsgure_gcm_accept_short(
     }
 }
 
-/// Decrypts a piece in place of the cipher text whose tag was right, from its beginning on. Returns
+/// Decrypts in place a piece of the cipher text whose tag was right, from its beginning on. Returns
 /// `NO_KEY`, `OUT_OF_TURN` or `TOO_LONG`, the first of them that applies, and else `DONE`.
 #[unsafe(no_mangle)]
 pub extern "C" fn fotsgure_gcm_decrypt(gcm: &Gcm, message: &mut Message, text: &mut [u8]) -> u32
@@ -172,8 +173,8 @@ pub extern "C" fn fotsgure_gcm_decrypt(gcm: &Gcm, message: &mut Message, text: &
     }
 }
 
-/// Takes a piece of a cipher text whose tag is to be compared, and decrypts it in place at once:
-/// what it gives out is not authenticated. Returns `NO_KEY`, `OUT_OF_TURN` or `TOO_LONG`, the first
+/// Takes a piece of a cipher text whose tag is to be compared, and decrypts it in place at once.
+/// What it gives out is not authenticated. Returns `NO_KEY`, `OUT_OF_TURN` or `TOO_LONG`, the first
 /// of them that applies, and else `DONE`.
 #[unsafe(no_mangle)]
 pub extern "C" fn fotsgure_gcm_decrypt_unverified(

@@ -1,5 +1,5 @@
-//! Messages in pieces through the exports: however they are cut, texts and tags are those that NIST
-//! publishes, and what mustn't be accepted is refused by its exact status.
+//! Messages in pieces through the exports. Texts and tags are those that NIST publishes, however
+//! the messages are cut. What mustn't be accepted is refused by its exact status.
 
 ghost use Rattle.std.specs.Prelude.{◌<◌, ◌≤◌};
 ghost use Rattle.gcm_c.specs.Kept.{IsMade};

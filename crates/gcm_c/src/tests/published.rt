@@ -11,8 +11,9 @@ pub(crate) struct Published<const KEY: usize, const NONCE: usize, const ADDITION
     pub(crate) tag: u128,
 }
 
-// The first vectors with a text of 51 bytes, a tag of 16 and such lengths of the others, in
-// gcmEncryptExtIV128.rsp, 192 and 256 of NIST's Cryptographic Algorithm Validation Program.
+// Messages of NIST's Cryptographic Algorithm Validation Program, in gcmEncryptExtIV128.rsp, 192 and
+// 256. Each is the first vector with a text of 51 bytes, a tag of 16 and such lengths of the
+// others.
 pub(crate) const MESSAGE_16: Published<16, 12, 48> = Published {
     key: [
         0x3c, 0x50, 0x62, 0x28, 0x68, 0xf4, 0x50, 0xaa, 0x09, 0x28, 0x99, 0x0c, 0x15, 0xe1, 0xeb,

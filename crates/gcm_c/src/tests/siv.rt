@@ -1,5 +1,5 @@
-//! AES-GCM-SIV: each export once, on a published message of few blocks, and there and back with
-//! more.
+//! AES-GCM-SIV: each export once, on a published message of few blocks. A longer message goes there
+//! and back.
 
 use crate::{
     DONE, KEY_LENGTH, NO_KEY, REFUSED, Siv, fotsgure_gcm_siv_open, fotsgure_gcm_siv_open_to,
@@ -8,8 +8,8 @@ use crate::{
 };
 use aes_cipher::zeroize::Zeroize;
 
-// The key, the nonce and the text of a message of eight bytes (RFC 8452, appendix C.2); what comes
-// of it is in the test.
+// The key, the nonce and the text of a message of eight bytes (RFC 8452, appendix C.2). The test
+// has what they become.
 const NONCE: [u8; 12] = [3, 0, 0, 0, 0, 0, 0, 0, 0, 0, 0, 0];
 
 const PLAIN: [u8; 8] = [1, 0, 0, 0, 0, 0, 0, 0];

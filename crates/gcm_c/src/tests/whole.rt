@@ -1,4 +1,4 @@
-//! Whole messages: each export for them once, on published ones.
+//! Whole messages: each export for them once, on published messages.
 
 use super::no_key;
 use super::published::{MESSAGE_16, MESSAGE_24};
@@ -11,8 +11,8 @@ use crate::{
 use aes_cipher::zeroize::Zeroize;
 
 // Test cases 4 and 16 of McGrew and Viega, "The Galois/Counter Mode of Operation (GCM)", appendix
-// B: the key, whose first half is that of case 4, the nonce, the additional data, the text, its
-// encryptions and their tags.
+// B. The first half of the key is that of case 4. Then come the nonce, the additional data, the
+// text, its encryptions and their tags.
 const KEY: [u8; 32] = [
     0xfe, 0xff, 0xe9, 0x92, 0x86, 0x65, 0x73, 0x1c, 0x6d, 0x6a, 0x8f, 0x94, 0x67, 0x30, 0x83, 0x08,
     0xfe, 0xff, 0xe9, 0x92, 0x86, 0x65, 0x73, 0x1c, 0x6d, 0x6a, 0x8f, 0x94, 0x67, 0x30, 0x83, 0x08,

@@ -1,10 +1,11 @@
-//! Cases of messages in hexadecimal digits, and what a mode has to do with them: GCM and AES-GCM-SIV are tested alike.
+//! Cases of messages in hexadecimal digits, and what a mode has to do with them. GCM and
+//! AES-GCM-SIV are tested alike.
 
 ghost use Rattle.std.specs.Prelude.{◌<◌};
 
 use aes_cipher::cipher::Block;
 
-// A message with its key and what comes of it.
+// A message with its key, and what it becomes.
 #[derive(Drop)]
 pub(crate) struct Case {
     pub(crate) key: &'static str,
@@ -45,8 +46,8 @@ pub(crate) fn decoded<const N: usize>(digits: &str) -> [u8; N] {
     bytes
 }
 
-// Whether a message is refused if its tag, its nonce or its text is changed in the last byte, or zeros follow its additional
-// data.
+// Whether a message is refused after a change in the last byte of its tag, its nonce or its text,
+// and if zeros follow its additional data.
 fn refuses_changes<M: Mode>(
     mode: &M,
     case: &Case,
@@ -71,7 +72,8 @@ fn refuses_changes<M: Mode>(
     !opened
 }
 
-// Whether a mode encrypts a case as it should, refuses changes of it with the text as it was, and decrypts it again.
+// Whether a mode encrypts a case as it should, refuses changes of it without a change of the text,
+// and decrypts it again.
 pub(crate) fn is_right<M: Mode>(mode: &M, case: &Case) -> bool {
     let nonce = decoded(case.nonce);
     let room: [u8; 96] = decoded(case.additional);

@@ -14,7 +14,7 @@ fn count_from(first: u8, bytes: &mut [u8]) {
     }
 }
 
-// Whether a text becomes this one with this tag, is left alone if the tag is another, and comes
+// Whether a text becomes this one with this tag, is unchanged if the tag is another, and comes
 // back.
 fn goes_there_and_back(
     key: u128,
@@ -74,7 +74,7 @@ fn twenty_four_bytes(rt: HostRuntime) {
     assert!(rt; goes_there_and_back(KEY, &nonce, &additional, &mut text, &sealed, &tag));
 }
 
-// The additional data have 65,536 bytes, so that their length takes six.
+// The additional data have 65,536 bytes, so that their length is written in six.
 #[test]
 fn long_additional_data(rt: HostRuntime) {
     let mut nonce = [0; 13];

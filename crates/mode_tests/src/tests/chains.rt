@@ -3,15 +3,16 @@
 use aes_cipher::aes::{AesCipher, Bits128, Bits192, Bits256, BothWays, KeySize};
 use aes_cipher::cipher::KeyInit;
 use aes_hybrid::BothWaysKeys;
-use aes_hybrid::widths::{Narrow, Wide, Width};
+use aes_hybrid::widths::{Width, Width128, Width256};
 use cbc::Cbc;
 use standards::blocks::{PLAIN, blocks};
 use standards::chains::{CHAINED_128, CHAINED_192, CHAINED_256, IV};
 use standards::keys::{KEY_A1, KEY_A2, KEY_A3};
 
-// Whether the blocks become those, and these become them again, however the chain is cut into two calls.
+// Whether the plain blocks become the encrypted ones, and these become the plain ones again,
+// wherever the chain is cut into two calls.
 fn chains<K: KeySize>(key: &K::Key, encrypted: &[u128; 4]) -> bool {
-    let cipher = AesCipher::<BothWaysKeys<K, Narrow>, BothWays>::new(key);
+    let cipher = AesCipher::<BothWaysKeys<K, Width128>, BothWays>::new(key);
     for cut in 0..=4 {
         let mut row = blocks(&PLAIN);
         let mut chain = Cbc {
@@ -40,7 +41,8 @@ fn chains_the_blocks_of_the_standard(rt: HostRuntime) {
     assert!(rt; chains::<Bits256>(&KEY_A3, &CHAINED_256));
 }
 
-// Whether chains of each length up to a hundred blocks come back: some blocks are decrypted in batches, others alone.
+// Whether chains of each length up to a hundred blocks come back: some blocks are decrypted in
+// batches, others alone.
 fn chains_come_back<W: Width>() -> bool {
     let cipher = AesCipher::<BothWaysKeys<Bits128, W>, BothWays>::new(&[5; 16]);
     let plain = [[7; 16]; 100];
@@ -59,6 +61,6 @@ fn chains_come_back<W: Width>() -> bool {
 
 #[test]
 fn chains_of_every_length_come_back(rt: HostRuntime) {
-    assert!(rt; chains_come_back::<Narrow>());
-    assert!(rt; chains_come_back::<Wide>());
+    assert!(rt; chains_come_back::<Width128>());
+    assert!(rt; chains_come_back::<Width256>());
 }

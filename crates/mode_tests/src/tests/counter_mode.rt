@@ -5,7 +5,7 @@ mod cuts;
 use aes_cipher::aes::{AesCipher, Bits128, Bits256, BothWays, KeySize};
 use aes_cipher::cipher::{BlockCipherEncrypt, Encrypt, KeyInit};
 use aes_ctr::{Ctr128BE, stream_cut, stream_twice};
-use aes_hybrid::widths::Narrow;
+use aes_hybrid::widths::Width128;
 use aes_hybrid::{Aes128Enc, Aes192Enc, BothWaysKeys, EncryptionKeys};
 use standards::counter::{ENCRYPTED, IV, PLAIN};
 use standards::keys::{KEY_A1, ZEROS_BY_128, ZEROS_BY_192, ZEROS_BY_256};
@@ -26,10 +26,10 @@ trait CounterTrial {
     fn passes<C: BlockCipherEncrypt>(&self, cipher: &C) -> bool;
 }
 
-// Whether the type that encrypts passes under a key. With the size as a parameter, it is proved to be a cipher once for
-// all that is tried.
+// Whether the type that encrypts passes under a key. With the size as a parameter, it is proved to
+// be a cipher once for all that is tried.
 fn passes_under<K: KeySize, T: CounterTrial>(trial: &T, key: &K::Key) -> bool {
-    trial.passes(&AesCipher::<EncryptionKeys<K, Narrow>, Encrypt>::new(key))
+    trial.passes(&AesCipher::<EncryptionKeys<K, Width128>, Encrypt>::new(key))
 }
 
 // Whether the type that encrypts passes under the key of the standard's example.
@@ -42,8 +42,8 @@ fn mode_from<C: BlockCipherEncrypt>(cipher: &C, iv: u128) -> Ctr128BE<&C> {
     Ctr128BE::new(cipher, iv.to_be_bytes())
 }
 
-// Adds the keystream to bytes by calls on pieces of these lengths, and tells whether each call answered and no byte is
-// left.
+// Adds the keystream to bytes by calls on pieces of these lengths, and tells whether each call
+// answered and no byte is left.
 fn apply_in_pieces<C: BlockCipherEncrypt>(
     mode: &mut Ctr128BE<C>,
     bytes: &mut [u8],
@@ -97,7 +97,10 @@ fn keystream_of<C: BlockCipherEncrypt + Drop>(cipher: C, iv: u128) -> Option<[u1
 
 // The first two blocks of the keystream under a key, by the type for both directions.
 fn keystream_under<K: KeySize>(key: &K::Key, iv: u128) -> Option<[u128; 2]> {
-    keystream_of(AesCipher::<BothWaysKeys<K, Narrow>, BothWays>::new(key), iv)
+    keystream_of(
+        AesCipher::<BothWaysKeys<K, Width128>, BothWays>::new(key),
+        iv,
+    )
 }
 
 #[test]
@@ -135,8 +138,8 @@ impl CounterTrial for Carries {
     }
 }
 
-// Blocks of the keystream by OpenSSL, where the counter carries into its upper half after block 31, and where it starts
-// anew from zero there. They stand about the ends of batches.
+// Blocks of the keystream by OpenSSL, where the counter carries into its upper half after block 31,
+// and where it starts anew from zero there. They stand about the ends of batches.
 #[test]
 fn carries_through_the_counter(rt: HostRuntime) {
     let rows: [(u128, [(usize, u128); 8]); 2] = [

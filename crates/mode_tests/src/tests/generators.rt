@@ -1,4 +1,5 @@
-//! What no clause says: that the generator answers, with NIST's values, reseeded and not, with other inputs and without.
+//! What no clause says: that the generator answers, with NIST's values, reseeded and not, with
+//! other inputs and without.
 
 ghost use Rattle.std.specs.Prelude.{◌≡◌, [], IfOk, OnOk};
 ghost use Rattle.ctr_drbg.specs.CtrDrbg as nist;
@@ -7,9 +8,10 @@ use aes_hybrid::Aes256Enc;
 use ctr_drbg::{CtrDrbg, SEED_LENGTH};
 use std::test::Fail;
 
-// NIST's vectors for AES-256 without a derivation function and without prediction resistance (the files of drbgtestvectors.zip,
-// CAVS 14.3), as OpenSSL 3.0.20 has them in test/recipes/30-test_evp_data/evprand.txt: the first one of four kinds. Each word
-// is sixteen bytes, the highest first. The returned bits are those of the second request; both ask for 64 bytes.
+// NIST's vectors for AES-256 without a derivation function and without prediction resistance (the
+// files of drbgtestvectors.zip, CAVS 14.3): the first one of four kinds. OpenSSL 3.0.20 has them in
+// test/recipes/30-test_evp_data/evprand.txt. Each word is sixteen bytes, the highest first. The
+// returned bits are those of the second request; both ask for 64 bytes.
 struct Vector {
     entropy_input: &'static [u128],
     personalization_string: &'static [u128],
@@ -165,7 +167,8 @@ impl Input {
 #[derive(Drop)]
 struct NotSeeded;
 
-// A generator from a seed, and the first 32 bytes that it makes: contracts name its working state.
+// A generator from a seed, and the first 32 bytes that it makes. The contract names its working
+// state.
 fn seeded(seed: &[u8; 48], output: &mut [u8; 32]) -> Result<CtrDrbg<Aes256Enc>, NotSeeded>
     ensures made { IfOk result (λ made. made ≡ nist.generate 32 [] (nist.instantiate seed.now [])) }
     ensures output { OnOk result (output.new ≡ nist.returned_bits 32 [] (nist.instantiate seed.now [])) }
@@ -179,7 +182,8 @@ fn seeded(seed: &[u8; 48], output: &mut [u8; 32]) -> Result<CtrDrbg<Aes256Enc>, 
     }
 }
 
-// Makes a generator of a vector, reseeds it if the vector does, and writes what the second request returns.
+// Makes a generator of a vector, reseeds it if the vector does, and writes what the second request
+// returns.
 fn answer(vector: &Vector, output: &mut [u8; 64]) -> Option<()> {
     let mut generator = CtrDrbg::<Aes256Enc>::instantiate(
         Input::of(vector.entropy_input).bytes(),

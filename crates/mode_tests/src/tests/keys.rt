@@ -5,7 +5,7 @@ ghost use Rattle.std.specs.Prelude.{◌≤◌};
 use aes_cipher::aes::{AesCipher, Bits128, Bits192, Bits256, BothWays, KeySize};
 use aes_cipher::cipher::{BlockCipherDecrypt, BlockCipherEncrypt, KeyInit};
 use aes_hybrid::BothWaysKeys;
-use aes_hybrid::widths::Narrow;
+use aes_hybrid::widths::Width128;
 use key_wrap::{InvalidCount, NotUnwrapped, Semiblock, unwrap, wrap};
 use standards::keys::{KEY_128, KEY_192, KEY_256};
 
@@ -25,8 +25,8 @@ pub(super) fn semiblocks<const N: usize>(numbers: &[u64; N]) -> [Semiblock; N] {
     halves
 }
 
-// Whether the first `count` semiblocks of the key are wrapped into those numbers, are unwrapped again, and are refused
-// after a change in any semiblock, with zeros in the output.
+// Whether the first `count` semiblocks of the key are wrapped into those numbers, and are unwrapped
+// again. After a change in any semiblock they have to be refused, with zeros in the output.
 fn wraps_by<C: BlockCipherEncrypt + BlockCipherDecrypt>(
     cipher: &C,
     count: usize,
@@ -63,7 +63,7 @@ fn wraps<K: KeySize>(key: &K::Key, count: usize, numbers: &[u64; 5]) -> bool
     requires few { count ≤ 4 }
 {
     wraps_by(
-        &AesCipher::<BothWaysKeys<K, Narrow>, BothWays>::new(key),
+        &AesCipher::<BothWaysKeys<K, Width128>, BothWays>::new(key),
         count,
         numbers,
     )
@@ -124,7 +124,7 @@ fn wraps_the_keys_of_the_standard(rt: HostRuntime) {
 
 #[test]
 fn refuses_other_counts(rt: HostRuntime) {
-    let cipher = AesCipher::<BothWaysKeys<Bits256, Narrow>, BothWays>::new(&KEY_256);
+    let cipher = AesCipher::<BothWaysKeys<Bits256, Width128>, BothWays>::new(&KEY_256);
     let data = semiblocks(&KEY_DATA);
     let mut output = [[6; 8]; 5];
     assert!(rt; wrap(&cipher, &data[..1], &mut output[..2]) == Err(InvalidCount));

@@ -1,9 +1,10 @@
-//! Long messages in each mode, and short inputs of the generator: what comes of them, by its CMAC.
+//! Long messages in each mode, and short inputs of the generator. What they become is compared by
+//! its CMAC.
 
 use super::cases::Mode;
 use aes_cipher::aes::{AesCipher, Bits256, BothWays};
 use aes_cipher::cipher::{Block, KeyInit};
-use aes_hybrid::widths::Narrow;
+use aes_hybrid::widths::Width128;
 use aes_hybrid::{Aes256Enc, BothWaysKeys};
 use cbc::Cbc;
 use ccm::encrypt;
@@ -14,8 +15,9 @@ use gcm_siv::GcmSiv;
 use key_wrap::{wrap, wrap_padded};
 use standards::bytes::counted;
 
-// The expected values are those of OpenSSL 4.0.0, by the Python package `cryptography`, and for the generator those of OpenSSL
-// 3.0.22, its CTR-DRBG without a derivation function. NIST's own vectors have inputs of 0 or 48 bytes alone.
+// The expected values are those of OpenSSL 4.0.0, by the Python package `cryptography`, and for the
+// generator those of OpenSSL 3.0.22, its CTR-DRBG without a derivation function. NIST's own vectors
+// have inputs of 0 or 48 bytes alone.
 
 // How many bytes a message has: several batches, and a last block that isn't whole.
 const LENGTH: usize = 5001;
@@ -73,7 +75,7 @@ fn a_message_of_ccm(rt: HostRuntime) {
 // A chain of 313 blocks, a key of 512 semiblocks, and one of 4,099 bytes, padded.
 #[test]
 fn chains_and_keys(rt: HostRuntime) {
-    let cipher = AesCipher::<BothWaysKeys<Bits256, Narrow>, BothWays>::new(&counted());
+    let cipher = AesCipher::<BothWaysKeys<Bits256, Width128>, BothWays>::new(&counted());
     let bytes = counted::<5008>();
     let mut blocks: [Block; 313] = [[0; 16]; 313];
     for i in 0..bytes.len() {
@@ -97,7 +99,8 @@ fn chains_and_keys(rt: HostRuntime) {
     assert!(rt; digest(padded.as_flattened()) == 0x5108fecacb677a1e75568ee480a44f46);
 }
 
-// The longest requests, with a personalization string of 20 bytes and additional inputs of 5 and 47.
+// The longest requests, with a personalization string of 20 bytes and additional inputs of 5 and
+// 47.
 #[test]
 fn requests(rt: HostRuntime) {
     let entropy: [u8; 48] = counted();

@@ -1,5 +1,5 @@
-//! Key wrap with padding: examples of RFC 5649 and of NIST, keys that were changed or padded
-//! otherwise, and wrong lengths.
+//! Key wrap with padding: examples of RFC 5649 and of NIST, keys that were changed or padded in
+//! another way, and wrong lengths.
 
 ghost use Rattle.std.specs.Prelude.{◌≡◌};
 
@@ -8,10 +8,11 @@ use aes_cipher::aes::{AesCipher, Bits128, Bits192, Bits256, BothWays};
 use aes_cipher::blocks::{block_of_number, halves_of_block};
 use aes_cipher::cipher::{BlockCipherDecrypt, BlockCipherEncrypt, KeyInit};
 use aes_hybrid::BothWaysKeys;
-use aes_hybrid::widths::Narrow;
+use aes_hybrid::widths::Width128;
 use key_wrap::{InvalidCount, NotUnwrapped, unwrap_padded, wrap_padded};
 
-// A key that wraps, a key of so many bytes with its padding, and what it becomes, in numbers of 64 bits.
+// A key that wraps, a key of some bytes with its padding, and what it becomes, in numbers of 64
+// bits.
 #[derive(Clone, Copy)]
 struct Row {
     key: [u64; 4],
@@ -228,7 +229,8 @@ const OF_32: [Row; 4] = [
     },
 ];
 
-// A block that is unwrapped: its first half is the integrity check and a length, its second a key of eight bytes at most.
+// A block that is unwrapped: its first half is the integrity check and a length, its second a key
+// of eight bytes at most.
 #[derive(Clone, Copy)]
 struct Block {
     number: u128,
@@ -328,7 +330,7 @@ fn pads_the_keys_of_the_standards(rt: HostRuntime) {
         key.copy_from_slice(&key_of(&row.key)[..16]);
         assert!(rt;
             pads(
-                &AesCipher::<BothWaysKeys<Bits128, Narrow>, BothWays>::new(&key),
+                &AesCipher::<BothWaysKeys<Bits128, Width128>, BothWays>::new(&key),
                 row
             )
         );
@@ -338,7 +340,7 @@ fn pads_the_keys_of_the_standards(rt: HostRuntime) {
         key.copy_from_slice(&key_of(&row.key)[..24]);
         assert!(rt;
             pads(
-                &AesCipher::<BothWaysKeys<Bits192, Narrow>, BothWays>::new(&key),
+                &AesCipher::<BothWaysKeys<Bits192, Width128>, BothWays>::new(&key),
                 row
             )
         );
@@ -346,7 +348,7 @@ fn pads_the_keys_of_the_standards(rt: HostRuntime) {
     for row in &OF_32 {
         assert!(rt;
             pads(
-                &AesCipher::<BothWaysKeys<Bits256, Narrow>, BothWays>::new(&key_of(&row.key)),
+                &AesCipher::<BothWaysKeys<Bits256, Width128>, BothWays>::new(&key_of(&row.key)),
                 row
             )
         );
@@ -356,7 +358,9 @@ fn pads_the_keys_of_the_standards(rt: HostRuntime) {
 // What was encrypted with another check, length or padding is refused.
 #[test]
 fn refuses_other_paddings(rt: HostRuntime) {
-    let cipher = AesCipher::<BothWaysKeys<Bits256, Narrow>, BothWays>::new(&key_of(&OF_32[0].key));
+    let cipher = AesCipher::<BothWaysKeys<Bits256, Width128>, BothWays>::new(&key_of(
+        &OF_32[0].key,
+    ));
     for row in &BLOCKS {
         let mut block = block_of_number(row.number);
         let (_, key) = halves_of_block(&block);
@@ -371,7 +375,7 @@ fn refuses_other_paddings(rt: HostRuntime) {
 
 #[test]
 fn refuses_other_lengths(rt: HostRuntime) {
-    let cipher = AesCipher::<BothWaysKeys<Bits256, Narrow>, BothWays>::new(&[3; 32]);
+    let cipher = AesCipher::<BothWaysKeys<Bits256, Width128>, BothWays>::new(&[3; 32]);
     let sealed = [[7; 8]; 3];
     let mut output = [[6; 8]; 5];
     assert!(rt; wrap_padded(&cipher, &[], &mut output[..1]) == Err(InvalidCount));

@@ -1,4 +1,5 @@
-//! Messages in pieces: however they are cut, the calls agree with those for whole messages, and refuse what isn't their turn.
+//! Messages in pieces. However they are cut, the calls agree with those for whole messages, and
+//! refuse pieces in the wrong order.
 
 ghost use Rattle.std.specs.Prelude.{◌<◌, ◌≤◌};
 
@@ -75,7 +76,8 @@ fn goes_on(
     right
 }
 
-// Whether a message in pieces of `size` bytes is encrypted as a whole one, and decrypted in two passes and in one.
+// Whether a message in pieces of `size` bytes is encrypted as a whole one, and decrypted in two
+// passes and in one.
 pub(crate) fn agrees<const N: usize>(
     mode: &BorrowedGcm<'_, &Aes128Enc>,
     nonce: &[u8],

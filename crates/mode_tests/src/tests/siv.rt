@@ -1,5 +1,5 @@
-//! What no clause says: that AES-GCM-SIV answers, on messages of RFC 8452 (section 8, appendix C) at both key sizes, and what
-//! they refuse.
+//! What no clause says: that AES-GCM-SIV answers, on messages of RFC 8452 (section 8, appendix C)
+//! at both key sizes, and what its calls refuse.
 
 ghost use Rattle.std.specs.Prelude.{◌≡◌, IfOk};
 ghost use Rattle.gcm_siv.specs.GcmSiv.{tag, IsSivKeySize};
@@ -485,7 +485,8 @@ fn under_a_key_that_a_contract_names(rt: HostRuntime) {
     assert!(rt; encrypt_under(&key, &nonce, &[], &mut text) == Ok(tag.to_be_bytes()));
 }
 
-// A message of more blocks than the RFC's have. The last block and the tag are those of OpenSSL 4.0's AES-256-GCM-SIV.
+// A message of more blocks than the RFC's have. The last block and the tag are those of OpenSSL
+// 4.0's AES-256-GCM-SIV.
 #[test]
 fn two_hundred_bytes(rt: HostRuntime) {
     let mut bytes = [0u8; 200];

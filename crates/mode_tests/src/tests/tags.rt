@@ -33,7 +33,7 @@ const TAGS_256: [u128; 4] = [
     0xe1992190549f6ed5696a2c056c315410,
 ];
 
-// The tag under a key: a contract that names the key has the expansion of it (FIPS 197, 5.2).
+// The tag under a key. A contract that names the key has the expansion of the key (FIPS 197, 5.2).
 fn tag_under(key: &[u8; 16], message: &[u8]) -> Block
     ensures { result ≡ cmac (fips.key_expansion key.now) message.now }
 {
@@ -45,8 +45,8 @@ fn write_message(bytes: &mut [u8; 65]) {
     bytes[..64].copy_from_slice(blocks(&PLAIN).as_flattened());
 }
 
-// Whether a cipher gives the tags, takes each for its own message, and refuses a tag with a byte changed and a message
-// that is one byte longer.
+// Whether a cipher gives the tags, accepts each for its own message, and refuses a tag with a
+// changed byte and a message that is one byte longer.
 fn gives<C: BlockCipherEncrypt>(cipher: &C, tags: &[u128; 4]) -> bool {
     let mut message = [0; 65];
     write_message(&mut message);

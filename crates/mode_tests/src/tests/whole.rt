@@ -1,4 +1,5 @@
-//! What no clause says: that the calls answer, on vectors of NIST at each key size, and what they refuse.
+//! What no clause says: that the calls answer, on vectors of NIST at each key size, and what they
+//! refuse.
 
 ghost use Rattle.std.specs.Prelude.{◌≡◌, IfOk};
 ghost use Rattle.aes_planes.specs.Fips197 as fips;
@@ -10,7 +11,7 @@ use aes_hybrid::{Aes128Enc, Aes192Enc, Aes256Enc};
 use gcm::{Gcm, TooLong};
 use std::test::Fail;
 
-// Encrypts under a key: a contract that names the key has the expansion of it (FIPS 197, 5.2).
+// Encrypts under a key. A contract that names the key has the expansion of the key (FIPS 197, 5.2).
 fn encrypt_under(
     key: &[u8; 16],
     nonce: &[u8; 12],

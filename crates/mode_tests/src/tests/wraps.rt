@@ -1,4 +1,5 @@
-//! Nonces under which the last 32 bits of the counter wrap within the text: a random nonce does so once in 2^28 times.
+//! Nonces under which the last 32 bits of the counter wrap within the text: a random nonce does so
+//! once in 2^28 times.
 
 ghost use Rattle.std.specs.Prelude.{◌<◌};
 
@@ -22,9 +23,9 @@ const KEY: [u8; 16] = [
 
 const ADDITIONAL: [u8; 8] = [0xfe, 0xed, 0xfa, 0xce, 0xde, 0xad, 0xbe, 0xef];
 
-// J_0 was chosen, and the nonce N of one block follows from J_0 = (N H + L) H, where L is the block of its length. The
-// encryptions and the tags are those of OpenSSL's libcrypto. The first J_0 ends in ff ff ff fd, so that the counters of the
-// third block and of those behind it are wrapped.
+// J_0 was chosen, and the nonce N of one block follows from J_0 = (N H + L) H, where L is the block
+// of its length. The encryptions and the tags are those of OpenSSL's libcrypto. The first J_0 ends
+// in ff ff ff fd, so that the counters of the third block and of those after it are wrapped.
 const AT_THE_THIRD_BLOCK: Wrapping = Wrapping {
     nonce: [
         0x52, 0x0f, 0x83, 0xf0, 0x79, 0x80, 0xff, 0x6e, 0x39, 0xa2, 0x19, 0xf2, 0xb2, 0xbe, 0x77,
@@ -82,7 +83,8 @@ fn the_counter_wraps(rt: HostRuntime) {
     assert!(rt; is_right(&mode.borrowed(), &AT_THE_FIRST_BLOCK));
 }
 
-// In pieces of 32 bytes, the first ends where the counter wraps; smaller ones and larger ones end before and behind it.
+// In pieces of 32 bytes, the first piece ends where the counter wraps. Smaller and larger first
+// pieces end before and after that place.
 #[test]
 fn the_counter_wraps_however_cut(rt: HostRuntime) {
     let mode = Gcm::new(<Aes128Enc>::new(&KEY));

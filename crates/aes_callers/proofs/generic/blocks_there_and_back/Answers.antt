@@ -7,5 +7,5 @@ pub returns : goal.returns
 returns g c =
     let w = g.C.RoundKeysUser.round_keys c.args.cipher.now in
     c.decrypt_blocks.ensures ∙ ap (map (inv_cipher_with w)) c.encrypt_blocks.ensures
-    ∙ c.inverse_ciphers_on_blocks.ensures.inv_after w c.args.blocks.now c.has_round_keys.ensures
-    c.are_blocks.ensures
+    ∙ c.inverse_ciphers_on_blocks.ensures.inv_after w c.args.blocks.now c.round_keys_are_blocks.ensures
+    c.blocks_have_16_bytes.ensures

@@ -1,4 +1,4 @@
-//! A cipher of one round, under any two round keys: the single rounds make it.
+//! A cipher of one round, under any two round keys, made of the single rounds.
 
 ghost use Rattle.std.specs.Prelude.{◌≡◌, ℕ, [], ◌∷◌};
 ghost use Rattle.std.proofs.Common.{arith};
@@ -54,8 +54,8 @@ fn encrypt_each(cipher: &TwoKeys, blocks: &mut [Block])
 impl RoundKeysUser for TwoKeys {
     ghost round_keys = { λ cipher. cipher.first ∷ cipher.last ∷ [] };
 
-    fn has_round_keys(&self) {
-        laws::are_blocks(&[self.first, self.last]);
+    fn round_keys_are_blocks(&self) {
+        laws::blocks_have_16_bytes(&[self.first, self.last]);
     }
 
     ghost two_round_keys = { λ cipher. Prim.omega arith };

@@ -1,4 +1,5 @@
--- Each round key comes to its eight words: the first as it is, those between out of the tower basis, and the last.
+-- Each round key comes to its eight words: the first as it is, those between out of the tower
+-- basis, and the last.
 use Rattle.std.proofs.Common.{◌≡◌, inl, inr, ℕ, ◌*◌, ap, sym, ◌∙◌, arith}
 use Rattle.std.proofs.lemmas.Bool.{cases_lt}
 use Rattle.aes_soft.proofs.WordsInPlace.{key_kept}

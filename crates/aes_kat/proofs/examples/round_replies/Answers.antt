@@ -1,4 +1,5 @@
--- The reply of a round of EqInvCipher: its substitution is computed by itself, and then the other steps.
+-- The reply of a round of EqInvCipher: its substitution is computed by itself, and then the other
+-- steps.
 use Rattle.std.proofs.Common.{◌≡◌, List, ℕ, refl, ap}
 use Rattle.hex.specs.Hex.{encode_lower}
 use Rattle.aes_planes.specs.BigEndian.{bytes}

@@ -22,7 +22,8 @@ const OUTPUT: Block = [
     0x39, 0x25, 0x84, 0x1d, 0x02, 0xdc, 0x09, 0xfb, 0xdc, 0x11, 0x85, 0x97, 0x19, 0x6a, 0x0b, 0x32,
 ];
 
-// The cipher that is left of that example, whose key is that of appendix A.1: its round keys are 9 and 10 there.
+// The cipher that is left of that example, which has round keys 9 and 10 of the key of appendix
+// A.1.
 pub(crate) fn rest_of_the_example() -> OneRound {
     OneRound {
         first: ROUND_KEYS_A1[9].to_be_bytes(),

@@ -32,7 +32,7 @@ impl KeySizeUser for Plain {
 impl RoundKeysUser for Plain {
     ghost round_keys = { λ plain. fips.key_expansion plain.key };
 
-    fn has_round_keys(&self) {
+    fn round_keys_are_blocks(&self) {
         has_bytes(self.key);
         laws::expanded_keys();
     }
@@ -54,7 +54,7 @@ impl KeyInit for Plain {
         }
     }
 
-    fn has_key(&self) {
+    fn key_has_its_size(&self) {
         has_bytes(self.key);
     }
 

@@ -98,15 +98,15 @@ impl OneRound {
     fn are_round_keys(&self)
         ensures { fips.AreRoundKeys (self.now.first ∷ self.now.last ∷ []) }
     {
-        laws::is_block(self.first);
-        laws::is_block(self.last);
+        laws::block_has_16_bytes(self.first);
+        laws::block_has_16_bytes(self.last);
     }
 }
 
 impl RoundKeysUser for OneRound {
     ghost round_keys = { λ cipher. cipher.first ∷ cipher.last ∷ [] };
 
-    fn has_round_keys(&self) {
+    fn round_keys_are_blocks(&self) {
         self.are_round_keys();
     }
 
@@ -168,7 +168,7 @@ impl BatchSize for Three {
 impl RoundKeysUser for BorrowedRound<'_> {
     ghost round_keys = { λ lent. lent.cipher.now.first ∷ lent.cipher.now.last ∷ [] };
 
-    fn has_round_keys(&self) {
+    fn round_keys_are_blocks(&self) {
         self.cipher.are_round_keys();
     }
 

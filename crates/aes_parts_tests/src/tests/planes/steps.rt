@@ -5,7 +5,6 @@ ghost use Rattle.std.specs.Prelude.{◌<◌};
 use super::{packed, unpacked};
 use crate::tests::words::{WordTrial, try_words};
 use aes_cipher::blocks::sum_of_blocks;
-use aes_planes::soft::copies::{round_key, store_round_key};
 use aes_planes::soft::key_columns::{
     add_round_constant_bit, straddle_columns, summed_columns, xor_columns,
 };
@@ -13,6 +12,7 @@ use aes_planes::soft::mix_columns::{
     inv_mix_columns_0, inv_mix_columns_1, inv_mix_columns_2, inv_mix_columns_3, mix_columns_0,
     mix_columns_1, mix_columns_2, mix_columns_3,
 };
+use aes_planes::soft::round_keys::{round_key, store_round_key};
 use aes_planes::soft::sbox::{Layers, sub_bytes, sub_bytes_nots};
 use aes_planes::soft::shifts::{
     inv_shift_rows_1, inv_shift_rows_2, inv_shift_rows_3, shift_rows_1, shift_rows_2, shift_rows_3,
@@ -27,7 +27,8 @@ fn round_key_1() -> Block {
     ROUND_KEYS_A1[1].to_be_bytes()
 }
 
-// The state in round 1 of FIPS 197, appendix B: after SubBytes, ShiftRows, MixColumns and AddRoundKey.
+// The state in round 1 of FIPS 197, appendix B: after SubBytes, ShiftRows, MixColumns and
+// AddRoundKey.
 const SUBSTITUTED: Block = [
     0xd4, 0x27, 0x11, 0xae, 0xe0, 0xbf, 0x98, 0xf1, 0xb8, 0xb4, 0x5d, 0xe5, 0x1e, 0x41, 0x52, 0x30,
 ];
@@ -66,8 +67,9 @@ const MIXED_BACK_THRICE: Block = [
     0x04, 0xcb, 0xd3, 0x4c, 0xe0, 0xf8, 0x26, 0xe5, 0x48, 0x06, 0x81, 0x9a, 0x28, 0x66, 0x19, 0x7a,
 ];
 
-// A block for each number of deferred shifts, and the block with its columns mixed: the rows of SHIFTED and MIXED
-// shifted back as often. Four shifts are none, so SUBSTITUTED shifted three times is SHIFTED shifted back twice.
+// A block for each number of deferred shifts, and the block with its columns mixed: the rows of
+// SHIFTED and MIXED, shifted back that many times. Four shifts change nothing, so SUBSTITUTED
+// shifted three times is SHIFTED shifted back twice.
 const DEFERRED: [Block; 4] = [SHIFTED, SUBSTITUTED, SHIFTED_THRICE, SHIFTED_TWICE];
 
 const DEFERRED_MIXED: [Block; 4] = [MIXED, MIXED_BACK, MIXED_BACK_TWICE, MIXED_BACK_THRICE];
@@ -145,7 +147,8 @@ fn last_of<W: Word>(planes: &[W; 8]) -> Block {
     last
 }
 
-// The round key after a key of 16 bytes: in words that stand after the key's, and in planes of its own.
+// The round key after a key of 16 bytes, in words that stand after the key's and in planes of its
+// own.
 fn next_round_key<W: Word>(key: Block) -> [Block; 2] {
     let mut words = [W::zero(); 16];
     let before = W::in_every_slot(&key);

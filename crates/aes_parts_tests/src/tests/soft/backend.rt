@@ -47,8 +47,8 @@ fn decrypted<B: BlockCipherDecBackend>(backend: &B, blocks: [Block; 8]) -> ([Blo
     (whole, single)
 }
 
-// Whether a backend processes batches as it processes blocks, each way, and encrypts the block in slot 5 as it is
-// given.
+// Whether a backend processes batches as it processes blocks, each way, and encrypts the block in
+// slot 5 as it is given.
 fn processes_batches<B>(backend: &B, slot5: u128) -> bool
 where
     B: BlockCipherEncBackend + BlockCipherDecBackend,

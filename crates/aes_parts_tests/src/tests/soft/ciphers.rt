@@ -1,4 +1,5 @@
-//! Schedules and ciphers of both layouts and three sizes, on every word, against values from outside.
+//! Schedules and ciphers of both layouts and three sizes, on every word, against values from
+//! outside.
 
 use super::block;
 use crate::tests::words::{WordTrial, try_words};
@@ -24,7 +25,7 @@ macro_rules! there_and_back {
     }};
 }
 
-// A key of one size, by which each layout encrypts blocks, and decrypts them again.
+// A key of one size, under which each layout encrypts blocks and decrypts them again.
 trait SizedKey {
     fn compact<W: Word>(&self, blocks: &W::Blocks) -> (W::Blocks, W::Blocks);
 
@@ -61,7 +62,8 @@ impl SizedKey for [u8; 32] {
     }
 }
 
-// Whether both layouts encrypt eight blocks as wanted and decrypt them again, each in each slot of a word, beside seven others.
+// Whether both layouts encrypt eight blocks as wanted and decrypt them again, each in each slot of
+// a word, beside seven others.
 fn works<W: Word, K: SizedKey>(key: &K, plain: &[Block; 8], wanted: &[Block; 8]) -> bool {
     let mut is_right = true;
     for first in 0..8usize {
@@ -186,8 +188,9 @@ fn encrypts_and_decrypts_the_zero_block(rt: HostRuntime) {
     try_words(&rt, &encrypted);
 }
 
-// Round key 1 of the zero key is 62 63 63 63 in each column (FIPS 197, 5.2): with 0x63 added 01 in row 0, and plane 0
-// is 0x000f. The words of round keys 2 and 3 were worked out in the same way.
+// Round key 1 of the zero key is 62 63 63 63 in each column (FIPS 197, 5.2). With 0x63 added, it is
+// 01 in row 0, and plane 0 is 0x000f. The words of round keys 2 and 3 were worked out in the same
+// way.
 fn are_of_the_zero_key(words: &[u16; 88], word_24: u16) -> bool {
     words[..8] == [0; 8]
         && words[8] == 0x000f

@@ -15,8 +15,8 @@ pairs-preserved g c =
     let n = g.L.Lanes.BLOCKS in
     let i = c.pairs.done in
     let before = c.pairs.blocks in
-    let first = g.L.Lanes.block c.process_two-first.result.0 in
-    let second = g.L.Lanes.block c.process_two-first.result.1 in
+    let first = g.L.Lanes.block c.process_two_vectors-first.result.0 in
+    let second = g.L.Lanes.block c.process_two_vectors-first.result.1 in
     let size = c.BLOCKS-size.ensures in
     record {
       within = omega (arith, c.pairs-test.true, c.pairs.invariant.within);
@@ -35,8 +35,8 @@ pairs-preserved g c =
             c.pairs.invariant.within,
             c.pairs.invariant.same_length,
           ))
-          (λ k below. c.process_two-first.ensures.one k ∙ ap f (c.load-one.ensures k below))
-          (λ k below. c.process_two-first.ensures.other k
+          (λ k below. c.process_two_vectors-first.ensures.one k ∙ ap f (c.load-one.ensures k below))
+          (λ k below. c.process_two_vectors-first.ensures.other k
           ∙ ap f (c.load-other.ensures k below ∙ ap (λ m. get_or before (i + m + k) []) size))
           ∙ c.pairs.invariant.value;
     }

@@ -7,13 +7,13 @@ use Rattle.aes_permute.proofs.lanes.looked_up_by_nibbles.Goals as goal
 pub lookup-by_low-requires : goal.lookup-by_low-requires
 lookup-by_low-requires g c = record {
   are_indices = λ i. subst AreIndices (sym (c.low_nibbles.ensures i))
-      (nibbles_are_indices _ (low_is _ (c.are_blocks.ensures i)));
+      (nibbles_are_indices _ (low_is _ (c.blocks_have_16_bytes.ensures i)));
 }
 
 pub lookup-by_high-requires : goal.lookup-by_high-requires
 lookup-by_high-requires g c = record {
   are_indices = λ i. subst AreIndices (sym (c.high_nibbles.ensures i))
-      (nibbles_are_indices _ (high_is _ (c.are_blocks.ensures i)));
+      (nibbles_are_indices _ (high_is _ (c.blocks_have_16_bytes.ensures i)));
 }
 
 pub returns : goal.returns

@@ -5,4 +5,4 @@ pub permuted-requires : goal.permuted-requires
 permuted-requires c = record { are_indices = shifted_back_indices c.args.number }
 
 pub returns : goal.returns
-returns c = stored_is c.args.number c.args.key _ (c.are_blocks.ensures 0).0 (c.permuted.ensures 0)
+returns c = stored_is c.args.number c.args.key _ (c.blocks_have_16_bytes.ensures 0).0 (c.permuted.ensures 0)

@@ -9,33 +9,33 @@ use Rattle.aes_permute.proofs.sbox.places_of.Goals as goal
 
 pub lookup-scaled-requires : goal.lookup-scaled-requires
 lookup-scaled-requires g c = record {
-  are_indices = λ i. made_places low_nibble low_cases _ (c.are_blocks.ensures i)
+  are_indices = λ i. made_places low_nibble low_cases _ (c.blocks_have_16_bytes.ensures i)
       (c.low_nibbles-low.ensures i);
 }
 
 pub lookup-high_inverse-requires : goal.lookup-high_inverse-requires
 lookup-high_inverse-requires g c = record {
-  are_indices = λ i. made_places high_nibble high_cases _ (c.are_blocks.ensures i)
+  are_indices = λ i. made_places high_nibble high_cases _ (c.blocks_have_16_bytes.ensures i)
       (c.high_nibbles-high.ensures i);
 }
 
 pub lookup-both_inverse-requires : goal.lookup-both_inverse-requires
 lookup-both_inverse-requires g c = record {
-  are_indices = λ i. made_places both_nibbles both_cases _ (c.are_blocks.ensures i)
+  are_indices = λ i. made_places both_nibbles both_cases _ (c.blocks_have_16_bytes.ensures i)
       (sum_of high_nibble low_nibble _ (c.sum-both.ensures i) (c.high_nibbles-high.ensures i)
       (c.low_nibbles-low.ensures i));
 }
 
 pub lookup-at_high-requires : goal.lookup-at_high-requires
 lookup-at_high-requires g c = record {
-  are_indices = λ i. made_places (second_sum high_nibble) over_high_cases _ (c.are_blocks.ensures i)
+  are_indices = λ i. made_places (second_sum high_nibble) over_high_cases _ (c.blocks_have_16_bytes.ensures i)
       (over_is high_nibble _ (c.high_nibbles-high.ensures i) (c.low_nibbles-low.ensures i)
       (c.lookup-high_inverse.ensures i) (c.lookup-scaled.ensures i) (c.sum-over_high.ensures i));
 }
 
 pub lookup-at_both-requires : goal.lookup-at_both-requires
 lookup-at_both-requires g c = record {
-  are_indices = λ i. made_places (second_sum both_nibbles) over_both_cases _ (c.are_blocks.ensures i)
+  are_indices = λ i. made_places (second_sum both_nibbles) over_both_cases _ (c.blocks_have_16_bytes.ensures i)
       (over_is both_nibbles _
       (sum_of high_nibble low_nibble _ (c.sum-both.ensures i) (c.high_nibbles-high.ensures i)
       (c.low_nibbles-low.ensures i))
@@ -67,8 +67,8 @@ returns-clause-second g c i =
 
 pub returns-clause-first_places : goal.returns-clause-first_places
 returns-clause-first_places g c i =
-    made_places first_of first_cases _ (c.are_blocks.ensures i) (returns-clause-first g c i)
+    made_places first_of first_cases _ (c.blocks_have_16_bytes.ensures i) (returns-clause-first g c i)
 
 pub returns-clause-second_places : goal.returns-clause-second_places
 returns-clause-second_places g c i =
-    made_places second_of second_cases _ (c.are_blocks.ensures i) (returns-clause-second g c i)
+    made_places second_of second_cases _ (c.blocks_have_16_bytes.ensures i) (returns-clause-second g c i)

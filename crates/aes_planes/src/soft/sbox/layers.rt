@@ -5,9 +5,9 @@ ghost use Rattle.std.specs.Borrow.{ftrue};
 
 use std::marker::Model;
 
-/// How many S-box layers ran. It has no bytes, and contracts alone see its number.
+/// Counts the S-box layers that ran. A counter has no bytes, and only contracts see its number.
 ///
-/// It is neither Copy nor Clone, and only the two circuits of this module add to one.
+/// It is neither `Copy` nor `Clone`, and only the two circuits of this module add to one.
 #[derive(Drop)]
 pub struct Layers {
     tally: Tally,
@@ -41,7 +41,7 @@ impl Layers {
     }
 }
 
-// A number that clauses alone see.
+// A number that only clauses see.
 #[derive(Drop)]
 struct Tally {
     ghost count: { ℕ },

@@ -1,5 +1,4 @@
-//! Packing of a block into eight words of sixteen bits, which are gathered from the bits of a
-//! vector.
+//! Packs a block into eight words of sixteen bits, which are gathered from the bits of a vector.
 
 ghost use Rattle.std.specs.Prelude.{◌≡◌, ℕ, ◌+◌, ◌*◌, ◌<◌, [], ◌∷◌, get_or};
 ghost use Rattle.aes_planes.specs.Bits.{bit};
@@ -29,7 +28,7 @@ pub(super) fn lanes_of(words: &[u16; 8]) -> u16x8
     u16x8::from_le_bytes(u64x2::from_array([low, high]).to_le_bytes())
 }
 
-// The bytes of the lanes, the lower one of each first and then the upper ones.
+// The bytes of the lanes: first the lower byte of each, and then the upper ones.
 #[tactic(auto, using(crate::proofs::Words::PlaneLanes::half_bit))]
 #[inline(always)]
 pub(super) fn halves_of(x: u16x8) -> u8x16
@@ -56,13 +55,15 @@ pub(super) fn plane_of(bytes: u8x16, p: u32) -> u16
 pub(super) fn planes_of(bytes: u8x16) -> [u16; 8]
     ensures { (p i : ℕ) → p < 8 → i < 16 → bit (get_or result p 0) i ≡ bit (get_or bytes i 0) p }
 {
-    let p0 = plane_of(bytes, 0);
-    let p1 = plane_of(bytes, 1);
-    let p2 = plane_of(bytes, 2);
-    let p3 = plane_of(bytes, 3);
-    let p4 = plane_of(bytes, 4);
-    let p5 = plane_of(bytes, 5);
-    let p6 = plane_of(bytes, 6);
-    let p7 = plane_of(bytes, 7);
-    [p0, p1, p2, p3, p4, p5, p6, p7]
+    let plane0 = plane_of(bytes, 0);
+    let plane1 = plane_of(bytes, 1);
+    let plane2 = plane_of(bytes, 2);
+    let plane3 = plane_of(bytes, 3);
+    let plane4 = plane_of(bytes, 4);
+    let plane5 = plane_of(bytes, 5);
+    let plane6 = plane_of(bytes, 6);
+    let plane7 = plane_of(bytes, 7);
+    [
+        plane0, plane1, plane2, plane3, plane4, plane5, plane6, plane7,
+    ]
 }

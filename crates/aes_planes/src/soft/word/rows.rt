@@ -1,4 +1,4 @@
-//! A nibble as a row of a word: each of its bits once for every block.
+//! A nibble as a row of a word, with each of its bits once for every block.
 
 ghost use Rattle.std.specs.Prelude.{◌≡◌, ℕ, ◌*◌, ◌/◌, ◌^◌, ◌<◌, ◌≤◌};
 ghost use Rattle.aes_planes.specs.Bits.{bit};
@@ -14,9 +14,9 @@ pub(crate) fn row_of(b: u8, n: u32) -> u32
     ensures bits { (q : ℕ) → q < 4 * n → bit result q ≡ bit b (q / n) }
 {
     let ones = (1 << n) - 1;
-    let b0 = (b & 1) as u32;
-    let b1 = (b >> 1 & 1) as u32;
-    let b2 = (b >> 2 & 1) as u32;
-    let b3 = (b >> 3) as u32;
-    (b0 | b1 << n | b2 << 2 * n | b3 << 3 * n) * ones
+    let bit0 = (b & 1) as u32;
+    let bit1 = (b >> 1 & 1) as u32;
+    let bit2 = (b >> 2 & 1) as u32;
+    let bit3 = (b >> 3) as u32;
+    (bit0 | bit1 << n | bit2 << 2 * n | bit3 << 3 * n) * ones
 }

@@ -1,5 +1,5 @@
-//! A word of 128 bits, eight of which hold eight blocks: its operations work on its bytes as lanes
-//! of a vector.
+//! A word of 128 bits. Eight such words hold eight blocks. The operations work on the bytes of a
+//! word as lanes of a vector.
 
 ghost use Rattle.std.specs.Prelude.{◌≡◌};
 ghost use Rattle.std.proofs.Common.{arith, rules};

@@ -1,4 +1,5 @@
-//! A word of 256 bits, eight of which hold sixteen blocks: for processors with vectors of 256 bits.
+//! A word of 256 bits, for processors with vectors of 256 bits. Eight such words hold sixteen
+//! blocks.
 
 ghost use Rattle.std.specs.Prelude.{◌≡◌};
 ghost use Rattle.std.proofs.Common.{arith, rules};

@@ -1,4 +1,4 @@
-//! A word of thirty-two bits, eight of which hold two blocks.
+//! A word of thirty-two bits. Eight such words hold two blocks.
 
 ghost use Rattle.std.specs.Prelude.{◌≡◌, ℕ, ◌+◌, ◌*◌, ◌<◌, [], ◌∷◌, slice_index};
 ghost use Rattle.std.proofs.Common.{arith, rules};

@@ -1,4 +1,4 @@
-//! A word of sixty-four bits, eight of which hold four blocks.
+//! A word of sixty-four bits. Eight such words hold four blocks.
 
 ghost use Rattle.std.specs.Prelude.{◌≡◌, ℕ, ◌+◌, ◌-◌, ◌*◌, ◌/◌, ◌^◌, ◌<◌, ◌&&◌, ◌||◌, nat_le, []};
 ghost use Rattle.std.specs.Prelude.{◌∷◌, slice_index};
@@ -149,8 +149,8 @@ fn columns_together(even: u64, odd: u64) -> Block
     bytes.to_array()
 }
 
-// The lowest sixteen bits, each four times: halves are drawn apart until each bit has four places,
-// and then fills them.
+// The lowest sixteen bits, each four times. Halves are moved apart until each bit has four places,
+// and then the bit fills these.
 #[inline(always)]
 fn each_four_times(x: u64) -> u64
     requires sixteen_bits { x < 2 ^ 16 }
@@ -164,7 +164,7 @@ fn each_four_times(x: u64) -> u64
     drawn_apart(twice, 2, 0xffff_ffff_ffff_ffff)
 }
 
-// The bits here and those so far below, where the mask has a bit.
+// Where the mask has a bit: the bit there or the one `shift` places below.
 #[tactic(auto, using(crate::proofs::Words::Spread::drawn_bit))]
 #[inline(always)]
 fn drawn_apart(x: u64, shift: u32, mask: u64) -> u64

@@ -1,4 +1,4 @@
-//! Backends: round keys that are lent for a while, with what a batch needs.
+//! Backends: round keys that are lent to a closure, with what a batch needs.
 ghost use Rattle.std.specs.Prelude.{◌≡◌, ℕ, List};
 ghost use Rattle.aes_planes.specs.Fips197 as fips;
 ghost use Rattle.aes_planes.specs.Words.{word_bits};
@@ -11,7 +11,7 @@ mod encrypt;
 use super::slices::{process_batch_under, process_block_under};
 use crate::soft::blocks::BatchWord;
 use crate::soft::full::store_widened;
-use crate::soft::plane_room::reads_key;
+use crate::soft::plane_room::words_hold_a_key;
 use aes_cipher::cipher::{
     BatchOfEight, BatchSizeUser, BlockCipherDecBackend, BlockCipherEncBackend, Decrypt, Encrypt,
     RoundKeysUser,
@@ -24,7 +24,8 @@ pub use encrypt::encrypt_with_backend;
 use std::convert::AsSlice;
 use std::marker::Model;
 
-// The most bytes of stack of a closure that works on batches, as those of this library's modes do.
+// The most bytes of stack that a closure uses to work on batches, as the closures of this library's
+// modes do.
 const CLOSURE_STACK: usize = 2032;
 
 /// The backend of a key of 16 bytes.
@@ -36,8 +37,8 @@ pub type Aes192Backend<'a> = Backend<'a, Wiped<[BatchWord; 104]>>;
 /// The backend of a key of 32 bytes.
 pub type Aes256Backend<'a> = Backend<'a, Wiped<[BatchWord; 120]>>;
 
-/// Encrypts and decrypts under round keys that it borrows. It holds the same on the words of a
-/// batch, or borrows them. Contracts see a value as its key.
+/// Encrypts and decrypts under round keys that it borrows. It also holds, or borrows, these round
+/// keys on the words of a batch. Contracts see a value as its key.
 pub struct Backend<'a, H: AsSlice<BatchWord> + Drop> {
     round_keys: &'a [u16],
     widened: H,
@@ -93,8 +94,8 @@ impl<'a, const N: usize> Backend<'a, Wiped<[BatchWord; N]>> {
 }
 
 impl<'a> Backend<'a, &'a [BatchWord]> {
-    // The backend of stored round keys and of the same, widened, both lent: those stay with their
-    // owner, who wipes them.
+    // Makes the backend of stored round keys and of their widened copy. Both are lent, and their
+    // owner wipes them.
     #[inline(always)]
     fn lent(round_keys: &'a [u16], widened: &'a [BatchWord]) -> Backend<'a, &'a [BatchWord]>
         requires is_schedule { IsFullSchedule (word_bits 16) 1 round_keys.now }
@@ -113,8 +114,8 @@ impl<'a> Backend<'a, &'a [BatchWord]> {
 impl<H: AsSlice<BatchWord> + Drop> RoundKeysUser for Backend<'_, H> {
     ghost round_keys = { fips.key_expansion };
 
-    fn has_round_keys(&self) {
-        reads_key(self.round_keys);
+    fn round_keys_are_blocks(&self) {
+        words_hold_a_key(self.round_keys);
     }
 
     ghost two_round_keys = { two_keys };

@@ -7,7 +7,7 @@ ghost use Rattle.aes_soft.specs.Batches.{layers_for};
 ghost use Rattle.aes_soft.specs.Stored.{key_of_planes, rounds_of, IsFullSchedule};
 
 use crate::soft::blocks::BatchWord;
-use crate::soft::ciphers::{Full, PlaneCipher, process, process_in_a_call};
+use crate::soft::ciphers::{Full, PlaneCipher, process, process_outlined};
 use crate::soft::full::store_widened_first;
 use aes_cipher::zeroize::{MustWipe, wipe_stack};
 use aes_planes::soft::sbox::Layers;
@@ -56,7 +56,7 @@ pub fn process_batch_under<W: Word, D: PlaneCipher>(
     let rounds = words.len() / 8 - 1;
     let input = batch_of::<W::Blocks>(blocks);
     let output = if W::Blocks::LEN == 1 {
-        process_in_a_call::<W, Full, D>(words, rounds, &input, layers)
+        process_outlined::<W, Full, D>(words, rounds, &input, layers)
     } else {
         process::<W, Full, D>(words, rounds, &input, layers)
     };
@@ -91,7 +91,7 @@ const BATCHES_STACK: usize = 1024;
 
 // Processes whole batches in a call of its own, so that its stack can be wiped.
 #[inline(never)]
-fn process_batches_in_a_call<W: Word, D: PlaneCipher>(
+fn process_batches_outlined<W: Word, D: PlaneCipher>(
     words: &[W],
     blocks: &mut [Block],
     layers: &mut Layers,
@@ -108,7 +108,7 @@ fn process_batches_in_a_call<W: Word, D: PlaneCipher>(
 }
 
 /// Processes each block of a slice in place, under stored round keys: whole batches first, then one
-/// block after the other. The stack that the work on them took is wiped before the call returns.
+/// block after the other. The stack that the work used is wiped before the call returns.
 #[inline(always)]
 pub fn process_blocks_under<D: PlaneCipher>(
     round_keys: &[u16],
@@ -126,10 +126,10 @@ pub fn process_blocks_under<D: PlaneCipher>(
         let mut room = MustWipe::<[BatchWord; 120]>::zeroed();
         store_widened_first(room.value_mut(), round_keys);
         let widened = &room.value()[..round_keys.len()];
-        process_batches_in_a_call::<BatchWord, D>(widened, &mut blocks[..whole], layers);
+        process_batches_outlined::<BatchWord, D>(widened, &mut blocks[..whole], layers);
         room.wipe();
     }
-    process_batches_in_a_call::<u16, D>(round_keys, &mut blocks[whole..], layers);
+    process_batches_outlined::<u16, D>(round_keys, &mut blocks[whole..], layers);
     wipe_stack::<BATCHES_STACK>();
 }
 

@@ -2,8 +2,8 @@
 ghost use Rattle.std.specs.Prelude.{◌≡◌, ◌⊎◌, ℕ};
 ghost use Rattle.std.proofs.Common.{inl, inr, refl};
 
-/// A layout of round keys. As many ShiftRows are deferred at round key i as the remainder of i by
-/// the period, but none at the last.
+/// A layout of round keys. At round key i, as many ShiftRows are deferred as the remainder of i by
+/// the period. At the last round key none is.
 pub trait Layout {
     /// The period, in rounds.
     ghost PERIOD: { ℕ };
@@ -11,7 +11,7 @@ pub trait Layout {
     /// The period, in rounds.
     const PERIOD: usize;
 
-    /// One ShiftRows can be deferred, or three at most.
+    /// At most one ShiftRows is deferred, or at most three.
     ghost two_or_four: { (PERIOD ≡ 2) ⊎ (PERIOD ≡ 4) };
 }
 

@@ -49,8 +49,8 @@ impl PlaneCipher for Encrypt {
         mix_columns_0(state);
     }
 
-    // A period at a time. Where one ShiftRows is deferred, two more rounds or two ShiftRows make it
-    // three.
+    // Runs a period at a time. If one ShiftRows is deferred, two more rounds or two ShiftRows make
+    // it three.
     fn process_planes<W: Word, L: Layout>(
         round_keys: &[W],
         rounds: usize,
@@ -96,7 +96,7 @@ impl PlaneCipher for Decrypt {
         inv_mix_columns_0(state);
     }
 
-    // A period at a time.
+    // Runs a period at a time.
     fn process_planes<W: Word, L: Layout>(
         round_keys: &[W],
         rounds: usize,
@@ -132,7 +132,8 @@ impl PlaneCipher for Decrypt {
     }
 }
 
-// Processes each block of a batch. Inlined, so that most copies of blocks go where there are many.
+// Processes each block of a batch. Inlined, so that the compiler removes most copies of blocks
+// where there are many blocks.
 #[tactic(auto, using(crate::proofs::Slots::batch_processed))]
 #[inline(always)]
 pub(crate) fn process<W: Word, L: Layout, D: PlaneCipher>(
@@ -159,9 +160,10 @@ pub(crate) fn process<W: Word, L: Layout, D: PlaneCipher>(
     W::inv_bitslice(&state)
 }
 
-// Processes each block of a batch in a call that is not inlined, which is quicker for a single
-// block.
-pub(crate) fn process_in_a_call<W: Word, L: Layout, D: PlaneCipher>(
+// Processes each block of a batch in a call that is not inlined. This is quicker for a single block
+// and for a batch that is filled up. The rounds are then compiled once for both.
+#[inline(never)]
+pub(crate) fn process_outlined<W: Word, L: Layout, D: PlaneCipher>(
     round_keys: &[W],
     rounds: usize,
     input: &W::Blocks,

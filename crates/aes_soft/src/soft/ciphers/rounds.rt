@@ -3,11 +3,11 @@ ghost use Rattle.std.specs.Prelude.{◌≡◌, ℕ, ◌+◌, ◌*◌, ◌<◌, �
 ghost use Rattle.aes_planes.specs.Fips197 as fips;
 ghost use Rattle.aes_planes.specs.Planes.{held, between_shifts, plus63, words_at, zip_with};
 
-use aes_planes::soft::copies::round_key;
 use aes_planes::soft::mix_columns::{
     inv_mix_columns_0, inv_mix_columns_1, inv_mix_columns_2, inv_mix_columns_3, mix_columns_0,
     mix_columns_1, mix_columns_2, mix_columns_3,
 };
+use aes_planes::soft::round_keys::round_key;
 use aes_planes::soft::sbox::{Layers, inv_sub_bytes, sub_bytes};
 use aes_planes::soft::sums::add_round_key;
 use aes_planes::soft::word::Word;
@@ -24,8 +24,8 @@ pub(super) fn add_key<W: Word>(state: &mut [W; 8], round_keys: &[W], i: usize)
     add_round_key(state, &key);
 }
 
-// How many ShiftRows are deferred after a round. A type and no number, so that each round is
-// compiled with its own mixing of columns and no choice between four.
+// How many ShiftRows are deferred after a round. It is a type and not a number, so that each round
+// is compiled with its own mixing of columns, without a choice between four.
 pub(super) trait Deferred {
     // The number of deferred ShiftRows.
     ghost DEFERRED: { ℕ };
@@ -112,8 +112,8 @@ impl Deferred for Deferred3 {
     }
 }
 
-// Round `i` without its ShiftRows, which is deferred. `D` says how many are deferred after it: by
-// this number the mixing finds each row where it is.
+// Round `i` without its ShiftRows, which is deferred. `D` says how many are deferred after the
+// round. By this number the mixing finds each row where it is.
 #[inline(always)]
 pub(super) fn round<W: Word, D: Deferred>(
     state: &mut [W; 8],
@@ -133,8 +133,8 @@ pub(super) fn round<W: Word, D: Deferred>(
     add_key(state, round_keys, i);
 }
 
-// Undoes the mixing of round `i`, and the substitution of the next, where as many ShiftRows are
-// deferred as `D` says.
+// Undoes the mixing of round `i`, and the substitution of the next round. `D` says how many
+// ShiftRows are deferred there.
 #[inline(always)]
 pub(super) fn inv_round<W: Word, D: Deferred>(
     state: &mut [W; 8],

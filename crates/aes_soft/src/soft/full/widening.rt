@@ -5,8 +5,8 @@ ghost use Rattle.aes_soft.specs.Stored.{key_of_planes, IsFullSchedule};
 
 use aes_planes::soft::word::Word;
 
-/// Writes stored round keys on `u16` to as many words of `W`, for the same key: each word by
-/// `broadcast`, so that every slot has the block of the one slot.
+/// Writes stored round keys on `u16` to as many words of `W`, for the same key. Each word is made
+/// by `broadcast`, so that every slot has the block of the one slot.
 #[inline(always)]
 pub fn store_widened<W: Word>(widened: &mut [W], round_keys: &[u16])
     requires same_length { length widened.old ≡ length round_keys.now }
@@ -21,7 +21,8 @@ pub fn store_widened<W: Word>(widened: &mut [W], round_keys: &[u16])
     }
 }
 
-// Does the same in room for the round keys of the largest key: in as many of its first words.
+// Does what `store_widened` does, in room for the round keys of the largest key: writes as many of
+// its first words.
 #[inline(always)]
 pub(crate) fn store_widened_first<W: Word>(room: &mut [W; 120], round_keys: &[u16])
     requires is_stored { IsFullSchedule (word_bits 16) 1 round_keys.now }

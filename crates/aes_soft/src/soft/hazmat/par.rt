@@ -1,4 +1,4 @@
-//! Single rounds of eight blocks, each under the round key of its own, batch after batch.
+//! Single rounds of eight blocks, each under its own round key, batch after batch.
 
 ghost use Rattle.std.specs.Prelude.{◌≡◌, ◌%◌, length};
 ghost use Rattle.aes_planes.specs.Each.{Each};

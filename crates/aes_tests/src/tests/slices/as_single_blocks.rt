@@ -8,7 +8,8 @@ use std::test::Fail;
 // A block that no call has written.
 const UNTOUCHED: Block = [0xee; 16];
 
-// Whether slices become what the calls on blocks make of them, in both forms, and the blocks after them stay.
+// Whether slices become what the calls on blocks make of them, in both forms, and the blocks after
+// them stay.
 fn processes_slices<D: Direction, C: CipherIn<D>>(cipher: &C) -> bool {
     let blocks = different_blocks();
     let mut right = true;

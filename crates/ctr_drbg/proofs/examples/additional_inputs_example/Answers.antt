@@ -1,4 +1,5 @@
--- Both requests by the blocks that they encrypt: the update before the output, the output, and the one after it.
+-- Both requests by the blocks that they encrypt: the update before the output, the output, and the
+-- one after it.
 use Rattle.std.proofs.Common.{◌≡◌, ℕ, List, ◌∙◌, ap, take}
 use Rattle.aes_planes.specs.BigEndian.{bytes}
 use Rattle.aes_planes.specs.Fips197.{build, build_from}

@@ -12,15 +12,15 @@ use Rattle.gcm.proofs.Messages.InPieces.{unfilled, parts_joined, three_parts}
 use Rattle.gcm.proofs.hash_room.hash_piece.Goals as goal
 use borrow.Rule.Slice.PartMut.{post_of, put_mid, same_len_mid}
 
-pub returns-then-bytes-filled : goal.returns-then-bytes-filled
-returns-then-bytes-filled g c y s places is =
+pub returns-then-bytes-rest_length : goal.returns-then-bytes-rest_length
+returns-then-bytes-rest_length g c y s places is =
     let b : List ℕ = c.args.bytes.now in
     let rest : List ℕ = c.args.rest.now in
-    let f : ℕ = c.args.filled in
+    let f : ℕ = c.args.rest_length in
     let copied : List ℕ = c.copy_from_slice.new.self in
     let same : copied ≡ b = c.copy_from_slice.ensures.after in
     unfilled c.args.room.now y (from_be_bytes w128 c.args.value.now) s rest b _ is
-    (omega (arith, places, c.if-bytes-filled.true))
+    (omega (arith, places, c.if-bytes-rest_length.true))
     (ap (λ n. take (n + length b) (put_mid f (f + length b - f) rest copied)) places
     ∙ take-put_mid f (f + length b - f) rest copied (f + length b) (omega (arith, ap length same))
     (omega arith)
@@ -31,7 +31,7 @@ returns g c y s places is =
     let h : ℕ = c.args.room.now in
     let b : List ℕ = c.args.bytes.now in
     let rest : List ℕ = c.args.rest.now in
-    let f : ℕ = c.args.filled in
+    let f : ℕ = c.args.rest_length in
     let first : List ℕ = c.split_at.result.0.now in
     let whole : List ℕ = c.split_at-2.result.0.now in
     let last : List ℕ = c.split_at-2.result.1.now in

@@ -15,13 +15,13 @@ use Rattle.gcm.proofs.moved_rows.put_moved_rows.Goals as goal
 pub lookup-first-requires : goal.lookup-first-requires
 lookup-first-requires c = record {
   are_indices = λ i. subst AreIndices (sym (c.low_nibbles-last.ensures i))
-      (nibbles_are_indices _ (low_is _ c.is_block.ensures));
+      (nibbles_are_indices _ (low_is _ c.block_has_16_bytes.ensures));
 }
 
 pub lookup-second-requires : goal.lookup-second-requires
 lookup-second-requires c = record {
   are_indices = λ i. subst AreIndices (sym (c.low_nibbles-last.ensures i))
-      (nibbles_are_indices _ (low_is _ c.is_block.ensures));
+      (nibbles_are_indices _ (low_is _ c.block_has_16_bytes.ensures));
 }
 
 pub loop-r-init : goal.loop-r-init
@@ -33,7 +33,7 @@ loop-r-init c =
       sized = omega (arith, c.requires.sized, length-set {A = List ℕ});
       at = two_more f _ 1 _ _ (omega (arith, c.requires.sized, length-set {A = List ℕ})) (omega arith)
           (second_row c.args.v c.args.rows.now _ _ _ c.requires.rows (search rules)
-          c.is_block.ensures.0
+          c.block_has_16_bytes.ensures.0
           (lane_in_pair _ _ _ _ _ _ 0 c.lower-2.ensures (c.load-2.ensures 0 (omega arith))
           (c.load-3.ensures 0 (omega arith)) c.moved-pair-2.ensures)
           (c.lookup-second.ensures 0) (c.low_nibbles-last.ensures 0))
@@ -43,7 +43,7 @@ loop-r-init c =
           (c.load-3.ensures 1 (omega arith)) c.moved-pair-2.ensures))
           (two_more f c.args.moved_rows.now 0 _ _ c.requires.sized (omega arith)
           (first_row c.args.v c.args.rows.now _ _ _ (omega arith) c.requires.rows (search rules)
-          c.is_block.ensures.0
+          c.block_has_16_bytes.ensures.0
           (lane_in_pair _ _ _ _ _ _ 0 c.lower.ensures (c.load.ensures 0 (omega arith)) before.0
           c.moved-pair.ensures)
           (c.lookup-first.ensures 0) (c.low_nibbles-last.ensures 0))

@@ -9,6 +9,6 @@ use Rattle.gcm.proofs.multiples.product.Goals as goal
 pub returns : goal.returns
 returns c =
     c.shifted_sum.ensures
-    ∙ ap (λ h. rows_after (row_number h (from_be_bytes w128 c.args.x)) 16) c.lent.ensures
+    ∙ ap (λ h. rows_after (row_number h (from_be_bytes w128 c.args.x)) 16) c.new.ensures
     ∙ all_rows (subkey_in c.args.rows.now) (from_be_bytes w128 c.args.x)
     (table_below c.args.rows.now c.requires.table)

@@ -11,8 +11,8 @@ loop-k-preserved g c =
     let moved = c.after_zeros.ensures in
     let last = c.after_lasts-second.ensures in
     halves_next (g.P.ProductRows.numbers c.args.rows.now) c.loop-k.k c.loop-k.first c.loop-k.second
-    c.at-added.result c.after_zeros.result _
-    (omega arith) c.loop-k.invariant c.at-added.ensures
+    c.row_pair-added.result c.after_zeros.result _
+    (omega arith) c.loop-k.invariant c.row_pair-added.ensures
     moved.lower moved.upper last.lower last.upper
 
 pub returns : goal.returns

@@ -15,7 +15,7 @@ returns g c =
     let x : List ℕ = c.args.bytes.now in
     let i : ℕ = length x / 16 in
     let from : length x - length x % 16 ≡ 16 * i = omega arith in
-    c.after.ensures
+    c.hash_block.ensures
     ∙ one_left g.O.ByteOrder.number (g.F.Factor.subkey c.args.factor.now) _ _ i _ _ x _
     c.hash_whole-hashed.ensures (omega arith) (omega (arith, c.if-over-eq0.false))
     (ap (λ a. slice_range x a (length x)) from)

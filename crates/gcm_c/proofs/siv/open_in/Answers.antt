@@ -1,4 +1,5 @@
--- The derived keys are those of the nonce under the struct's key: so a tag is judged, and a text decrypted, as the RFC says.
+-- The derived keys are those of the nonce under the struct's key: so a tag is judged, and a text
+-- decrypted, as the RFC says.
 use Rattle.std.proofs.Common.{◌∙◌, ℕ, ap, sym}
 use Rattle.std.specs.Int.{w128, from_le_bytes}
 use Rattle.aes_planes.specs.Fips197.{key_expansion}

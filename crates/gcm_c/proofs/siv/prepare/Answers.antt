@@ -33,4 +33,4 @@ returns-clause-encryption g c =
     (sym (ap length c.cipher_of.ensures.key) ∙ c.cipher_of.ensures.size)
     (ap key_expansion c.cipher_of.ensures.key) (ap (take (n / 16 + 1)) c.value-2.ensures
     ∙ c.derive.ensures)
-    c.set_derived.ensures.short c.set_derived.ensures.long
+    c.set_encryption_key.ensures.short c.set_encryption_key.ensures.long

@@ -1,4 +1,5 @@
--- The derived keys are those of the nonce under the struct's key: so tag and text are those of the RFC.
+-- The derived keys are those of the nonce under the struct's key: so tag and text are those of the
+-- RFC.
 use Rattle.std.proofs.Common.{◌∙◌, ℕ, ap}
 use Rattle.std.specs.Int.{w128, from_le_bytes}
 use Rattle.aes_planes.specs.Fips197.{key_expansion}

@@ -14,7 +14,7 @@ returns b c h small is =
     let p : List ℕ = c.args.text.now in
     let on = λ (s : ℕ) (x : List ℕ). hashed_as (from_le_bytes w128) g s (padded x)
     (length (padded x) / 16) in
-    c.after.ensures
+    c.hash_block.ensures
     ∙ ap (λ v. product v g) (λ t. bit_xor ((c.hash_singly-second.ensures
     ∙ ap (λ s. on s p) (c.hash_singly-first.ensures ∙ ap (λ s. on s a) c.requires.zero)) t)
     (c.last_block.ensures t))

@@ -7,5 +7,5 @@ use Rattle.gcm_siv.proofs.message.open.Goals as goal
 pub returns-clause-untouched : goal.returns-clause-untouched
 returns-clause-untouched g c = λ refused.
     let w = g.C.RoundKeysUser.round_keys c.args.cipher.now in
-    c.apply-2.ensures ∙ ap (text_under w c.args.tag.now) c.apply.ensures
+    c.process_text-2.ensures ∙ ap (text_under w c.args.tag.now) c.process_text.ensures
     ∙ under_twice w c.args.tag.now c.args.text.now

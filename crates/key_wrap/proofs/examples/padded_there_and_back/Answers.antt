@@ -12,7 +12,7 @@ returns-in-Ok-clause-back g c =
     let w = g.C.RoundKeysUser.round_keys c.args.cipher.now in
     let key = c.args.key.now in
     let fit = c.in_ok-wrap_padded.ensures.done.0 refl in
-    let law = c.padding_undone.ensures w key c.has_round_keys.ensures
+    let law = c.padding_undone.ensures w key c.round_keys_are_blocks.ensures
     (search rules) fit.least fit.most in
     let whole : heading c.in-Ok.count ∷ c.unwrap_padded.new.output
     ≡ unwrapped_string w (wrapped_padded w key) =
@@ -29,7 +29,7 @@ returns-in-Err-clause-done g c =
       λ e. absurd (cc e),
       λ both.
           let fit = both.0 in
-          let law = c.padding_undone.ensures w key c.has_round_keys.ensures
+          let law = c.padding_undone.ensures w key c.round_keys_are_blocks.ensures
           (search rules) fit.least fit.most in
           c.in-Err.ensures.done.1 (
             record {

@@ -13,11 +13,11 @@ loop-i-preserved c =
     let before = c.loop-i.bytes in
     let i = c.loop-i.i in
     let count = c.args.count in
-    let x = get_or c.args.half.now (7 - i) 0 in
+    let x = get_or c.args.semiblock.now (7 - i) 0 in
     let mask = c.mask_below.result in
     let more = bit_and x mask in
     let whole : i < count → more ≡ x = λ below.
-    ap (bit_and x) (c.mask_below.ensures.below below) ∙ and_mask x 8 ∙ omega (arith, c.fits-half (7 - i)) in
+    ap (bit_and x) (c.mask_below.ensures.below below) ∙ and_mask x 8 ∙ omega (arith, c.fits-semiblock (7 - i)) in
     record {
       zeros = λ none. below_more _ _
           (c.loop-i.invariant.zeros (omega (arith, le_or_l before more, none)))
@@ -33,21 +33,21 @@ loop-i-preserved c =
 
 pub returns : goal.returns
 returns c =
-    let half = c.args.half.now in
+    let semiblock = c.args.semiblock.now in
     let n = c.args.count in
-    let at : (i : ℕ) → get_or (drop (8 - n) half) i 0 ≡ get_or half (8 - n + i) 0 =
-    λ i. get_or-drop (8 - n) half i 0 in (
-      λ none. ext_get_or 0 (drop (8 - n) half) (replicate n 0)
-          (length-drop (8 - n) half ∙ omega (arith, c.told-half, c.requires) ∙ sym (length-replicate n 0))
+    let at : (i : ℕ) → get_or (drop (8 - n) semiblock) i 0 ≡ get_or semiblock (8 - n + i) 0 =
+    λ i. get_or-drop (8 - n) semiblock i 0 in (
+      λ none. ext_get_or 0 (drop (8 - n) semiblock) (replicate n 0)
+          (length-drop (8 - n) semiblock ∙ omega (arith, c.told-semiblock, c.requires) ∙ sym (length-replicate n 0))
           (λ i h.
-          let below : i < n = omega (arith, length-drop (8 - n) half, c.told-half, c.requires) in
+          let below : i < n = omega (arith, length-drop (8 - n) semiblock, c.told-semiblock, c.requires) in
           let place : 8 - n + i ≡ 7 - (n - 1 - i) = omega (arith, c.requires, below) in
-          at i ∙ ap (λ k. get_or half k 0) place
+          at i ∙ ap (λ k. get_or semiblock k 0) place
           ∙ c.loop-i.invariant.zeros none (n - 1 - i) (omega (arith, c.requires)) (omega (arith, below))
           ∙ sym (get_or-replicate n i 0 0 below)),
       λ zeros. c.loop-i.invariant.none (λ k h below.
           let place : 7 - k ≡ 8 - n + (n - 1 - k) = omega (arith, c.requires, below) in
-          ap (λ m. get_or half m 0) place ∙ sym (at (n - 1 - k))
+          ap (λ m. get_or semiblock m 0) place ∙ sym (at (n - 1 - k))
           ∙ ap (λ l. get_or l (n - 1 - k) 0) zeros
           ∙ get_or-replicate n (n - 1 - k) 0 0 (omega (arith, below))),
     )

@@ -14,12 +14,12 @@ loop-k-preserved g c =
     let next : i + 1 ≡ m - k = omega (arith, c.loop-k.invariant.sized) in
     let n : at + i + 1 ≡ at + (m - k) = omega (arith, c.loop-k.invariant.sized) in
     let a = c.unwrap_step.new.check in
-    let r = c.unwrap_step.new.half in
+    let r = c.unwrap_step.new.semiblock in
     record {
       sized = length-set c.loop-k.others i r ∙ c.loop-k.invariant.sized;
       state = ap (λ j. unwrapped_from w (a ∷ turned j (set c.loop-k.others i r)) (at + j)) now
           ∙ step_unwrapped w c.loop-k.check c.loop-k.others i (at + i)
-          (omega arith) a r c.unwrap_step.ensures.check c.unwrap_step.ensures.half
+          (omega arith) a r c.unwrap_step.ensures.check c.unwrap_step.ensures.semiblock
           ∙ (λ j. unwrapped_from w (c.loop-k.check ∷ turned (next j) c.loop-k.others) (n j))
           ∙ c.loop-k.invariant.state;
     }

@@ -10,11 +10,11 @@ loop-i-preserved g c =
     let i = c.loop-i.i in
     let n : at + (i + 1) ≡ at + i + 1 = omega arith in
     record {
-      sized = length-set c.loop-i.others i c.wrap_step.new.half ∙ c.loop-i.invariant.sized;
+      sized = length-set c.loop-i.others i c.wrap_step.new.semiblock ∙ c.loop-i.invariant.sized;
       state = λ s begun.
           ap (wrapped_after w s) n
           ∙ step_wrapped w c.loop-i.check c.loop-i.others i (at + i)
           (omega arith) c.wrap_step.new.check
-          c.wrap_step.new.half c.wrap_step.ensures.check c.wrap_step.ensures.half s
+          c.wrap_step.new.semiblock c.wrap_step.ensures.check c.wrap_step.ensures.semiblock s
           (c.loop-i.invariant.state s begun);
     }

@@ -1,4 +1,5 @@
-//! Counter mode without values from outside: what is cut, or begins elsewhere, agrees with what is whole.
+//! Counter mode without values from outside. What is cut, or begins elsewhere, agrees with what is
+//! whole.
 
 use super::{CounterTrial, mode_from, passes};
 use aes_cipher::cipher::BlockCipherEncrypt;

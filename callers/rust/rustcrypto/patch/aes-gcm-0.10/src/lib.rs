@@ -7,10 +7,10 @@ pub use aes;
 pub use fotsgure_rustcrypto::aes_gcm::{Aes128Gcm, Aes256Gcm, AesGcm, TagSize};
 pub use fotsgure_rustcrypto::v04::aead;
 
-/// The most bytes of additional data, of which more are allowed here.
+/// The most bytes of additional data in `aes-gcm` 0.10. Here more are allowed.
 pub const A_MAX: u64 = 1 << 36;
 
-/// The most bytes of a text: 32 fewer are allowed here, as SP 800-38D says.
+/// The most bytes of a text in `aes-gcm` 0.10. Here 32 fewer are allowed, as SP 800-38D says.
 pub const P_MAX: u64 = 1 << 36;
 
 /// The most bytes of an encrypted text with its tag.

@@ -1,4 +1,5 @@
--- Of a round key that begins a key's period: its first word is rotated, substituted and summed with the round constant.
+-- Of a round key that begins a key's period: its first word is rotated, substituted and summed with
+-- the round constant.
 use Rattle.aes.proofs.BlockExpansion.{rotated_is}
 use Rattle.aes.proofs.expansion.BlockKeysFourWords.rotated.Goals as goal
 

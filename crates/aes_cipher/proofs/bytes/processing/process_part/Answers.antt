@@ -18,5 +18,5 @@ returns g c =
     c.copy_from_slice.ensures.after ∙ c.as_chunks.ensures.front
     ∙ ap (λ k. first_chunks 16 k bytes) (omega (arith, c.requires.as_many)) in
     ap (first_chunks 16 n) put ∙ ap (λ k. first_chunks 16 k (concat blocks)) (sym many)
-    ∙ chunks_of_joined blocks c.have_sixteen.ensures
+    ∙ chunks_of_joined blocks c.blocks_have_16_bytes.ensures
     ∙ c.process_blocks.ensures ∙ ap (map f) taken

@@ -11,7 +11,7 @@ use Rattle.aes_hybrid.proofs.borrowed_cipher.BorrowedCipher.process_few.Goals as
 
 pub process_on_lanes-requires : goal.process_on_lanes-requires
 process_on_lanes-requires g c = record {
-  two = two_stored g.D.LaneRounds.form c.uses_all.ensures _ (key_of_lanes c.self.inside.keys.now)
+  two = two_stored g.D.LaneRounds.form c.rounds_use_every_key.ensures _ (key_of_lanes c.self.inside.keys.now)
       (c.self.invariant.1 ∙ ap g.D.LaneRounds.form.used_keys c.self.invariant.0.keys);
 }
 
@@ -26,5 +26,5 @@ returns g c =
           ∙ ap (λ v. map (all_rounds g.D.Direction.step g.D.Direction.last_step v)
           c.args.blocks.now) used
           ∙ map-same _ _ c.args.blocks.now
-          (λ b. c.processes.ensures (key_expansion key) b (two_keys key)),
+          (λ b. c.rounds_follow_the_standard.ensures (key_expansion key) b (two_keys key)),
     )

@@ -10,7 +10,7 @@ use Rattle.aes_hybrid.proofs.borrowed_cipher.BorrowedCipher.process_one.Goals as
 
 pub process_one-requires : goal.process_one-requires
 process_one-requires g c = record {
-  two = two_stored g.D.LaneRounds.form c.uses_all.ensures _ (key_of_lanes c.self.inside.keys.now)
+  two = two_stored g.D.LaneRounds.form c.rounds_use_every_key.ensures _ (key_of_lanes c.self.inside.keys.now)
       (c.self.invariant.1 ∙ ap g.D.LaneRounds.form.used_keys c.self.invariant.0.keys);
 }
 
@@ -23,5 +23,5 @@ returns g c =
       common_steps,
       c.process_one.ensures
           ∙ ap (λ v. all_rounds g.D.Direction.step g.D.Direction.last_step v c.args.block.now) used
-          ∙ c.processes.ensures (key_expansion key) c.args.block.now (two_keys key),
+          ∙ c.rounds_follow_the_standard.ensures (key_expansion key) c.args.block.now (two_keys key),
     )

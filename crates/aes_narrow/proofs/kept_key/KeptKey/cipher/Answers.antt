@@ -7,5 +7,5 @@ use Rattle.aes_narrow.proofs.kept_key.KeptKey.cipher.Goals as goal
 pub returns-clause-size : goal.returns-clause-size
 returns-clause-size c =
     ap length c.new.ensures
-    ∙ sized_key kept_bits kept_blocks c.args.self.now.length c.keys_in_words.result.now
-    (omega arith) c.requires.holds c.keys_in_words.ensures.count
+    ∙ sized_key kept_bits kept_blocks c.args.self.now.length c.keys_in_room.result.now
+    (omega arith) c.requires.holds c.keys_in_room.ensures.count

@@ -6,4 +6,4 @@ use Rattle.aes_permute.proofs.lanes.U8x32Lanes.load.Goals as goal
 pub returns : goal.returns
 returns c i small =
     ap (λ l. half l i) c.joined.ensures
-    ∙ half_of_joined _ _ c.args.blocks.now c.args.from i c.is_block.ensures.0 refl refl small
+    ∙ half_of_joined _ _ c.args.blocks.now c.args.from i c.block_has_16_bytes.ensures.0 refl refl small

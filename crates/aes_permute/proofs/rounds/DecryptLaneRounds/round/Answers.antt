@@ -17,8 +17,8 @@ returns g c i =
     (summed (c.sum-with_key.ensures i) (c.permuted-first.ensures i) refl)
     (summed (c.sum-last_two.ensures i) (c.permuted-third.ensures i) (c.permuted-fourth.ensures i)))
     (c.permuted-second.ensures i))
-    ∙ round_is (g.L.Lanes.block c.args.x i) (g.L.Lanes.block c.args.key i) (c.are_blocks.ensures i)
-    (c.are_blocks-2.ensures i).0 (record {
+    ∙ round_is (g.L.Lanes.block c.args.x i) (g.L.Lanes.block c.args.key i) (c.blocks_have_16_bytes.ensures i)
+    (c.blocks_have_16_bytes-2.ensures i).0 (record {
       is_1 = through_lanes INV_1_FIRST INV_1_SECOND _ f s (c.looked_up-by_1.ensures i);
       is_4 = through_lanes INV_4_FIRST INV_4_SECOND _ f s (c.looked_up-by_4.ensures i);
       is_9 = through_lanes INV_9_FIRST INV_9_SECOND _ f s (c.looked_up-by_9.ensures i);

@@ -27,8 +27,8 @@ returns g c i =
     (summed (c.sum-with_key.ensures i) (c.permuted-fourth.ensures i) refl) refl)
     (c.permuted-second.ensures i))
     ∙ deferred_is c.args.number (g.L.Lanes.block c.args.x i) (g.L.Lanes.block c.args.key i)
-    c.requires (c.are_blocks.ensures i)
-    (c.are_blocks-2.ensures i).0
+    c.requires (c.blocks_have_16_bytes.ensures i)
+    (c.blocks_have_16_bytes-2.ensures i).0
     (through_lanes ONE_FIRST ONE_SECOND _ f s (c.looked_up-one.ensures i))
     (through_lanes TWO_FIRST TWO_SECOND _ f s (c.looked_up-two.ensures i))
     (summed (c.sum-pairs.ensures i) refl (c.permuted-next.ensures i))

@@ -10,10 +10,10 @@ returns g c =
     let made = c.bitslice.new.output in
     let planes = c.args.planes.now in
     same_planes w.BLOCKS (map w.bits made) (map w.bits planes)
-    (length-map made w.bits ∙ c.are_eight.ensures) (length-map planes w.bits ∙ c.told-planes)
+    (length-map made w.bits ∙ c.planes_are_eight.ensures) (length-map planes w.bits ∙ c.told-planes)
     (λ p hp. (
       lengths_of_words w.bits w.BITS m.sized made p
-          (omega (arith, hp, c.are_eight.ensures)) ∙ m.sixteen,
+          (omega (arith, hp, c.planes_are_eight.ensures)) ∙ m.sixteen,
       lengths_of_words w.bits w.BITS m.sized planes p
           (omega (arith, hp, c.told-planes)) ∙ m.sixteen,
     ))

@@ -11,4 +11,4 @@ returns g c =
     let keyed : List ℕ → List ℕ = λ b. fips.add_round_key (g.D.Direction.step b) (replicate 16 0) in
     c.unmix.ensures ∙ ap (map g.D.SingleRounds.unmixed) c.round.ensures
     ∙ map-map g.D.SingleRounds.unmixed keyed blocks
-    ∙ map-same _ _ blocks c.is_unmixed.ensures
+    ∙ map-same _ _ blocks c.unmixed_round_is_last.ensures

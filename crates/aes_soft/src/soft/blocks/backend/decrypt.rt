@@ -23,8 +23,8 @@ fn call_to_decrypt<F: BlockCipherDecClosure>(round_keys: &[u16], widened: &[Batc
     f.call(&Backend::lent(round_keys, widened));
 }
 
-/// Calls the closure once, with a backend of stored round keys. They are widened for the call, and
-/// wiped in place after it, with the stack that the closure took.
+/// Calls the closure once, with a backend of stored round keys. These are widened for the call. The
+/// widened copy, and the stack that the closure used, are wiped after it.
 #[inline(never)]
 pub fn decrypt_with_backend<F: BlockCipherDecClosure>(round_keys: &[u16], f: &mut F)
     requires is_schedule { IsFullSchedule (word_bits 16) 1 round_keys.now }

@@ -6,7 +6,7 @@ use Rattle.gcm.proofs.gctr.LastBitsCounterBlocks.put.Given as goal
 
 abbrev pub invariant-loop-i : goal.invariant-loop-i
 invariant-loop-i l = record {
-  at : l.others + l.counter ≡ counter_at (from_be_bytes w128 l.self.first) (l.first + l.i);
+  at : l.others + l.counter ≡ counter_at (from_be_bytes w128 l.self.start) (l.first + l.i);
   counted : (k : ℕ) → k < l.i → get_or l.blocks k []
-      ≡ to_be_bytes w128 (counter_at (from_be_bytes w128 l.self.first) (l.first + k));
+      ≡ to_be_bytes w128 (counter_at (from_be_bytes w128 l.self.start) (l.first + k));
 }

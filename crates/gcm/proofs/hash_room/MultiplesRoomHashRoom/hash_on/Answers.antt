@@ -11,6 +11,6 @@ pub returns : goal.returns
 returns c =
     let x : List ℕ = padded c.args.bytes.now in
     c.number_of.ensures ∙ c.hash_string.ensures
-    ∙ (λ t. hashed_as (from_be_bytes w128) (c.lent-multiples.ensures t)
+    ∙ (λ t. hashed_as (from_be_bytes w128) (c.new-multiples.ensures t)
     (c.vector_of.ensures.back t) x (length x / 16))
     ∙ hashed_is (subkey_in c.args.self.now) c.args.value x (length x / 16)

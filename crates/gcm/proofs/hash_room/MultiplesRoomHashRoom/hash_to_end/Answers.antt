@@ -12,7 +12,7 @@ pub returns : goal.returns
 returns c =
     let x : List ℕ = padded c.args.bytes.now in
     let n : ℕ = length x / 16 in
-    let h = c.lent-multiples.ensures in
+    let h = c.new-multiples.ensures in
     c.number_of.ensures ∙ c.hash_string_and_end.ensures
     ∙ (λ t. product (bit_xor ((
     (λ u. hashed_as (from_be_bytes w128) (h u) (c.vector_of-value.ensures.back u) x n)

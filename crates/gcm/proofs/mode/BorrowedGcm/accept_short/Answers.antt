@@ -1,4 +1,5 @@
--- A tag is accepted exactly if its length is allowed and it is the first bytes of that of what has come.
+-- A tag is accepted exactly if its length is allowed and it is the first bytes of that of what has
+-- come.
 use Rattle.gcm.specs.declared.message_state.Phase.TheVariants.{Additional, Verifying}
 use Rattle.std.proofs.Common.{◌≢◌, ◌∙◌, sym, refl}
 use Rattle.gcm.proofs.mode.BorrowedGcm.accept_short.Goals as goal

@@ -9,10 +9,10 @@ use Rattle.gcm.proofs.mode.BorrowedGcm.decrypt_unverified_piece.Goals as goal
 
 pub returns-clause-decrypted : goal.returns-clause-decrypted
 returns-clause-decrypted g c iv a before at =
-    let turned = c.in_ok-turn_to.ensures.turned iv a before at in
+    let turned = c.in_ok-enter_phase.ensures.turned iv a before at in
     let added = c.hash_text.ensures Verifying iv a before turned in
     let j : ℕ = from_be_bytes w128 c.hash_text.new.message.first in
-    let position : ℕ = 16 + c.turn_to.new.message.text in
+    let position : ℕ = 16 + c.enter_phase.new.message.text in
     let b : List ℕ = c.args.text.now in
     text_on c.args.self.now iv before b c.add_gctr.new.bytes j position added.first
     (omega (arith, turned.text))
@@ -20,4 +20,4 @@ returns-clause-decrypted g c iv a before at =
 
 pub returns-clause-added : goal.returns-clause-added
 returns-clause-added g c iv a before at =
-    c.hash_text.ensures Verifying iv a before (c.in_ok-turn_to.ensures.turned iv a before at)
+    c.hash_text.ensures Verifying iv a before (c.in_ok-enter_phase.ensures.turned iv a before at)

@@ -9,9 +9,9 @@ use Rattle.gcm.proofs.mode.BorrowedGcm.encrypt_piece.Goals as goal
 
 pub returns-clause-encrypted : goal.returns-clause-encrypted
 returns-clause-encrypted g c iv a p before at same =
-    let turned = c.in_ok-turn_to.ensures.turned iv a before at in
-    let j : ℕ = from_be_bytes w128 c.turn_to.new.message.first in
-    let position : ℕ = 16 + c.turn_to.new.message.text in
+    let turned = c.in_ok-enter_phase.ensures.turned iv a before at in
+    let j : ℕ = from_be_bytes w128 c.enter_phase.new.message.first in
+    let position : ℕ = 16 + c.enter_phase.new.message.text in
     let b : List ℕ = c.args.text.now in
     ap (λ l. l ++ c.add_gctr.new.bytes) same
     ∙ text_on c.args.self.now iv p b c.add_gctr.new.bytes j position turned.first
@@ -20,4 +20,4 @@ returns-clause-encrypted g c iv a p before at same =
 
 pub returns-clause-added : goal.returns-clause-added
 returns-clause-added g c iv a before at =
-    c.hash_text.ensures Encrypting iv a before (c.in_ok-turn_to.ensures.turned iv a before at)
+    c.hash_text.ensures Encrypting iv a before (c.in_ok-enter_phase.ensures.turned iv a before at)

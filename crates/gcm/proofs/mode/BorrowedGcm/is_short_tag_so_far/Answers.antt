@@ -1,4 +1,5 @@
--- A short tag, filled up with the expected one's last bytes, equals it exactly if it is its beginning.
+-- A short tag, filled up with the expected one's last bytes, equals it exactly if it is its
+-- beginning.
 use Rattle.std.proofs.Common.{◌∙◌, ◌++◌, ap, drop, length, sym}
 use Rattle.gcm.proofs.Messages.Hashing.{one_block_of}
 use Rattle.aes_cipher.proofs.Strings.{are_first}

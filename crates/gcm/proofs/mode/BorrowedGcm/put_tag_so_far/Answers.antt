@@ -11,15 +11,15 @@ pub returns : goal.returns
 unfolding tag
 returns g c phase iv a t other at =
     let h : ℕ = hash_subkey c.args.self.now in
-    let v : ℕ = c.hash_what_came-value.result in
+    let v : ℕ = c.hash_so_far-value.result in
     let m : ℕ = c.min-additional.result in
     let n : ℕ = c.min-text.result in
     let known = so_far phase c.args.self.now iv a t c.args.message.now at in
     let subkey : c.self.inside.room ≡ h = c.self.invariant ∙ ap hash_subkey c.self.view_is in
     let value : v ≡ hashed h (hashed_padded h a) (padded t) (length (padded t) / 16) =
     elim at [
-      | inl b ↦ no_text h v a t (c.hash_what_came-value.ensures.additional iv a b.0) b.1
-      | inr is ↦ c.hash_what_came-value.ensures.text phase iv a t other is
+      | inl b ↦ no_text h v a t (c.hash_so_far-value.ensures.additional iv a b.0) b.1
+      | inr is ↦ c.hash_so_far-value.ensures.text phase iv a t other is
     ] in
     let additional : m ≡ length a = omega (arith, known.additional, known.short) in
     let text : n ≡ length t = omega (arith, known.text, known.short_text) in

@@ -4,17 +4,17 @@ use Rattle.gcm.specs.Gcm.{product}
 use Rattle.gcm.proofs.Tables.Written.{first_in, second_in, third_in, room_below}
 use Rattle.gcm.proofs.multiples.Multiples.tables.Goals as goal
 
-pub lent-requires-clause-table : goal.lent-requires-clause-table
-lent-requires-clause-table c =
+pub new-requires-clause-table : goal.new-requires-clause-table
+new-requires-clause-table c =
     (first_in c.self.inside.room.now _ c.self.invariant c.split_at.ensures.front).0
 
-pub lent-requires-2-clause-table : goal.lent-requires-2-clause-table
-lent-requires-2-clause-table c =
+pub new-requires-2-clause-table : goal.new-requires-2-clause-table
+new-requires-2-clause-table c =
     (second_in c.self.inside.room.now _ c.self.invariant
     (c.split_at-2.ensures.front ∙ ap (take 32) c.split_at.ensures.back)).0
 
-pub lent-requires-3-clause-table : goal.lent-requires-3-clause-table
-lent-requires-3-clause-table c =
+pub new-requires-3-clause-table : goal.new-requires-3-clause-table
+new-requires-3-clause-table c =
     (third_in c.self.inside.room.now _ c.self.invariant
     (c.split_at-2.ensures.back ∙ ap (drop 32) c.split_at.ensures.back)).0
 
@@ -28,7 +28,7 @@ returns c =
     (c.split_at-2.ensures.back ∙ ap (drop 32) c.split_at.ensures.back) in
     record {
       small = rw (sym c.self.view_is) (room_below room c.self.invariant);
-      one = c.lent.ensures ∙ one.1 ∙ c.self.view_is;
-      two = c.lent-2.ensures ∙ two.1 ∙ ap (λ h. product h h) c.self.view_is;
-      three = c.lent-3.ensures ∙ three.1 ∙ ap (λ h. product (product h h) h) c.self.view_is;
+      one = c.new.ensures ∙ one.1 ∙ c.self.view_is;
+      two = c.new-2.ensures ∙ two.1 ∙ ap (λ h. product h h) c.self.view_is;
+      three = c.new-3.ensures ∙ three.1 ∙ ap (λ h. product (product h h) h) c.self.view_is;
     }

@@ -38,5 +38,5 @@ returns-clause-encryption g c =
     (ap (take (c.KEY_SIZE.result / 16 + 1)) c.value-2.ensures ∙ c.derive.ensures) in
     g.met.C.KeyInit.expanded c.message_cipher-cipher.result
     ∙ ap key_expansion (encryption_is c.args.self.now nonce _ w keys _ c.self.invariant
-    (sym (ap length c.self.view_is) ∙ c.has_key.ensures.sized) expanded derived
+    (sym (ap length c.self.view_is) ∙ c.key_has_its_size.ensures.sized) expanded derived
     c.message_cipher-cipher.ensures.short c.message_cipher-cipher.ensures.long)

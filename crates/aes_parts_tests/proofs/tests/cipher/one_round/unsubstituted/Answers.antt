@@ -1,4 +1,5 @@
--- The steps on planes, one by one: packed, shifted back, with the constant taken out, through the inverse S-box.
+-- The steps on planes, one by one: packed, shifted back, with the constant taken out, through the
+-- inverse S-box.
 use Rattle.std.proofs.Common.{[], ◌∷◌, map, slice_index_or, ap, ◌∙◌}
 use Rattle.aes_planes.specs.Fips197.{inv_sbox, inv_shift_rows, inv_shift_times}
 use Rattle.aes_planes.specs.Planes.{plus63}

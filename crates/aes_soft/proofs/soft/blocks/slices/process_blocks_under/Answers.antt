@@ -20,11 +20,11 @@ returns-clause-blocks g c =
       | then-whole-gt0 w ↦
           ap (finished f whole) w.blocks-is
           ∙ front_finished f whole c.args.blocks.now _ (omega arith)
-          (w.process_batches_in_a_call.ensures.blocks
+          (w.process_batches_outlined.ensures.blocks
           ∙ ap (λ k. map (g.D.Direction.processed (key_expansion k)) (take whole c.args.blocks.now))
           (search rules))
       | else-whole-gt0 w ↦ ap (finished f whole) w.blocks-is
           ∙ none_finished f whole c.args.blocks.now (omega arith)
     ] in
     end_finished f whole _ _ _ (omega arith)
-    refl c.process_batches_in_a_call-2.ensures.blocks ∙ batches
+    refl c.process_batches_outlined-2.ensures.blocks ∙ batches

@@ -1,0 +1,19 @@
+use Rattle.std.proofs.Common.{refl, ◌∙◌}
+use Rattle.aes_permute.specs.declared.tables.TheConstants.{SBOX_FIRST, SBOX_SECOND}
+use Rattle.aes_permute.proofs.DeferredRows.{shifted_indices, deferred_last_is}
+use Rattle.aes_permute.proofs.Lookups.{summed}
+use Rattle.aes_permute.proofs.RoundLanes.{through_lanes}
+use Rattle.aes_permute.proofs.rounds.EncryptLaneRounds.last_round.Goals as goal
+
+pub permuted-requires : goal.permuted-requires
+permuted-requires g c = record { are_indices = shifted_indices c.args.number }
+
+pub returns : goal.returns
+returns g c i =
+    summed (c.sum.ensures i) (c.permuted.ensures i) refl
+    ∙ deferred_last_is c.args.number (g.L.Lanes.block c.args.x i) (g.L.Lanes.block c.args.key i)
+    c.requires (c.blocks_have_16_bytes.ensures i)
+    (c.blocks_have_16_bytes-2.ensures i).0
+    (through_lanes SBOX_FIRST SBOX_SECOND _ (c.places_of.ensures.first i)
+    (c.places_of.ensures.second i)
+    (c.looked_up-one.ensures i))
