@@ -74,15 +74,16 @@ def runs(entries, place):
         if after is None:
             yield before
             continue
-        for _, steps in itertools.groupby(enumerate(numbers), lambda it: it[1] - it[0]):
+        for _, steps in itertools.groupby(enumerate(sorted(numbers)), lambda it: it[1] - it[0]):
             run = [number for _, number in steps]
             yield from ((*before, it, *after) for it in ([Run(f"{run[0]} to {run[-1]}")] if len(run) > 2 else run))
 
 
 def text_of_list(values):
     entries = [value if isinstance(value, tuple) else (value,) for value in values]
-    shorter = ([*runs(entries, place)] for place in range(max(map(len, entries), default=0)))
-    return "; ".join(map(text_of_entry, min(shorter, key=len, default=entries))) or NONE
+    for place in range(max(map(len, entries), default=0)):
+        entries = [*runs(entries, place)]
+    return "; ".join(map(text_of_entry, entries)) or NONE
 
 
 def text_of_row(row):
