@@ -71,7 +71,7 @@ class Call:
         counter                 a word of unknown value (keyed.CounterWord)
         keystream, between      what is added to the data; other blocks that the cipher gives
         plain                   what is secret of the data and of the results
-        may_stay                how many bytes of a kind may be left besides
+        may_stay                {a kind of secret: how many bytes of it may stay on the stack}, if more than in other calls
         paths                   calls that share it run the same instructions whenever they return the same
         facts                   what is known of the unknown arguments: numbers that are 0 or more (linear.py)
         any_length              whether `steps` is a function of the machine, as with Streams; then it asks only what branches ask"""

@@ -289,10 +289,7 @@ def statements(keyed, options, part, parts):
             what = name_of(row, values)
             if options.only in what and next(number) % parts == part:
                 yield what, getattr(keyed, row.name)(*values)
-    seen = set()
     for call in keyed.refused():
         refusals[call.name] += 1
-        again = (call.name, call.status) in seen and keyed.key_size != 16  # with such keys one refusal of each call and status is enough
-        seen.add((call.name, call.status))
-        if not again and options.only in call.name + " refused" and next(number) % parts == part:
+        if options.only in call.name + " refused" and next(number) % parts == part:
             yield "%s refused %d" % (call.name, refusals[call.name]), call

@@ -3,9 +3,12 @@ from bits import DATA, KEY, Unproved
 from operands import LAST, LEAD, Content, Verdict
 
 KINDS = "key", "inner", "difference", "plain", "step", "keystream", "result", "data"  # of what is left; see `kind_of_secret`
-MAY_STAY = "step", "keystream", "result", "data"  # on the stack
+# How many bytes of a kind any call may leave on the stack. A call that adds keystream may leave what it keeps of a batch. The other kinds are
+# copies of blocks of the result and of tags.
+MAY_STAY = {"keystream": 112, "result": 32, "data": 16}
 REGISTER_OF_A_COPY = 8  # bytes of text that may be left on the stack by a copy between buffers that overlap
-IN_BUFFERS, MAY_NOT_COME = "the caller's buffers, perhaps for a while", ("key", "inner")
+IN_BUFFERS, IN_A_MESSAGE = "the caller's buffers, perhaps for a while", "a message"
+MAY_NOT_COME = {IN_BUFFERS: ("key", "inner"), IN_A_MESSAGE: ("key", "inner", "difference", "plain")}
 
 
 def nothing_secret(m, call):
@@ -17,13 +20,14 @@ def nothing_secret(m, call):
     for (place, k), where in m.left.items():
         if place == "registers":
             raise Unproved("leaves %d bytes in registers (%s), in %s" % (len(where), k, ", ".join(sorted(set(where)))))
-        if place != IN_BUFFERS and k not in MAY_STAY and len(where) > may_stay(m, call, k) or place == IN_BUFFERS and k in MAY_NOT_COME:
+        if len(where) > may_stay_on_stack(m, call, k) if place == "stack" else k in MAY_NOT_COME[place]:
             raise Unproved("leaves %d bytes in %s (%s), from %s to %s" % (len(where), place, k, where[0], where[-1]))
 
 
-def may_stay(m, call, kind):
-    """Gives how many bytes of a kind a call may leave on the stack, as an exception."""
-    return max(call.may_stay.get(kind, 0), REGISTER_OF_A_COPY if kind == "plain" and m.says_buffers_overlap() else 0)
+def may_stay_on_stack(m, call, kind):
+    """Gives how many bytes of a kind a call may leave on the stack."""
+    of_a_copy = REGISTER_OF_A_COPY if kind == "plain" and m.says_buffers_overlap() else 0
+    return max(MAY_STAY.get(kind, 0), call.may_stay.get(kind, 0), of_a_copy)
 
 
 def no_secret_in_buffers(m, call):
@@ -33,7 +37,7 @@ def no_secret_in_buffers(m, call):
     ends = [b for a in call.buffers if not a.secret and isinstance(a.after, list) for b in a.after if isinstance(b, int)]
     known = {**known, "result": known["result"] | bits_of(m, ends)}
     for a, b in call.written(m):
-        if (kind := kind_of_secret(m, b, known, plain)) in MAY_NOT_COME and kind not in a.secret:
+        if (kind := kind_of_secret(m, b, known, plain)) in MAY_NOT_COME[IN_BUFFERS] and kind not in a.secret:
             raise Unproved("writes something secret to %s in a loop" % a.name)
 
 
@@ -118,13 +122,13 @@ def what_is_left(m, call):
     """Gives the bytes that are left of a call: {(place, kind): [where]}. The places are these:
 
         "stack"         the dead stack, by the offset from the stack pointer at the call
-        "a message"     bytes of a message that may be anything
+        IN_A_MESSAGE    bytes of a message that may be anything
         "registers"     all registers
         IN_BUFFERS      what was written to buffers, even if it was overwritten later"""
     known, plain = named_bits(m, call)
     known = {**known, "result": known["result"] | bits_of(m, m.results)}
     places = [("stack", k - m.stack.top, m.regions["stack"].content[k]) for k in range(m.stack.lowest, m.stack.top)]
-    places += [("a message", k, b) for k, b in enumerate(m.unsaid)]
+    places += [(IN_A_MESSAGE, k, b) for k, b in enumerate(m.unsaid)]
     places += [(IN_BUFFERS, a, b) for a, b in call.written(m)]
     places += [("registers", r, b) for r, v in m.general.items() for b in m.to_bytes(v, 8)]
     places += [("registers", "vector %d" % n, b) for n, v in enumerate(m.vectors) for b in v]

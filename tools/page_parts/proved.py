@@ -25,8 +25,8 @@ pieces it is any block with every nonce.
 - *All*: with `PROVE=all`. The builds of *most* then also have *first* and *all* with keys of 16 bytes, and *each* and *most* with
   other keys. The other builds have *each* and *most* with keys of 16 bytes, and *24, 32* with other keys.
 
-Each build and each size of key also has `set_key` and refusals. A refusal is proved for all its numbers: unknown counts, positions and
-lengths. Keys of 16 bytes have each refusal, and other keys one for each call and status.
+Each build and each size of key also has `set_key` and all refusals. A refusal is proved for all its numbers: unknown counts, positions and
+lengths.
 """
 RISCV = """
 ## RISC-V
