@@ -235,7 +235,7 @@ LIBRARIES = {library: (keyed, [*rows, *at_ends(library)]) for library, keyed, ro
 
 
 def rows_of(library, machine):
-    """Gives the rows of a library. On RISC-V they lack what the README names as not proved."""
+    """Gives the rows of a library. On RISC-V they lack what LENGTHS.md names as left out."""
     rows = LIBRARIES[library][1]
     if not issubclass(machine, Riscv):
         return rows

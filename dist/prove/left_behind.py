@@ -8,7 +8,8 @@ KINDS = "key", "inner", "difference", "plain", "step", "keystream", "result", "d
 MAY_STAY = {"keystream": 112, "result": 32, "data": 16}
 REGISTER_OF_A_COPY = 8  # bytes of text that may be left on the stack by a copy between buffers that overlap
 IN_BUFFERS, IN_A_MESSAGE = "the caller's buffers, perhaps for a while", "a message"
-MAY_NOT_COME = {IN_BUFFERS: ("key", "inner"), IN_A_MESSAGE: ("key", "inner", "difference", "plain")}
+MAY_NOT_COME = "key", "inner"  # to buffers
+MAY_NOT_BE = {IN_BUFFERS: MAY_NOT_COME, IN_A_MESSAGE: (*MAY_NOT_COME, "difference", "plain")}
 
 
 def nothing_secret(m, call):
@@ -20,7 +21,7 @@ def nothing_secret(m, call):
     for (place, k), where in m.left.items():
         if place == "registers":
             raise Unproved("leaves %d bytes in registers (%s), in %s" % (len(where), k, ", ".join(sorted(set(where)))))
-        if len(where) > may_stay_on_stack(m, call, k) if place == "stack" else k in MAY_NOT_COME[place]:
+        if len(where) > may_stay_on_stack(m, call, k) if place == "stack" else k in MAY_NOT_BE[place]:
             raise Unproved("leaves %d bytes in %s (%s), from %s to %s" % (len(where), place, k, where[0], where[-1]))
 
 
@@ -37,7 +38,7 @@ def no_secret_in_buffers(m, call):
     ends = [b for a in call.buffers if not a.secret and isinstance(a.after, list) for b in a.after if isinstance(b, int)]
     known = {**known, "result": known["result"] | bits_of(m, ends)}
     for a, b in call.written(m):
-        if (kind := kind_of_secret(m, b, known, plain)) in MAY_NOT_COME[IN_BUFFERS] and kind not in a.secret:
+        if (kind := kind_of_secret(m, b, known, plain)) in MAY_NOT_COME and kind not in a.secret:
             raise Unproved("writes something secret to %s in a loop" % a.name)
 
 
