@@ -94,6 +94,7 @@ class Planted:
         refuse_lines(self.out + ".s", BUILDS[self.build])
 
     def left_by(self, assembly, cases, function):
+        """Gives what these cases leave uncovered of a function in this assembly."""
         self.prove_cases(assembly, cases)
         return uncovered_of(self.keyed.program, function)
 
