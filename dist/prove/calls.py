@@ -95,7 +95,7 @@ class Call:
         return [(b, x) for b in judged for x in m.ever_written.get(b.name, ())]
 
 
-def prove(domain, program, call, seed=None):
+def prove_call(domain, program, call, seed=None):
     """Proves a call for all answers to the questions that its branches ask. They ask how far buffers are apart, and whether a wrapped key
     or a tag is right. With a seed, the call also runs on the processor, with one key and data. Gives a machine after the call."""
     if len(domain.products) > MOST_SUMS_OF_PRODUCTS:

@@ -1,5 +1,5 @@
-"""Runs the controls of the proof: faults that are planted in the assembly (faults.py), code that no case reaches, and wrong meanings of
-instructions. Each has to be refused. Run it as `make prove-controls` in dist.
+"""Runs the controls of the proof: faults that are planted in the assembly, code that no case reaches (both in faults.py), and wrong
+meanings of instructions. Each has to be refused. Run it as `make prove-controls` in dist.
 
 A fault is refused if the case that it names is not proved any more. That is a case of PROVE=builds. For Windows, `_v1` and RISC-V it is one
 of PROVE=all. A fault for which a build has no place counts as missed. Any other failure ends the controls: one of gcc or ld, a case that
@@ -15,9 +15,8 @@ from bits import Unproved
 from cases import LIBRARIES, statements
 from code_places import Places
 from directives import refuse_lines
-from faults import FAULTS, UNREACHED
+from faults import BUILDS_WITH_FAULTS, faults_of, is_unreached
 from linking import BUILDS, assemble, source, takes_few
-from long_faults import LONG_FAULTS
 from native import NEVER_ALONE, compare_all
 from noted import joined_coverage
 from processors import MEANINGS, PROCESSORS
@@ -25,10 +24,10 @@ from prove import options_of
 from tasks import pool_of
 
 
-def verdict(what, prove, reason=""):
-    """Says whether a fault is refused, for a reason with this word; and gives what to print."""
+def verdict(what, attempt, reason=""):
+    """Says whether an attempt to prove a fault is refused, for a reason with this word; and gives what to print."""
     try:
-        prove()
+        attempt()
     except Unproved as e:
         if reason not in str(e) or "not covered" in str(e) and "not covered" not in what:
             raise SystemExit("controls: %s: %s" % (what, e)) from None
@@ -36,14 +35,14 @@ def verdict(what, prove, reason=""):
     return False, "MISSED: " + what
 
 
-def edited_assembly(assembly, label, pattern, new):
-    """Gives the assembly with the first match of a pattern after a label replaced, and the line of it. If there is no match, gives None."""
-    at = re.search(r"(?m)^" + label, assembly)
+def edited_assembly(assembly, fault):
+    """Gives the assembly with a fault in it, and the line of it. If there is no place for it, gives None."""
+    at = re.search(r"(?m)^" + fault.label, assembly)
     end = at and re.compile(r"\t?\.(?:size|seh_endproc)|\Z").search(assembly, at.end())
-    found = at and re.compile(pattern).search(assembly, at.end(), end.start())
+    found = at and re.compile(fault.found).search(assembly, at.end(), end.start())
     if not found:
         return None, 0
-    put = new(found) if callable(new) else found.expand(new)
+    put = fault.becomes(found) if callable(fault.becomes) else found.expand(fault.becomes)
     return assembly[:found.start()] + put + assembly[found.end():], assembly.count("\n", 0, found.start()) + 1
 
 
@@ -83,42 +82,42 @@ class Planted:
         level = "all" if takes_few(build) else "builds"
         self.cases = dict(statements(self.keyed, argparse.Namespace(dist=options.dist, level=level, only=""), 0, 1), set_key=None)
 
-    def prove(self, assembly, cases):
+    def prove_cases(self, assembly, cases):
+        """Proves these cases of the build with this assembly."""
         keyed = self.keyed
         with open(self.out + ".s", "w") as file:
             file.write(assembly)
         keyed.program = assemble(self.build, self.out + ".s", self.out)
         for case in cases:
             keyed.program.noted.accepts = "refused" not in case
-            keyed.prove(self.cases[case]) if self.cases[case] else type(keyed)(keyed.program, 16).set_key()
+            keyed.prove_statement(self.cases[case]) if self.cases[case] else type(keyed)(keyed.program, 16).set_key()
         refuse_lines(self.out + ".s", BUILDS[self.build])
 
     def left_by(self, assembly, cases, function):
-        self.prove(assembly, cases)
+        """Gives what these cases leave uncovered of a function in this assembly."""
+        self.prove_cases(assembly, cases)
         return uncovered_of(self.keyed.program, function)
 
-    def try_fault(self, fault, is_unreached):
+    def try_fault(self, fault):
         """Gives the verdict on a fault. The case that the fault names has to refuse it, or its cases have to leave it uncovered."""
-        what, *edit, case = fault
-        changed, line = edited_assembly(self.assembly, *edit)
+        changed, line = edited_assembly(self.assembly, fault)
         if changed in (None, self.assembly):
-            return False, "MISSED: %s (%s): there is no such place, or nothing changes" % (what, self.build)
-        what, cases = "%s (%s.s:%d, %s)" % (what, self.build, line, case), case.split("; ")
-        if not is_unreached:
-            return verdict(what, lambda: self.prove(changed, cases))
-        usual = self.left_by(self.assembly, cases, edit[0])
-        return verdict(what, lambda: refuse_unreached(self.left_by(changed, cases, edit[0]), usual), "unreached")
+            return False, "MISSED: %s (%s): there is no such place, or nothing changes" % (fault.what, self.build)
+        what, cases = "%s (%s.s:%d, %s)" % (fault.what, self.build, line, fault.case), fault.cases()
+        if not is_unreached(fault, self.build):
+            return verdict(what, lambda: self.prove_cases(changed, cases))
+        usual = self.left_by(self.assembly, cases, fault.label)
+        return verdict(what, lambda: refuse_unreached(self.left_by(changed, cases, fault.label), usual), "unreached")
 
 
 def try_faults(options, build):
     """Tries the faults of one build."""
-    planted, unreached, verdicts = Planted(options, build), UNREACHED.get(build, []), []
-    for fault in FAULTS.get(build, []) + LONG_FAULTS.get(build, []) + unreached:
-        what, *_, case = fault
-        if not {*case.split("; ")} <= planted.cases.keys():
-            raise SystemExit("controls: %s: no such case: %s" % (what, case))
-        if options.only in what:
-            verdicts.append(planted.try_fault(fault, fault in unreached))
+    planted, verdicts = Planted(options, build), []
+    for fault in faults_of(build):
+        if not {*fault.cases()} <= planted.cases.keys():
+            raise SystemExit("controls: %s: no such case: %s" % (fault.what, fault.case))
+        if options.only in fault.what:
+            verdicts.append(planted.try_fault(fault))
     return verdicts
 
 
@@ -175,7 +174,7 @@ def try_wrong_meanings(options, machine):
 
 def main():
     options, refused, missed = options_of(__doc__, "builds"), 0, 0
-    tries = [(try_faults, build) for build in {**FAULTS, **LONG_FAULTS} if build in options.builds]
+    tries = [(try_faults, build) for build in BUILDS_WITH_FAULTS if build in options.builds]
     if not options.only:
         tries += [(try_wrong_meanings, machine) for machine in set(MEANINGS.values()) if not PROCESSORS[machine].missing()]
     with pool_of(options.jobs, max_tasks_per_child=1) as pool:  # (one build needs some 4 GB)

@@ -43,7 +43,7 @@ class KeyedGcm(WholeMessages, Pieces, AnyPieces, MessageEnds, KeyedHash):
             yield self.subkey_in, h, p[0]
             for power, after in zip(p, p[1:]):
                 yield "hash", functools.partial(product, d, power, p[0]), after
-        m = self.keep_struct(self.prove(self.expansion(ANY, steps=steps), seed))
+        m = self.keep_struct(self.prove_statement(self.expansion(ANY, steps=steps), seed))
         meaning = {d.cell_of(b)[0]: e.bits(c) for x, y in zip(p, self.powers) for b, c in zip(x, y)}
         products = m.regions["gcm"].content[self.kept_size:]
         self.struct += [e.pack([e.linear_image(x, meaning.__getitem__, d) for x in d.bits(b)]) for b in products]

@@ -7,7 +7,7 @@ are arbitrary bytes. So they are proved for any round keys, and thus for those o
 from collections import namedtuple
 
 from bits import BLOCK, DATA, KEY, ONES, Unproved, linear_bits
-from calls import ANY, Buffer, Call, Stream, prove
+from calls import ANY, Buffer, Call, Stream, prove_call
 from domain import Domain
 from linear import WORD, unknown
 from operands import LAST, LEAD
@@ -83,11 +83,11 @@ class Keyed:
         """Does the same with a byte."""
         return self.domain.pack([self.bit_for_any(x) for x in self.key_domain.bits(b)])
 
-    def prove(self, calls, seed=None):
+    def prove_statement(self, calls, seed=None):
         """Proves a statement, which may be several calls. Gives the machine after the last one."""
         for call in [calls] if isinstance(calls, Call) else calls:
             given_the_key = any(b.content is self.key for b in call.buffers)
-            m = prove(self.key_domain if given_the_key else self.domain, self.program, call, seed)
+            m = prove_call(self.key_domain if given_the_key else self.domain, self.program, call, seed)
             self.calls.add(call.name)
         return m
 
@@ -125,7 +125,7 @@ class Keyed:
     def set_key(self, seed=None):
         """Expands a key into *aes (KeyExpansion, FIPS 197, 5.2). *aes may be uninitialized: none of it is read. .. every byte that neither
         a round key of the new key nor its length takes is 0. DONE if key_length is 16, 24 or 32"""
-        return self.keep_struct(self.prove(self.expansion(ANY), seed))
+        return self.keep_struct(self.prove_statement(self.expansion(ANY), seed))
 
     def keep_struct(self, m):
         """Keeps what set_key has stored, as it is for any round keys: the key's length, and schedules of up to 60 words each."""

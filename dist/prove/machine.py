@@ -172,7 +172,7 @@ class Machine(Arithmetic, Borders, Unknowns, Bytewise, Results, Access):
 
     def ask(self, flag):
         """Gives the answer to a question, or raises it. A flag is a question if it says how far apart two buffers are, or whether a wrapped
-        key or a tag is right. Both answers have to be proved (see calls.prove)."""
+        key or a tag is right. Both answers have to be proved (see calls.prove_call)."""
         if isinstance(flag[0], Distance) and self.overlaps(*flag):
             return 0
         if flag not in self.answers:

@@ -62,7 +62,7 @@ class Task:
             for what, call in statements(keyed, self.options, self.part, self.parts):
                 self.calls |= keyed.calls
                 program.noted.accepts = "refused" not in what
-                self.case(what, lambda seed: keyed.prove(call, seed))
+                self.case(what, lambda seed: keyed.prove_statement(call, seed))
                 if "refused" in what:
                     keyed.calls = set()
             self.calls |= keyed.calls
