@@ -162,10 +162,10 @@ GCM_ROWS = [
         ("encrypt", ENCRYPTING, 5, 5, 4), ("verify", VERIFYING, 0, 0, 9)],
         first=[(call, phase, 5, t, 1) for call, phase in PHASES.items() for t in range(16)],
         all_=[(call, phase, 5, t, n) for call, phase in PHASES.items() for t in range(16) for n in (0, 16, 32)]),
-    Row("any_then_decrypt", "after 16 m + t bytes for every m, of a text of any length, 16 k + 3 bytes of additional data for every "
-        "k, and any J_0: t, and how many bytes come",
-        each=[(7, 20)], most=[(7, 0), (7, 9), (5, 4), (0, 68), (11, 20)], first=[(t, 1) for t in range(16)],
-        all_=[(t, n) for t in range(16) for n in (0, 16, 32)], keys_24_32=[(7, 20)]),
+    Row("any_then_decrypt", "after 16 k + s bytes of additional data and 16 m + t of a text of any length for every k and m, and any J_0: "
+        "s, t, and how many bytes come",
+        each=[(3, 7, 20)], most=[(3, *numbers) for numbers in ((7, 0), (7, 9), (5, 4), (0, 68), (11, 20))],
+        first=[(3, t, 1) for t in range(16)], all_=[(3, t, n) for t in range(16) for n in (0, 16, 32)], keys_24_32=[(3, 7, 20)]),
     *(Row("any_" + call, SAYS_CAME + also,
           each=[(phase, 0, 7), *each], most=[*((ADDITIONAL, n, 0) for n in (0, 5)), (phase, 5, 0), *most],
           keys_24_32=[(phase, 0, 7), *each, *((phase, 5, n) for n in ENDS)],

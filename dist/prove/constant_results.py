@@ -36,6 +36,9 @@ def operands_to_judge(machine, instruction):
     """Gives the operands of an instruction that are looked at. There are none if it has no result, if the result is the same whatever it
     reads, or if it only moves whole words."""
     name, operands = instruction.name, list(simple_operands(instruction.operands))
+    if re.fullmatch(machine.compares, name):
+        sources = [o for o in operands if isinstance(o, Memory) or isinstance(o, Register) and o.size < machine.word]
+        return Judged(tuple(sources), (), (), False)
     if re.match(machine.without_result, name) or not operands:
         return NOT_JUDGED
     if re.match(machine.stores, name):
@@ -78,15 +81,15 @@ class Results(Followings):
     """Notes the results of the instructions that a machine runs."""
 
     # Each machine describes its instructions with these. How names begin: those of instructions without a result, of those that store, and
-    # of those that don't read their first operand. Whole names: those of instructions with two results, of moves, of instructions that give
+    # of those that don't read their first operand. Whole names: those of instructions with two results, of comparisons, of moves, of instructions that give
     # 0 if their operands are the same, and of those that clear all of a vector but the first eight bytes. `implicit` is {name: registers
     # that the operands don't name}.
-    stores, two_results, first_lane, implicit = "(?!)", "(?!)", "(?!)", {}
+    stores, two_results, compares, first_lane, implicit = "(?!)", "(?!)", "(?!)", "(?!)", {}
 
     def run_noted(self, instruction):
         """Runs an instruction, and notes its result."""
         sources, results, shifted, affine = self.judged_operands(instruction)
-        if not results:
+        if not sources:
             self.program.noted.settled.add(self.last)
             return instruction.run(self, instruction.name, *instruction.operands)
         before = [self.whole_of(o, instruction.name) for o in sources]
@@ -102,6 +105,11 @@ class Results(Followings):
             self.follow(concatenated(before) if affine else (), places)
         if self.last in noted.dropped and noted.following[self.last] is None:
             noted.settled.add(self.last)
+
+    def note_written_by_libc(self, arguments, written):
+        """Notes the bytes that a function of libc wrote, as results of the instruction that called it."""
+        if self.program.noted.accepts and self.last not in self.program.noted.dropped:
+            self.note([[v] for v in arguments], [self.number(self.from_bytes(lane)) for lane in lanes(written, LANE)])
 
     def judged_operands(self, instruction):
         """Gives the operands of an instruction that are looked at, as `operands_to_judge` does, but finds them once."""
@@ -156,11 +164,11 @@ class Results(Followings):
         if name == "lea":
             return [self.general[r] for r in (o.base, o.index) if r]
         _, at, size = self.where(o, name)
-        index = self.general[o.index] if o.index else 0
+        numbers = [self.general[r] for r in (o.base, o.index) if r not in (None, self.stack_pointer)]
         if is_int(at) or not is_pointer(at) or not is_int(at.offset):
-            return [index, at]
+            return [*numbers, at]
         begin = at.offset // self.word * self.word
-        return [index, tuple(self.peeked(at._replace(offset=begin), -(-(at.offset + size - begin) // self.word) * self.word) or ())]
+        return [*numbers, tuple(self.peeked(at._replace(offset=begin), -(-(at.offset + size - begin) // self.word) * self.word) or ())]
 
     def part_of(self, o, name):
         """Gives the numbers that an instruction reads, if they are a part of what `whole_of` gives. They count as its results."""

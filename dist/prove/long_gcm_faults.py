@@ -73,7 +73,7 @@ LONG_GCM_FAULTS = {
         Fault("a count of 32 bits of additional data", exported("gcm_additional"), found=r"addq\t%(r\w+), \((%r\w+)\)",
               becomes=lambda found: "addl\t%%%s, (%s)" % (low(found[1]), found[2]), case="any_then_additional 13 13"),
         Fault("a count of 32 bits of what was decrypted", exported("gcm_decrypt"), found=r"addq\t%(r\w+), 16\((%r\w+)\)",
-              becomes=lambda found: "addl\t%%%s, 16(%s)" % (low(found[1]), found[2]), case="any_then_decrypt 11 20"),
+              becomes=lambda found: "addl\t%%%s, 16(%s)" % (low(found[1]), found[2]), case="any_then_decrypt 3 11 20"),
         Fault("a byte of a short tag not compared after 2^32 bytes", IS_SHORT_TAG, found=ENTRY,
               becomes=r"\1\tcmpl\t$0, 12(%rsi)\n\tje\t77f\n\tdecq\t%rcx\n77:\n", case="any_accept 3 0 7 12"),
     ],

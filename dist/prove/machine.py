@@ -53,6 +53,7 @@ from unknowns import Unknowns
 
 # A run with more instructions is refused: a loop may not end. The longest cases have fewer.
 MOST_STEPS = 10000000
+MOST_NOTED = 16  # bytes that are noted of what a function of libc writes
 
 
 @dataclass(frozen=True)
@@ -305,7 +306,9 @@ class Machine(Arithmetic, Borders, Unknowns, Bytewise, Results, Access):
         if name == "memcpy" and is_pointer(source) and to.base == source.base and abs(to.offset - source.offset) < count:
             raise Unproved("memcpy of overlapping bytes")
         if count:
-            self.store(to, self.to_bytes(source, 1) * count if name == "memset" else self.load(source, count))
+            written = self.to_bytes(source, 1) * count if name == "memset" else self.load(source, count)
+            self.store(to, written)
+            self.note_written_by_libc((to, source, count), written[:MOST_NOTED])
         for r in self.scratch:
             self.general[r] = tuple(self.after_libc(name, self.to_bytes(self.general[r], self.word)))
         self.general[self.result] = to

@@ -20,8 +20,8 @@ class MessageEnds:
         a, t = came_in(self, phase, additional, text)
         return after_any(self.piece(call, phase, a, t, count), MOST - count - (t.number if t else 0), a, t)
 
-    def any_then_decrypt(self, filled, count):
-        a, before = came_in(self, DECRYPTING, 3, filled)
+    def any_then_decrypt(self, additional, filled, count):
+        a, before = came_in(self, DECRYPTING, additional, filled)
         whole, facts = self.number_of_words("whole text")
         text = Came(self.parts(whole), whole, None, facts | {MOST - whole})
         return after_any(self.decrypt(text, before, count, additional=a), whole - count - before.number, a, before, text)

@@ -39,7 +39,7 @@ LENGTHS = {
         "any_then_additional": [(n, 17 + 2 * n) for n in PARTS],
         "any_then_piece": [(call, *state) for call, phase in PHASES.items() for n in PARTS
                            for state in ((phase, 5, n, 17 + 2 * n), (ADDITIONAL, n, 0, 16 + n))],
-        "any_then_decrypt": [(n, 17 + 2 * n) for n in PARTS],
+        "any_then_decrypt": [(3, n, 17 + 2 * n) for n in PARTS],
         "any_accept": [(VERIFYING, 5, n, tag) for n in PARTS for tag in SHORT_TAGS]
                       + [(ADDITIONAL, n, 0, tag) for n in BLOCK for tag in SHORT_TAGS],
         "any_additional": PIECE_LENGTHS, "any_verify": PIECE_LENGTHS},
@@ -49,6 +49,7 @@ AMONG_REMAINDERS = "any_additional", "any_verify"  # cases.py has them in this l
 # Pairs of remainders: of additional data and text; of what came before and what comes; or of both that came before. CCM also has each
 # length of a nonce with each length of a tag.
 BY_16 = list(itertools.product(BLOCK, BLOCK))
+PAIRS_OF_THREE = [((j + k) % 16, j, k) for j, k in BY_16]  # each pair of each two of three remainders
 CCM_PAIRS = [(13, *pair, 16) for pair in BY_16] + [(nonce, 3, 5, tag) for nonce in NONCES for tag in CCM_TAGS]
 CAME = [(ADDITIONAL, n, 0) for n in BLOCK]
 PAIRS = {
@@ -57,8 +58,8 @@ PAIRS = {
         "ccm_seal": CCM_PAIRS, "ccm_open": CCM_PAIRS},
     "gcm": {
         "seal": BY_16, "open": BY_16,
-        "any_then_additional": BY_16, "any_then_decrypt": BY_16,
-        "any_then_piece": [(call, phase, 5, *pair) for call, phase in PHASES.items() for pair in BY_16],
+        "any_then_additional": BY_16, "any_then_decrypt": PAIRS_OF_THREE,
+        "any_then_piece": [(call, phase, *three) for call, phase in PHASES.items() for three in PAIRS_OF_THREE],
         "any_finish": [(ENCRYPTING, *pair) for pair in BY_16] + CAME,
         "any_accept": [(VERIFYING, *pair) for pair in BY_16] + CAME},
     "siv": {"seal": BY_16, "open": BY_16}}

@@ -37,7 +37,7 @@ class X86_64(Machine):
     without_result, implicit = "j|call|ret|push|pop|cmp|test|ptest|bt|nop|endbr|vzero|set", {"mul": ("rax", "rdx")}
     only_writes, moves = r"mov(?!s[sd])|v|lea|andn|shrx|bzhi|mulx|pshuf[dlh]|pextr|pmov", r"v?mov(|abs|dq[au]|[au]ps)"
     affine = "add|sub|inc|dec|neg|not|lea|xchg"
-    two_results, cancels, first_lane = "mulx|xchg", "xor|v?pxor|v?xorps|sub|v?pcmpeq", "v?mov[qd]"
+    compares, two_results, cancels, first_lane = "cmp|test", "mulx|xchg", "xor|v?pxor|v?xorps|sub|v?pcmpeq", "v?mov[qd]"
     # Jumps and calls that have to arrive at a mark; and the first byte of instructions of AVX-512, of which some are named as in AVX2.
     to_mark, avx512 = r"(rex\.\w+ +)*(jmp|call)\b(?! +[0-9a-f]+ <)", b"\x62"
 
