@@ -22,6 +22,7 @@ static ssize_t played(void *bytes, size_t count, unsigned flags);
 
 /* What the system does: 0 fails, 1 gives too few bytes, 2 is interrupted once and then gives all. */
 static int mode, calls, asked_wrongly;
+
 static ssize_t played(void *bytes, size_t count, unsigned flags)
 {
     calls++;
@@ -41,6 +42,7 @@ static ssize_t played(void *bytes, size_t count, unsigned flags)
 }
 
 static int passed, failed;
+
 static void expect(int holds, const char *what)
 {
     if (holds) {

@@ -37,7 +37,10 @@ static uint64_t position, state;
 static int status;
 
 /* A status is 0 if a call did its work. Of calls in pieces the first that says something else counts. */
-static void keep_first_status(int next) { status = status ? status : next; }
+static void keep_first_status(int next)
+{
+    status = status ? status : next;
+}
 
 /* Makes a call in pieces, on n bytes from `at` on: the first five, half of what is left, and the rest. */
 #define IN_PIECES(call, from, all) do { \
@@ -48,16 +51,22 @@ static void keep_first_status(int next) { status = status ? status : next; }
             keep_first_status((int)(call)); \
         } \
     } while (0)
-static void begin_message(void) {
+
+static void begin_message(void)
+{
     keep_first_status((int)fotsgure_gcm_begin(&gcm, &message, nonce, nonce_bytes));
     IN_PIECES(fotsgure_gcm_additional(&gcm, &message, at, n), additional, extra);
 }
-static int seal_in_pieces(void) {
+
+static int seal_in_pieces(void)
+{
     begin_message();
     IN_PIECES(fotsgure_gcm_encrypt(&gcm, &message, at, n), data, bytes);
     return (int)fotsgure_gcm_finish(&gcm, &message, tag);
 }
-static int open_in_pieces(void) {
+
+static int open_in_pieces(void)
+{
     begin_message();
     IN_PIECES(fotsgure_gcm_verify(&gcm, &message, at, n), data, bytes);
     keep_first_status((int)fotsgure_gcm_accept(&gcm, &message, tag, 16));
@@ -65,36 +74,62 @@ static int open_in_pieces(void) {
         IN_PIECES(fotsgure_gcm_decrypt(&gcm, &message, at, n), data, bytes);
     return 0;
 }
-static int open_unverified(void) {
+
+static int open_unverified(void)
+{
     begin_message();
     IN_PIECES(fotsgure_gcm_decrypt_unverified(&gcm, &message, at, n), data, bytes);
     return (int)fotsgure_gcm_accept(&gcm, &message, tag, 16);
 }
-static int stream_in_pieces(void) {
+
+static int stream_in_pieces(void)
+{
     IN_PIECES(fotsgure_aes_add_keystream(&aes, &ctr, at, n), data, bytes);
     return 0;
 }
 
 /* Planted faults. Each has to be found: by its instructions, by nothing but its addresses, or by what it leaves. */
 static volatile uint8_t table[256], sink;
-static void use(const void *at) { __asm__ volatile("" : : "r"(at) : "memory"); }
-static __attribute__((noinline)) int one(void) { return sink = 1, 0; }
-static int branch(void) { return data[3] & 1 ? one() : 0; }
-static int look_up(void) { return sink = table[data[5]], 0; }
-static int early_exit(void) {
+
+static void use(const void *at)
+{
+    __asm__ volatile("" : : "r"(at) : "memory");
+}
+
+static __attribute__((noinline)) int one(void)
+{
+    return sink = 1, 0;
+}
+
+static int branch(void)
+{
+    return data[3] & 1 ? one() : 0;
+}
+
+static int look_up(void)
+{
+    return sink = table[data[5]], 0;
+}
+
+static int early_exit(void)
+{
     const volatile uint8_t *claimed = tag;
     for (int i = 0; i < 16; i++)
         if (claimed[i] != right_tag[i])
             return FOTSGURE_AES_REFUSED;
     return 0;
 }
-static int not_wiped(void) {
+
+static int not_wiped(void)
+{
     struct fotsgure_aes it;
     int its_status = (int)fotsgure_aes_set_key(&it, key, size);
     use(&it);
     return its_status;
 }
-static int inner(void) {
+
+static int inner(void)
+{
     uint8_t it[16];
     memcpy(it, sealed, 16);
     int its_status = (int)fotsgure_aes_encrypt_blocks(&aes, it, 1);
@@ -199,23 +234,30 @@ static const uint64_t positions[] = {0, 5, ((uint64_t)1 << 40) - 1};
 static const size_t nonces[] = {12, 8, 16}, extras[] = {0, 13, 20, 100, 32};
 
 /* Bytes of a run: all 0, all 1, and then others each time. */
-static void fill(uint8_t *at, size_t length, int run) {
+static void fill(uint8_t *at, size_t length, int run)
+{
     for (size_t i = 0; i < length; i++) {
         state = state * 6364136223846793005u + 1442695040888963407u;
         at[i] = run == 0 ? 0 : run == 1 ? 0xff : (uint8_t)(state >> 56);
     }
 }
+
 /* How many bytes a sealed message has, beside its tag. */
-static size_t length_of(const struct call *call, enum text text) {
+static size_t length_of(const struct call *call, enum text text)
+{
     return bytes + (text == SEALED && (call->mode == KW || call->mode == KWP) ? 8 : 0) - (text == PLAIN && call->mode == KWP ? 3 : 0);
 }
-static void start(void) {
+
+static void start(void)
+{
     memcpy(ctr.iv, nonce, 16);
     memcpy(cbc.previous, nonce, 16);
     memcpy(counter.next, nonce, 12);
     ctr.position = position;
 }
-static int seal(const struct call *call) {
+
+static int seal(const struct call *call)
+{
     size_t whole = (bytes + 15) / 16 * 16;
     memcpy(sealed, plain, bytes + MORE);
     memset(stream, 0, bytes + MORE);
@@ -253,8 +295,10 @@ static int seal(const struct call *call) {
         stream[i] = plain[i] ^ sealed[i];
     return 0;
 }
+
 /* Wraps semiblocks as SP 800-38F, 6.1, does, but under an integrity value that may be wrong. */
-static void wrap_under(const uint8_t value[8], const uint8_t *text, size_t semiblocks, uint8_t *to) {
+static void wrap_under(const uint8_t value[8], const uint8_t *text, size_t semiblocks, uint8_t *to)
+{
     memcpy(to, value, 8);
     memcpy(to + 8, text, 8 * semiblocks);
     for (size_t step = 1; step <= 6 * semiblocks; step++) {
@@ -268,9 +312,11 @@ static void wrap_under(const uint8_t value[8], const uint8_t *text, size_t semib
         memcpy(one, block + 8, 8);
     }
 }
+
 /* What has to be refused is wrong at a single place, another one in each run: so a comparison with an early exit ends at another step. (The
  * text of AES-GCM-SIV depends on its tag, so there each place is wrong.) */
-static void spoil(const struct call *call, int place) {
+static void spoil(const struct call *call, int place)
+{
     uint8_t value[8] = {0xa6, 0xa6, 0xa6, 0xa6, 0xa6, 0xa6, 0xa6, 0xa6}, padded[ROOM] = {0};
     memcpy(padded, plain, length_of(call, PLAIN));
     if (call->mode == KWP)
@@ -281,10 +327,16 @@ static void spoil(const struct call *call, int place) {
     if (call->mode == KW || call->mode == KWP)
         wrap_under(value, padded, 2 * count, given);
 }
+
 /* Of two messages the nonce is all zeros, of two others not. It is public, so that instructions may depend on it. */
-static int nonce_of(int of_message) { return of_message / 2; }
+static int nonce_of(int of_message)
+{
+    return of_message / 2;
+}
+
 /* What a run is given, by the numbers of its key and of its message. */
-static void prepare(const struct call *call, int of_key, int of_message) {
+static void prepare(const struct call *call, int of_key, int of_message)
+{
     state = (uint64_t)of_key * 0x9e3779b97f4a7c15u + 1;
     fill(key, sizeof key, of_key);
     state = (uint64_t)of_message * 0x9e3779b97f4a7c15u + 7;
@@ -315,7 +367,9 @@ static uint8_t known[RUNS][4 * ROOM], registers[REGISTERS];
 static size_t known_bytes[RUNS];
 /* Makes a call on a stack of its own, and stores the registers after it: enter.S. */
 extern int enter(void *top, int (*call)(void), void *registers);
-static void run(const struct call *call, int of_key) {
+
+static void run(const struct call *call, int of_key)
+{
     for (size_t i = 0; i < WORDS; i++)
         stack[i] = FILLED;
     keep_first_status(enter(stack + WORDS, call->run, registers));
@@ -324,18 +378,24 @@ static void run(const struct call *call, int of_key) {
     for (size_t i = 0; i < WORDS; i++)
         images[of_key].words[i] = stack[i];
 }
-static int is_done(const struct call *call) {
+
+static int is_done(const struct call *call)
+{
     static const uint8_t zeros[ROOM];
     const uint8_t *wanted = call->to == PLAIN ? plain : call->to == SEALED ? sealed : zeros;
     return status == call->wanted && memcmp(data, wanted, length_of(call, call->to)) == 0;
 }
+
 /* What may stay, since the caller has it or it tells nothing of the key: the message, its keystream or what CBC encrypts, and a counter
  * block. */
-static void allow_bytes(int run, const void *at, size_t length) {
+static void allow_bytes(int run, const void *at, size_t length)
+{
     memcpy(known[run] + known_bytes[run], at, length);
     known_bytes[run] += length;
 }
-static void allow_known(const struct call *call, int run) {
+
+static void allow_known(const struct call *call, int run)
+{
     size_t end = bytes + position % 16, rest = call->mode == CTR ? -end % 16 : 0;
     known_bytes[run] = 0;
     allow_bytes(run, sealed, length_of(call, SEALED));
@@ -347,25 +407,31 @@ static void allow_known(const struct call *call, int run) {
         allow_bytes(run, stream, (end + 16) / 16 * 16);
     allow_bytes(run, first, nonce_bytes == 12 ? 0 : sizeof first);
 }
+
 /* Whether `length` bytes are the same under all keys. */
-static int is_same(size_t at, size_t length) {
+static int is_same(size_t at, size_t length)
+{
     int same = 1;
     for (int other = 1; other < RUNS; other++)
         same &= memcmp(images[other].bytes + at, images[0].bytes + at, length) == 0;
     return same;
 }
+
 /* Whether a word has nothing but one or two known bytes: its first, its last, or its first two. A machine of 32 bits may keep bytes of a
  * message or a tag so. In a long message every byte occurs, so this shows something of short messages only. */
-static int is_alone(int run, size_t at) {
+static int is_alone(int run, size_t at)
+{
     const uint8_t *it = images[run].bytes + at / 4 * 4;
     if (!it[0] && !it[1] && !it[2])
         return memchr(known[run], it[3], known_bytes[run]) != NULL;
     size_t length = it[1] ? 2 : 1;
     return !it[2] && !it[3] && memmem(known[run], known_bytes[run], it, length);
 }
+
 /* Counts the bytes of a run's stack that other keys leave otherwise: those that are known, by pieces, and the others. It begins 64
  * bytes below the deepest place. */
-static void count_left(int run, size_t deep, size_t *is_known, size_t *is_secret) {
+static void count_left(int run, size_t deep, size_t *is_known, size_t *is_secret)
+{
     *is_known = *is_secret = 0;
     for (size_t i = deep + 64 < STACK ? (STACK - deep - 64) / 64 * 64 : 0, piece; i < STACK; i += piece) {
         piece = i % 64 == 0 && is_same(i, 64) ? 64 : 1;
@@ -377,15 +443,19 @@ static void count_left(int run, size_t deep, size_t *is_known, size_t *is_secret
         *(at || is_alone(run, i) ? is_known : is_secret) += piece;
     }
 }
+
 /* How many bytes of the registers are other ones under some key. */
-static size_t in_registers(void) {
+static size_t in_registers(void)
+{
     size_t differ = 0;
     for (size_t i = 0; i < REGISTERS; i++)
         differ += !is_same(STACK + i, 1);
     return differ;
 }
+
 /* A call at one length, for each message under each key. */
-static void at_length(const struct call *call) {
+static void at_length(const struct call *call)
+{
     int did[RUNS];
     for (int of_message = 0; of_message < RUNS; of_message++) {
         size_t deep = STACK, is_known, is_secret;
@@ -405,7 +475,9 @@ static void at_length(const struct call *call) {
         }
     }
 }
-static void at_lengths(const struct call *call) {
+
+static void at_lengths(const struct call *call)
+{
     size_t all = call->kind == NOTHING ? 1 : call->kind == OF_BLOCKS ? OF(lengths_of_blocks) : OF(lengths_of_bytes);
     size_t more = call->kind == OF_BYTES ? OF(positions) : call->kind == OF_MESSAGES && call->mode == GCM ? OF(nonces) : 1;
     for (size_t i = 0; i < all; i++)
@@ -421,7 +493,8 @@ static void at_lengths(const struct call *call) {
         }
 }
 
-int main(void) {
+int main(void)
+{
     for (size = 16; size <= 32; size += 8)
         for (const struct call *call = calls; call < calls + OF(calls); call++)
             if (call->mode != SIV || size != 24)
