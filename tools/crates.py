@@ -32,7 +32,7 @@ def listed_sums(files):
 
 
 def sum_of_sources(crate):
-    """One sum of all that a crate is made of: that of its files' sums."""
+    """One sum of all that a crate consists of: that of its files' sums."""
     files = (it for part in ("src", "specs", "proofs") for it in (TOP / "crates" / crate / part).rglob("*") if it.is_file())
     return sum_of(listed_sums(sorted(files)).encode())
 

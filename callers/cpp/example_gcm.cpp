@@ -6,7 +6,8 @@
 #include <string>
 #include <sys/random.h>
 
-int main() {
+int main()
+{
     std::array<std::uint8_t, 32> key;
     if (getrandom(key.data(), key.size(), 0) != static_cast<ssize_t>(key.size()))
         return 1;

@@ -8,7 +8,8 @@
 #include <string>
 
 // A key from a file of 32 random bytes: (umask 077; set -C; head -c 32 /dev/urandom > FILE)
-static std::string read_key(const char *path) {
+static std::string read_key(const char *path)
+{
     std::string key(32, '\0');
     std::ifstream file(path, std::ios::binary);
     if (!file.read(key.data(), 32) || file.get() != std::ifstream::traits_type::eof())
@@ -16,7 +17,8 @@ static std::string read_key(const char *path) {
     return key;
 }
 
-static void seal_and_open(const std::string &key) {
+static void seal_and_open(const std::string &key)
+{
     const fotsgure::GcmSiv siv(key);
     const std::string name = "its name";
     std::string text = "a message";
@@ -27,7 +29,8 @@ static void seal_and_open(const std::string &key) {
         throw std::runtime_error("the output can't be written");
 } // the destructor of `siv` wipes it; the key is the program's own
 
-int main(int count, char **words) {
+int main(int count, char **words)
+{
     if (count != 2) {
         std::cerr << "usage: message FILE    (FILE has a key of 32 bytes)\n";
         return 2;

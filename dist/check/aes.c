@@ -14,6 +14,7 @@
 #include <string.h>
 
 #include "aes_vectors.h"
+#include "check.h"
 
 /* How many bytes of a struct fotsgure_aes a build keeps. */
 #ifdef __riscv_v
@@ -21,25 +22,6 @@
 #else
 #define KEPT sizeof(struct fotsgure_aes)
 #endif
-
-static int passed, failed;
-
-static void expect(int holds, const char *what, size_t size)
-{
-    if (holds) {
-        passed++;
-    } else {
-        failed++;
-        printf("failed: %s (%zu)\n", what, size);
-    }
-}
-
-static void from_hex(uint8_t *bytes, const char *digits)
-{
-    unsigned byte;
-    for (; sscanf(digits, "%2x", &byte) == 1; digits += 2)
-        *bytes++ = (uint8_t)byte;
-}
 
 static uint8_t counted[33];
 
@@ -507,6 +489,5 @@ int main(void)
     single_rounds();
     statuses();
     words();
-    printf("%d passed, %d failed\n", passed, failed);
-    return failed != 0;
+    return finish();
 }

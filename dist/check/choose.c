@@ -5,6 +5,8 @@
 #include <pthread.h>
 #include <stdio.h>
 
+#include "check.h"
+
 static void *asks(void *found)
 {
     *(int *)found = build();
@@ -15,7 +17,7 @@ int main(void)
 {
     enum { THREADS = 16 };
     pthread_t threads[THREADS];
-    int found[THREADS], started = 0, wrong = 0;
+    int found[THREADS], started = 0;
     __builtin_cpu_init();
     int wanted = !__builtin_cpu_supports("ssse3") || !__builtin_cpu_supports("sse4.1") ? V1 :
         __builtin_cpu_supports("avx2") && __builtin_cpu_supports("bmi") && __builtin_cpu_supports("bmi2") &&
@@ -24,9 +26,9 @@ int main(void)
         started++;
     for (int i = 0; i < started; i++) {
         pthread_join(threads[i], NULL);
-        wrong += found[i] != wanted;
+        expect(found[i] == wanted, "the build that a thread chose", (size_t)i);
     }
-    wrong += started < THREADS || build() != wanted;
-    printf("on this processor the libraries choose the build for x86-64-v%d\n%d passed, %d failed\n", wanted, started + 1 - wrong, wrong);
-    return wrong != 0;
+    expect(started == THREADS && build() == wanted, "all threads, and the build that was chosen", (size_t)started);
+    printf("on this processor the libraries choose the build for x86-64-v%d\n", wanted);
+    return finish();
 }

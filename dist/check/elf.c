@@ -6,6 +6,8 @@
 #include <stdlib.h>
 #include <string.h>
 
+#include "check.h"
+
 /* The file is of the machine that this program is of. */
 #if __SIZEOF_POINTER__ == 8
 #define ELF(type) Elf64_##type
@@ -15,16 +17,10 @@
 #define CLASS ELFCLASS32
 #endif
 
-static int passed, failed;
-
-static void expect(int holds, const char *what, const char *of)
+static void expect_of(int holds, const char *what, const char *of)
 {
-    if (holds) {
-        passed++;
-    } else {
-        failed++;
+    if (fails(holds))
         printf("failed: %s%s\n", what, of);
-    }
 }
 
 static unsigned char *whole(const char *name, size_t *size)
@@ -58,10 +54,10 @@ static void segments(const unsigned char *bytes, const ELF(Ehdr) *head)
                 (entry->d_tag == DT_FLAGS_1 && (entry->d_un.d_val & DF_1_NOW));
         }
     }
-    expect(stack, "the stack is executable", "");
-    expect(!both, "a segment is both writable and executable", "");
-    expect(!text, "the code is relocated", "");
-    expect(now, "functions are bound at their first use", "");
+    expect_of(stack, "the stack is executable", "");
+    expect_of(!both, "a segment is both writable and executable", "");
+    expect_of(!text, "the code is relocated", "");
+    expect_of(now, "functions are bound at their first use", "");
 }
 
 static void exports(const unsigned char *bytes, const ELF(Ehdr) *head, int count, char **names)
@@ -79,11 +75,11 @@ static void exports(const unsigned char *bytes, const ELF(Ehdr) *head, int count
                 continue;
             while (k < count && strcmp(names[k], text + symbol[n].st_name))
                 k++;
-            expect(k < count, "an export that the header doesn't declare: ", text + symbol[n].st_name);
+            expect_of(k < count, "an export that the header doesn't declare: ", text + symbol[n].st_name);
             found++;
         }
     }
-    expect(count && found == count, "there are other exports than the header declares", "");
+    expect_of(count && found == count, "there are other exports than the header declares", "");
 }
 
 int main(int count, char **words)
@@ -98,6 +94,5 @@ int main(int count, char **words)
     segments(bytes, head);
     exports(bytes, head, count - 2, words + 2);
     free(bytes);
-    printf("%d passed, %d failed\n", passed, failed);
-    return failed != 0;
+    return finish();
 }

@@ -15,26 +15,7 @@
 #include <stdlib.h>
 #include <string.h>
 
-static int passed, failed;
-
-static void expect(int holds, const char *what, size_t size)
-{
-    if (holds) {
-        passed++;
-    } else {
-        failed++;
-        printf("failed: %s (%zu)\n", what, size);
-    }
-}
-
-static size_t from_hex(uint8_t *bytes, const char *digits)
-{
-    unsigned byte;
-    size_t count = 0;
-    for (; sscanf(digits, "%2x", &byte) == 1; digits += 2)
-        bytes[count++] = (uint8_t)byte;
-    return count;
-}
+#include "check.h"
 
 /* No size_t of 32 bits counts a text that is too long. */
 #define IS_32 (sizeof(size_t) == 4)
@@ -569,6 +550,5 @@ int main(void)
     counted();
     pieces();
     siv();
-    printf("%d passed, %d failed\n", passed, failed);
-    return failed != 0;
+    return finish();
 }

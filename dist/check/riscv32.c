@@ -34,9 +34,11 @@ void abort(void)
 
 extern int main(void);
 extern char __bss_start[], __bss_end[];
+
 __attribute__((used)) static void begin(void)
 {
     memset(__bss_start, 0, (size_t)(__bss_end - __bss_start));
     exit(main());
 }
+
 __asm__(".globl _start\n_start: .option push\n.option norelax\nla gp, __global_pointer$\n.option pop\nandi sp, sp, -16\ncall begin");

@@ -19,9 +19,11 @@
 #define getentropy(bytes, count) (played(bytes, count, 0) == (ssize_t)(count) ? 0 : -1)
 static ssize_t played(void *bytes, size_t count, unsigned flags);
 #include "../seal_random.c"
+#include "check.h"
 
 /* What the system does: 0 fails, 1 gives too few bytes, 2 is interrupted once and then gives all. */
 static int mode, calls, asked_wrongly;
+
 static ssize_t played(void *bytes, size_t count, unsigned flags)
 {
     calls++;
@@ -38,17 +40,6 @@ static ssize_t played(void *bytes, size_t count, unsigned flags)
 #endif
     memset(bytes, 0xA5, count);
     return mode == 1 ? 5 : (ssize_t)count;
-}
-
-static int passed, failed;
-static void expect(int holds, const char *what)
-{
-    if (holds) {
-        passed++;
-    } else {
-        failed++;
-        printf("failed: %s\n", what);
-    }
 }
 
 static const uint8_t name[] = "its name", plain[] = "a message", filled[16] = {7, 7, 7, 7, 7, 7, 7, 7, 7, 7, 7, 7, 7, 7, 7, 7};
@@ -69,26 +60,25 @@ int main(void)
 {
     static const uint8_t key[32] = {1, 2, 3};
     uint8_t nonce[12], tag[16], text[sizeof plain], other[sizeof plain], other_tag[16];
-    expect(fotsgure_gcm_siv_set_key(&siv, key, sizeof key) == FOTSGURE_GCM_DONE, "a key");
+    expect(fotsgure_gcm_siv_set_key(&siv, key, sizeof key) == FOTSGURE_GCM_DONE, "a key", 0);
     mode = 0;
-    expect(refuses(FOTSGURE_GCM_NO_RANDOMNESS), "a system that fails");
+    expect(refuses(FOTSGURE_GCM_NO_RANDOMNESS), "a system that fails", 0);
     mode = 1;
-    expect(refuses(FOTSGURE_GCM_NO_RANDOMNESS), "a system that gives too few bytes");
+    expect(refuses(FOTSGURE_GCM_NO_RANDOMNESS), "a system that gives too few bytes", 0);
 
     mode = 2;
     calls = 0;
     memcpy(text, plain, sizeof text);
-    expect(fotsgure_gcm_siv_seal_random(&siv, nonce, name, sizeof name, text, sizeof text, tag) == FOTSGURE_GCM_DONE, "sealed");
+    expect(fotsgure_gcm_siv_seal_random(&siv, nonce, name, sizeof name, text, sizeof text, tag) == FOTSGURE_GCM_DONE, "sealed", 0);
     memcpy(other, plain, sizeof other);
     expect(fotsgure_gcm_siv_seal(&siv, nonce, name, sizeof name, other, sizeof other, other_tag) == FOTSGURE_GCM_DONE &&
-        !memcmp(text, other, sizeof text) && !memcmp(tag, other_tag, sizeof tag), "as under the nonce that it wrote");
-    expect(nonce[0] == 0xA5 && nonce[11] == 0xA5 && !memcmp(nonce, nonce + 1, 11), "the nonce is what the system gave");
-    expect(!asked_wrongly, "what the system is asked for");
+        !memcmp(text, other, sizeof text) && !memcmp(tag, other_tag, sizeof tag), "as under the nonce that it wrote", 0);
+    expect(nonce[0] == 0xA5 && nonce[11] == 0xA5 && !memcmp(nonce, nonce + 1, 11), "the nonce is what the system gave", 0);
+    expect(!asked_wrongly, "what the system is asked for", 0);
     expect(fotsgure_gcm_siv_open(&siv, nonce, name, sizeof name, text, sizeof text, tag) == FOTSGURE_GCM_DONE &&
-        !memcmp(text, plain, sizeof text), "opened");
+        !memcmp(text, plain, sizeof text), "opened", 0);
 
     fotsgure_gcm_siv_wipe(&siv);
-    expect(refuses(FOTSGURE_GCM_NO_KEY), "no key");
-    printf("%d passed, %d failed\n", passed, failed);
-    return failed != 0;
+    expect(refuses(FOTSGURE_GCM_NO_KEY), "no key", 0);
+    return finish();
 }

@@ -113,7 +113,7 @@ struct fotsgure_aes {
 };
 
 /* A position in a keystream. The caller sets both fields, and may set `position` to continue anywhere. Never use a counter
- * block twice under one key: keystream block i is made of iv + i, so give each message a range of its own. */
+ * block twice under one key: keystream block i is made from iv + i, so give each message a range of its own. */
 struct fotsgure_aes_ctr {
     uint8_t iv[16];    /* the initial counter block: one number of 128 bits, highest byte first */
     uint64_t position; /* how many bytes of the keystream come before the next: 0 at the start */

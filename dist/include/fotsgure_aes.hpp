@@ -23,7 +23,8 @@ using Blocks = BasicBytes<std::uint8_t, 16>;
 namespace detail {
 
 // Throws for every status but DONE, with the header's words.
-inline void check(fotsgure_aes_status status) {
+inline void check(fotsgure_aes_status status)
+{
     const char *const words = fotsgure_aes_status_text(status);
     switch (status) {
     case FOTSGURE_AES_DONE: return;
@@ -41,13 +42,22 @@ inline void check(fotsgure_aes_status status) {
 }
 
 // How many parts of `size` bytes there are.
-inline std::size_t whole(std::size_t length, std::size_t size, const char *words) {
+inline std::size_t whole(std::size_t length, std::size_t size, const char *words)
+{
     if (length % size != 0)
         throw std::invalid_argument(words);
     return length / size;
 }
-inline std::size_t blocks(std::size_t length) { return whole(length, 16, "the length isn't a multiple of 16 bytes"); }
-inline std::size_t semiblocks(std::size_t length) { return whole(length, 8, "the length isn't a multiple of 8 bytes"); }
+
+inline std::size_t blocks(std::size_t length)
+{
+    return whole(length, 16, "the length isn't a multiple of 16 bytes");
+}
+
+inline std::size_t semiblocks(std::size_t length)
+{
+    return whole(length, 8, "the length isn't a multiple of 8 bytes");
+}
 
 } // namespace detail
 
@@ -61,7 +71,8 @@ public:
     Aes(const Aes &) = delete;
     Aes &operator=(const Aes &) = delete;
     Aes(Aes &&from) noexcept : aes(from.aes) { fotsgure_aes_wipe(&from.aes); }
-    Aes &operator=(Aes &&from) noexcept {
+    Aes &operator=(Aes &&from) noexcept
+    {
         if (this != &from) {
             aes = from.aes;
             fotsgure_aes_wipe(&from.aes);
@@ -70,34 +81,40 @@ public:
     }
 
     // Whole blocks in place: a vector, a span, an array or a string of bytes, or of blocks; or a pointer and how many bytes.
-    void encrypt(Blocks data) const {
+    void encrypt(Blocks data) const
+    {
         detail::check(fotsgure_aes_encrypt_blocks(&aes, data.data(), detail::blocks(data.size())));
     }
-    void decrypt(Blocks data) const {
+    void decrypt(Blocks data) const
+    {
         detail::check(fotsgure_aes_decrypt_blocks(&aes, data.data(), detail::blocks(data.size())));
     }
     void encrypt(std::uint8_t *bytes, std::size_t length) const { encrypt(Blocks(bytes, length)); }
     void decrypt(std::uint8_t *bytes, std::size_t length) const { decrypt(Blocks(bytes, length)); }
 
     // Key wrap (KW): returns the wrapped key, or the key again. Throws std::runtime_error if that was changed.
-    [[nodiscard]] std::vector<std::uint8_t> wrap(Bytes key) const {
+    [[nodiscard]] std::vector<std::uint8_t> wrap(Bytes key) const
+    {
         std::vector<std::uint8_t> wrapped(key.size() + 8);
         detail::check(fotsgure_aes_wrap(&aes, key.data(), detail::semiblocks(key.size()), wrapped.data(), wrapped.size() / 8));
         return wrapped;
     }
-    [[nodiscard]] std::vector<std::uint8_t> unwrap(Bytes wrapped) const {
+    [[nodiscard]] std::vector<std::uint8_t> unwrap(Bytes wrapped) const
+    {
         const std::size_t count = detail::semiblocks(wrapped.size());
         std::vector<std::uint8_t> key(count > 0 ? wrapped.size() - 8 : 0);
         detail::check(fotsgure_aes_unwrap(&aes, wrapped.data(), count, key.data(), key.size() / 8));
         return key;
     }
     // The same with padding (KWP), for keys of any number of bytes.
-    [[nodiscard]] std::vector<std::uint8_t> wrap_padded(Bytes key) const {
+    [[nodiscard]] std::vector<std::uint8_t> wrap_padded(Bytes key) const
+    {
         std::vector<std::uint8_t> wrapped((key.size() + 7) / 8 * 8 + 8);
         detail::check(fotsgure_aes_wrap_padded(&aes, key.data(), key.size(), wrapped.data(), wrapped.size() / 8));
         return wrapped;
     }
-    [[nodiscard]] std::vector<std::uint8_t> unwrap_padded(Bytes wrapped) const {
+    [[nodiscard]] std::vector<std::uint8_t> unwrap_padded(Bytes wrapped) const
+    {
         const std::size_t count = detail::semiblocks(wrapped.size());
         std::vector<std::uint8_t> key(count > 0 ? wrapped.size() - 8 : 0);
         std::size_t length = 0;
@@ -116,7 +133,8 @@ private:
 // It can be moved: the old object then has no key, and its `apply` throws std::logic_error.
 class Ctr {
 public:
-    Ctr(const Aes &under, const Block &iv) : key(&under) {
+    Ctr(const Aes &under, const Block &iv) : key(&under)
+    {
         for (std::size_t i = 0; i < 16; ++i)
             ctr.iv[i] = iv[i];
     }
@@ -126,11 +144,13 @@ public:
     Ctr &operator=(const Ctr &) = delete;
 
     // Encrypts or decrypts in place, and moves the position on.
-    void apply(std::uint8_t *bytes, std::size_t length) {
+    void apply(std::uint8_t *bytes, std::size_t length)
+    {
         detail::check(fotsgure_aes_add_keystream(schedule(), &ctr, bytes, length));
     }
     // The same from one buffer to another of the same length, which doesn't overlap it.
-    void apply(const std::uint8_t *input, std::uint8_t *output, std::size_t length) {
+    void apply(const std::uint8_t *input, std::uint8_t *output, std::size_t length)
+    {
         detail::check(fotsgure_aes_add_keystream_to(schedule(), &ctr, input, length, output, length));
     }
     void apply(Blocks data) { apply(data.data(), data.size()); }
@@ -141,7 +161,8 @@ private:
     const Aes *key;
     fotsgure_aes_ctr ctr{};
 
-    const fotsgure_aes *schedule() const {
+    const fotsgure_aes *schedule() const
+    {
         if (key == nullptr)
             throw std::logic_error("there is no key");
         return &key->aes;
@@ -152,16 +173,19 @@ private:
 // the initialization vector and the encrypted blocks before you decrypt.
 class Cbc {
 public:
-    Cbc(const Aes &under, const Block &iv) : key(&under) {
+    Cbc(const Aes &under, const Block &iv) : key(&under)
+    {
         for (std::size_t i = 0; i < 16; ++i)
             cbc.previous[i] = iv[i];
     }
     Cbc(const Aes &&, const Block &) = delete;
 
-    void encrypt(Blocks data) {
+    void encrypt(Blocks data)
+    {
         detail::check(fotsgure_aes_cbc_encrypt(&key->aes, &cbc, data.data(), detail::blocks(data.size())));
     }
-    void decrypt(Blocks data) {
+    void decrypt(Blocks data)
+    {
         detail::check(fotsgure_aes_cbc_decrypt(&key->aes, &cbc, data.data(), detail::blocks(data.size())));
     }
 

@@ -36,7 +36,8 @@ template <class Byte, std::size_t Largest = 1> class BasicBytes {
 public:
     BasicBytes() = default;
     BasicBytes(Byte *first, std::size_t count) : start(first), length(count) {}
-    template <class Data, class = std::enable_if_t<!std::is_same_v<std::decay_t<Data>, BasicBytes>>> BasicBytes(Data &&data) {
+    template <class Data, class = std::enable_if_t<!std::is_same_v<std::decay_t<Data>, BasicBytes>>> BasicBytes(Data &&data)
+    {
         using Array = std::remove_reference_t<Data>;
         using Element = typename detail::Elements<Array>::Type;
         constexpr bool is_array_of_char =

@@ -27,7 +27,8 @@ public:
 namespace detail {
 
 // Throws for every status but DONE, with the header's words.
-inline void check(fotsgure_gcm_status status) {
+inline void check(fotsgure_gcm_status status)
+{
     const char *const words = fotsgure_gcm_status_text(status);
     switch (status) {
     case FOTSGURE_GCM_DONE: return;
@@ -56,7 +57,8 @@ public:
     GcmSiv(const GcmSiv &) = delete;
     GcmSiv &operator=(const GcmSiv &) = delete;
     GcmSiv(GcmSiv &&from) noexcept : siv(from.siv) { fotsgure_gcm_siv_wipe(&from.siv); }
-    GcmSiv &operator=(GcmSiv &&from) noexcept {
+    GcmSiv &operator=(GcmSiv &&from) noexcept
+    {
         if (this != &from) {
             siv = from.siv;
             fotsgure_gcm_siv_wipe(&from.siv);
@@ -65,21 +67,24 @@ public:
     }
 
     // Encrypts a text in place under a nonce that is drawn at random: returns that nonce and the tag.
-    [[nodiscard]] std::pair<Nonce, Tag> seal_random(Bytes additional, MutableBytes text) const {
+    [[nodiscard]] std::pair<Nonce, Tag> seal_random(Bytes additional, MutableBytes text) const
+    {
         std::pair<Nonce, Tag> made{};
         detail::check(fotsgure_gcm_siv_seal_random(&siv, made.first.data(), additional.data(), additional.size(),
             text.data(), text.size(), made.second.data()));
         return made;
     }
     // The same under a nonce of yours. One that is used twice only shows whether the two messages are the same.
-    [[nodiscard]] Tag seal(const Nonce &nonce, Bytes additional, MutableBytes text) const {
+    [[nodiscard]] Tag seal(const Nonce &nonce, Bytes additional, MutableBytes text) const
+    {
         Tag tag{};
         detail::check(fotsgure_gcm_siv_seal(&siv, nonce.data(), additional.data(), additional.size(), text.data(),
             text.size(), tag.data()));
         return tag;
     }
     // Decrypts a text in place. Throws Refused if anything was changed, and the text then stays as it was.
-    void open(const Nonce &nonce, Bytes additional, MutableBytes text, const Tag &tag) const {
+    void open(const Nonce &nonce, Bytes additional, MutableBytes text, const Tag &tag) const
+    {
         detail::check(fotsgure_gcm_siv_open(&siv, nonce.data(), additional.data(), additional.size(), text.data(),
             text.size(), tag.data()));
     }
@@ -93,7 +98,8 @@ private:
 class Counter {
 public:
     Counter() = default;
-    explicit Counter(const Nonce &stored) {
+    explicit Counter(const Nonce &stored)
+    {
         for (std::size_t i = 0; i < stored.size(); ++i)
             counter.next[i] = stored[i];
     }
@@ -101,7 +107,8 @@ public:
     Counter &operator=(const Counter &) = delete;
 
     // Store it after each message, and before the message is sent.
-    Nonce next() const {
+    Nonce next() const
+    {
         Nonce nonce{};
         for (std::size_t i = 0; i < nonce.size(); ++i)
             nonce[i] = counter.next[i];
@@ -128,7 +135,8 @@ public:
     // Encrypts a piece of the text in place.
     void encrypt(MutableBytes text) { detail::check(fotsgure_gcm_encrypt(gcm, &message, text.data(), text.size())); }
     // Ends a message that was encrypted: returns its tag.
-    [[nodiscard]] Tag finish() {
+    [[nodiscard]] Tag finish()
+    {
         Tag tag{};
         detail::check(fotsgure_gcm_finish(gcm, &message, tag.data()));
         return tag;
@@ -138,21 +146,24 @@ public:
     // Throws Refused, and wipes the message, if the tag isn't that of what has come.
     void accept(Bytes tag) { accepted(fotsgure_gcm_accept(gcm, &message, tag.data(), tag.size())); }
     // The same for a protocol whose tags all have `fixed_length` bytes: 4, 8 or 12 to 15. Never read that number from a message.
-    void accept_short(std::size_t fixed_length, Bytes tag) {
+    void accept_short(std::size_t fixed_length, Bytes tag)
+    {
         accepted(fotsgure_gcm_accept_short(gcm, &message, fixed_length, tag.data(), tag.size()));
     }
     // Decrypts in place a piece of the text whose tag was right: the same text once more, from its beginning on.
     void decrypt(MutableBytes text) { detail::check(fotsgure_gcm_decrypt(gcm, &message, text.data(), text.size())); }
     // Adds a piece as `verify` does and decrypts it at once. NOBODY HAS AUTHENTICATED IT: use nothing of it before `accept` has
     // returned, and discard it if that throws.
-    void decrypt_unverified(MutableBytes text) {
+    void decrypt_unverified(MutableBytes text)
+    {
         detail::check(fotsgure_gcm_decrypt_unverified(gcm, &message, text.data(), text.size()));
     }
 
 private:
     friend class Gcm;
     explicit Message(const fotsgure_gcm &under) : gcm(&under) {}
-    void accepted(fotsgure_gcm_status status) {
+    void accepted(fotsgure_gcm_status status)
+    {
         if (status == FOTSGURE_GCM_REFUSED)
             fotsgure_gcm_wipe_message(&message);
         detail::check(status);
@@ -171,7 +182,8 @@ public:
     Gcm(const Gcm &) = delete;
     Gcm &operator=(const Gcm &) = delete;
     Gcm(Gcm &&from) noexcept : gcm(from.gcm) { fotsgure_gcm_wipe(&from.gcm); }
-    Gcm &operator=(Gcm &&from) noexcept {
+    Gcm &operator=(Gcm &&from) noexcept
+    {
         if (this != &from) {
             gcm = from.gcm;
             fotsgure_gcm_wipe(&from.gcm);
@@ -180,34 +192,39 @@ public:
     }
 
     // Encrypts a text in place under the counter's next nonce, which moves on: returns that nonce and the tag.
-    [[nodiscard]] std::pair<Nonce, Tag> seal_next(Counter &counter, Bytes additional, MutableBytes text) const {
+    [[nodiscard]] std::pair<Nonce, Tag> seal_next(Counter &counter, Bytes additional, MutableBytes text) const
+    {
         std::pair<Nonce, Tag> made{};
         detail::check(fotsgure_gcm_seal_next(&gcm, &counter.counter, made.first.data(), additional.data(), additional.size(),
             text.data(), text.size(), made.second.data()));
         return made;
     }
     // The same under a nonce of yours: never one that was used before under this key.
-    [[nodiscard]] Tag seal(Bytes nonce, Bytes additional, MutableBytes text) const {
+    [[nodiscard]] Tag seal(Bytes nonce, Bytes additional, MutableBytes text) const
+    {
         Tag tag{};
         detail::check(fotsgure_gcm_seal(&gcm, nonce.data(), nonce.size(), additional.data(), additional.size(), text.data(),
             text.size(), tag.data()));
         return tag;
     }
     // Decrypts a text in place. Throws Refused if anything was changed, and the text then stays as it was.
-    void open(Bytes nonce, Bytes additional, MutableBytes text, Bytes tag) const {
+    void open(Bytes nonce, Bytes additional, MutableBytes text, Bytes tag) const
+    {
         detail::check(fotsgure_gcm_open(&gcm, nonce.data(), nonce.size(), additional.data(), additional.size(), text.data(),
             text.size(), tag.data(), tag.size()));
     }
 
     // Begins a message in pieces under the counter's next nonce: returns that nonce and the message. Store the counter before
     // anything of the message is sent.
-    [[nodiscard]] std::pair<Nonce, Message> begin_next(Counter &counter) const & {
+    [[nodiscard]] std::pair<Nonce, Message> begin_next(Counter &counter) const &
+    {
         std::pair<Nonce, Message> begun{Nonce{}, Message(gcm)};
         detail::check(fotsgure_gcm_begin_next(&gcm, &begun.second.message, &counter.counter, begun.first.data()));
         return begun;
     }
     // The same under a nonce of yours.
-    [[nodiscard]] Message begin(Bytes nonce) const & {
+    [[nodiscard]] Message begin(Bytes nonce) const &
+    {
         Message message(gcm);
         detail::check(fotsgure_gcm_begin(&gcm, &message.message, nonce.data(), nonce.size()));
         return message;

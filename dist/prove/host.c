@@ -4,10 +4,12 @@
 
 unsigned char area[1 << 20] __attribute__((aligned(4096)));
 
-void start(void) {
+void start(void)
+{
 }
 
-void *memmove(void *to, const void *from, size_t count) {
+void *memmove(void *to, const void *from, size_t count)
+{
     unsigned char *a = to;
     const unsigned char *b = from;
     if (a < b)
@@ -19,11 +21,13 @@ void *memmove(void *to, const void *from, size_t count) {
     return to;
 }
 
-void *memcpy(void *to, const void *from, size_t count) {
+void *memcpy(void *to, const void *from, size_t count)
+{
     return memmove(to, from, count);
 }
 
-void *memset(void *to, int byte, size_t count) {
+void *memset(void *to, int byte, size_t count)
+{
     for (unsigned char *a = to; count--; a++)
         *a = (unsigned char) byte;
     return to;

@@ -97,7 +97,7 @@ def kind_of_secret(m, byte, known, plain, reveals=()):
 
 
 def is_or(m, byte, all_):
-    """Whether a byte is made of all these bytes by `or`, or is a byte of a number that depends on that alone."""
+    """Whether a byte is made from all these bytes by `or`, or is a byte of a number that depends on that alone."""
     name = m.domain.name_of_opaque.get(byte, [0])[0]
     some = [b for b in name.differences if b] if isinstance(name, Verdict) else [byte]
     return all({*m.secret.any_of.get(b, ())} == {*all_} for b in some)

@@ -42,7 +42,7 @@ LEAD, LAST = 2, 200  # The first block of a buffer of unknown length has the num
 SECRET = "secret"  # a flag that depends on the key or on data (None is an undefined flag)
 RETURN_ADDRESS = Pointer("return address", 0)
 # The base of addresses in the file of the code. Their offsets are addresses of one link. Only an access, a jump or another such address may
-# be made of one, so nothing depends on where a linker puts the code.
+# be made from one, so nothing depends on where a linker puts the code.
 CODE = "the code"
 WORD = (1 << 64) - 1
 

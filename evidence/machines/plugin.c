@@ -33,38 +33,54 @@ static uint32_t begin = HINT | NUMBER, end = HINT | (NUMBER + 1);
 static FILE *out;
 static uint64_t instructions, order, places;
 
-static uint64_t mixed(uint64_t hash, uint64_t with) {
+static uint64_t mixed(uint64_t hash, uint64_t with)
+{
     hash = (hash ^ with) * 0x9e3779b97f4a7c15u;
     return hash ^ hash >> 29;
 }
+
 /* What runs is followed by blocks of instructions, which run whole: by how many they are, and the address of the first. */
-static void executed(unsigned cpu, void *block) {
+static void executed(unsigned cpu, void *block)
+{
     (void)cpu;
     instructions += (uintptr_t)block >> 48;
     order = mixed(order, (uintptr_t)block);
 }
-static void accessed(unsigned cpu, qemu_plugin_meminfo_t how, uint64_t address, void *at) {
+
+static void accessed(unsigned cpu, qemu_plugin_meminfo_t how, uint64_t address, void *at)
+{
     (void)cpu, (void)at;
     places = mixed(places, address ^ (uint64_t)how << 48);
 }
-static void began(unsigned cpu, void *at) {
+
+static void began(unsigned cpu, void *at)
+{
     (void)cpu, (void)at;
     instructions = order = places = 0;
 }
-static void ended(unsigned cpu, void *at) {
+
+static void ended(unsigned cpu, void *at)
+{
     (void)cpu, (void)at;
     fprintf(out, "%llu\t%016llx\t%016llx\n", (unsigned long long)instructions, (unsigned long long)order,
         (unsigned long long)places);
 }
 
-static uint32_t code_of(const struct qemu_plugin_insn *it) {
+static uint32_t code_of(const struct qemu_plugin_insn *it)
+{
     uint32_t code;
     memcpy(&code, qemu_plugin_insn_data(it), sizeof code);
     return code;
 }
-static void *numbered(size_t count, uint64_t address) { return (void *)((uintptr_t)count << 48 | (uintptr_t)address); }
+
+static void *numbered(size_t count, uint64_t address)
+{
+    return (void *)((uintptr_t)count << 48 | (uintptr_t)address);
+}
+
 /* A block with a mark is followed by its instructions. */
-static void translated(qemu_plugin_id_t id, struct qemu_plugin_tb *block) {
+static void translated(qemu_plugin_id_t id, struct qemu_plugin_tb *block)
+{
     (void)id;
     size_t count = qemu_plugin_tb_n_insns(block), marks = 0;
     for (size_t i = 0; i < count; i++) {
@@ -81,14 +97,17 @@ static void translated(qemu_plugin_id_t id, struct qemu_plugin_tb *block) {
         qemu_plugin_register_vcpu_mem_cb(it, accessed, NO_REGISTERS, READS_AND_WRITES, NULL);
     }
 }
-static void closed(qemu_plugin_id_t id, void *nothing) {
+
+static void closed(qemu_plugin_id_t id, void *nothing)
+{
     (void)id, (void)nothing;
     fclose(out);
 }
 
 /* What is known of the emulator begins with the name of its machine. */
 __attribute__((visibility("default"))) int qemu_plugin_install(qemu_plugin_id_t id, const char *const *about, int count,
-    char **words) {
+    char **words)
+{
     if (strncmp(*about, "riscv", 5) == 0)
         begin = ADDI | NUMBER << 20, end = ADDI | (NUMBER + 1) << 20;
     if (count != 1 || strncmp(words[0], "out=", 4) || !(out = fopen(words[0] + 4, "w")))

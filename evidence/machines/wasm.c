@@ -5,26 +5,35 @@
 #include <string.h>
 
 static uint64_t branches, order, places;
-static uint64_t mixed(uint64_t hash, uint64_t with) {
+
+static uint64_t mixed(uint64_t hash, uint64_t with)
+{
     /* (One more, since 0 after 0 would be nothing.) */
     hash = (hash ^ (with + 1)) * 0x9e3779b97f4a7c15u;
     return hash ^ hash >> 29;
 }
-uint32_t report_table(uint32_t number) {
+
+uint32_t report_table(uint32_t number)
+{
     branches++;
     order = mixed(order, number);
     return number;
 }
-uint32_t report_branch(uint32_t condition) {
+
+uint32_t report_branch(uint32_t condition)
+{
     report_table(condition != 0);
     return condition;
 }
-uint32_t report_place(uint32_t address) {
+
+uint32_t report_place(uint32_t address)
+{
     places = mixed(places, address);
     return address;
 }
 #define REPORTED(copy) \
-    void *report_##copy(void *to, const void *from, size_t count) { \
+    void *report_##copy(void *to, const void *from, size_t count) \
+    { \
         report_table(count); \
         report_place((uint32_t)from); \
         report_place((uint32_t)to); \
@@ -32,14 +41,17 @@ uint32_t report_place(uint32_t address) {
     }
 REPORTED(memcpy)
 REPORTED(memmove)
-void *report_memset(void *to, int what, size_t count) {
+
+void *report_memset(void *to, int what, size_t count)
+{
     report_table(count);
     report_place((uint32_t)to);
     return memset(to, what, count);
 }
 
 /* WebAssembly has no registers that outlast a call. */
-__attribute__((noinline)) int enter(void *top, int (*call)(void), void *registers) {
+__attribute__((noinline)) int enter(void *top, int (*call)(void), void *registers)
+{
     void *own;
     (void)registers;
     branches = order = places = 0;

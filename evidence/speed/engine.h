@@ -48,7 +48,10 @@ struct engine {
 enum run { ALL, NO_AES };
 
 /* How a library keeps what it has for the three sizes of keys. */
-static inline int size_of(size_t key_bytes) { return key_bytes == 16 ? 0 : key_bytes == 24 ? 1 : 2; }
+static inline int size_of(size_t key_bytes)
+{
+    return key_bytes == 16 ? 0 : key_bytes == 24 ? 1 : 2;
+}
 
 /* The call add_NAME of each library adds its engines for a run. */
 void add(const struct engine *engine);

@@ -14,15 +14,21 @@
 /* One struct serves both directions and counter mode. */
 static struct fotsgure_aes aes;
 static int failed;
-static void set_key(enum direction to, const uint8_t *bytes, size_t n) {
+
+static void set_key(enum direction to, const uint8_t *bytes, size_t n)
+{
     (void)to;
     failed |= (int)fotsgure_aes_set_key(&aes, bytes, n);
 }
-static void process(enum direction to, uint8_t *blocks, size_t count) {
+
+static void process(enum direction to, uint8_t *blocks, size_t count)
+{
     failed |= (int)(to == ENCRYPT ? fotsgure_aes_encrypt_blocks(&aes, blocks, count)
                                   : fotsgure_aes_decrypt_blocks(&aes, blocks, count));
 }
-static void stream(const uint8_t *bytes, size_t n, const uint8_t *iv, uint8_t *data, size_t length) {
+
+static void stream(const uint8_t *bytes, size_t n, const uint8_t *iv, uint8_t *data, size_t length)
+{
     struct fotsgure_aes_ctr counter = {{0}, 0};
     memcpy(counter.iv, iv, sizeof counter.iv);
     failed |= bytes ? (int)fotsgure_aes_add_keystream_with(bytes, n, &counter, data, length)
@@ -30,36 +36,69 @@ static void stream(const uint8_t *bytes, size_t n, const uint8_t *iv, uint8_t *d
 }
 
 static struct fotsgure_gcm gcm;
-static void gcm_key(const uint8_t *bytes) { failed |= (int)fotsgure_gcm_set_key(&gcm, bytes, 16); }
-static void seal(const struct message *m) {
+
+static void gcm_key(const uint8_t *bytes)
+{
+    failed |= (int)fotsgure_gcm_set_key(&gcm, bytes, 16);
+}
+
+static void seal(const struct message *m)
+{
     failed |= (int)fotsgure_gcm_seal(&gcm, m->nonce, 12, m->additional, m->extra, m->text, m->length, m->tag);
 }
 
 static struct fotsgure_gcm_siv siv;
-static void seal_siv(const struct message *m) {
+
+static void seal_siv(const struct message *m)
+{
     failed |= (int)fotsgure_gcm_siv_seal(&siv, m->nonce, m->additional, m->extra, m->text, m->length, m->tag);
 }
 
 #ifdef PLANTED
 /* Planted: twice the work, on other data first; and none. */
 static uint8_t other[16 * 4096];
-static void twice_key(enum direction to, const uint8_t *bytes, size_t n) { set_key(to, bytes, n); set_key(to, bytes, n); }
-static void twice_process(enum direction to, uint8_t *blocks, size_t count) {
+
+static void twice_key(enum direction to, const uint8_t *bytes, size_t n)
+{
+    set_key(to, bytes, n);
+    set_key(to, bytes, n);
+}
+
+static void twice_process(enum direction to, uint8_t *blocks, size_t count)
+{
     process(to, blocks, count);
     process(to, other, count);
 }
-static void twice_gcm_key(const uint8_t *bytes) { gcm_key(bytes); gcm_key(bytes); }
-static void twice_seal(const struct message *m) {
+
+static void twice_gcm_key(const uint8_t *bytes)
+{
+    gcm_key(bytes);
+    gcm_key(bytes);
+}
+
+static void twice_seal(const struct message *m)
+{
     struct message copy = *m;
     copy.text = other;
     seal(&copy);
     seal(m);
 }
-static void no_process(enum direction to, uint8_t *blocks, size_t count) { (void)to; (void)blocks; (void)count; }
-static void no_seal(const struct message *m) { memset(m->tag, 0, 16); }
+
+static void no_process(enum direction to, uint8_t *blocks, size_t count)
+{
+    (void)to;
+    (void)blocks;
+    (void)count;
+}
+
+static void no_seal(const struct message *m)
+{
+    memset(m->tag, 0, 16);
+}
 #endif
 
-void ADD(enum run run) {
+void ADD(enum run run)
+{
     static const uint8_t siv_key[16] = {7};
     failed |= (int)fotsgure_gcm_siv_set_key(&siv, siv_key, sizeof siv_key);
 #ifdef PLANTED
@@ -70,6 +109,7 @@ void ADD(enum run run) {
     add(&(struct engine){"planted", "leaves the text alone", "planted", .gcm_key = gcm_key, .seal = no_seal});
     (void)run;
 #else
-    if (run == NO_AES) add(&(struct engine){"this library", HOW, "hybrid", BLOCKS, .stream = stream, GCM, .seal_siv = seal_siv});
+    if (run == NO_AES)
+        add(&(struct engine){"this library", HOW, "hybrid", BLOCKS, .stream = stream, GCM, .seal_siv = seal_siv});
 #endif
 }

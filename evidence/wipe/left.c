@@ -12,7 +12,11 @@
 enum { STACK = 1 << 18, FILL = 0xa5, BLOCK = 16, MOST_WORDS = 120, REGISTERS = 32, KEYS = 6, EVERY = 41 };
 static int has_upper_halves;
 
-static inline void use(const void *at) { __asm__ volatile("" : : "r"(at) : "memory"); }
+static inline void use(const void *at)
+{
+    __asm__ volatile("" : : "r"(at) : "memory");
+}
+
 static uint8_t *stack, *images[KEYS], registers[KEYS][BLOCK * REGISTERS] __attribute__((aligned(64)));
 static ucontext_t home, away;
 
@@ -26,8 +30,10 @@ static export *called;
 #define EMPTY(n) "pxor %xmm" #n ", %xmm" #n "\n"
 #define STORE(n) "movdqa %%xmm" #n ", 16 * " #n "(%0)\n"
 #define STORE_UPPER(n) "vextracti128 $1, %%ymm" #n ", 256 + 16 * " #n "(%0)\n"
+
 /* Makes a call with empty vector registers, and stores their content before anything else runs. */
-static void enter(void) {
+static void enter(void)
+{
     if (has_upper_halves)
         __asm__ volatile("vzeroall");
     else
@@ -36,8 +42,10 @@ static void enter(void) {
     __asm__ volatile(SIXTEEN(STORE) "cmpl $0, %1\n je 1f\n" SIXTEEN(STORE_UPPER) "1:\n"
         : : "r"(registers), "m"(has_upper_halves) : "memory", "cc");
 }
+
 /* Makes a call on the stack, and copies the stack and the registers afterwards. */
-static void run(int number) {
+static void run(int number)
+{
     memset(stack, FILL, STACK);
     getcontext(&away);
     /* Else the call would find this search's own numbers in its registers, and save them on the stack: the loop's differ with the key. */
@@ -48,7 +56,8 @@ static void run(int number) {
     makecontext(&away, enter, 0);
     swapcontext(&home, &away);
     memcpy(images[number], stack, STACK);
-    if (number) memcpy(registers[number], registers[0], sizeof *registers);
+    if (number)
+        memcpy(registers[number], registers[0], sizeof *registers);
 }
 
 #define OF_SIZE(bits) \
@@ -61,7 +70,8 @@ OF_SIZE(256)
 /* Planted: a wipe that the compiler may leave out, since nothing reads the words again, and one that is kept; and blocks of zeros,
    encrypted and decrypted, in a local. */
 #define PLANTED_WIPE(name, after) \
-    __attribute__((noinline)) static void planted_128_##name##_wipe(const uint8_t *k, uint8_t *b, size_t n) { \
+    __attribute__((noinline)) static void planted_128_##name##_wipe(const uint8_t *k, uint8_t *b, size_t n) \
+    { \
         uint16_t words[MOST_WORDS]; \
         ev_planes_128(k, words); \
         use(words); \
@@ -71,7 +81,9 @@ OF_SIZE(256)
     }
 PLANTED_WIPE(deleted, (void)0)
 PLANTED_WIPE(kept, use(words))
-__attribute__((noinline)) static void planted_128_zeros(const uint8_t *k, uint8_t *b, size_t n) {
+
+__attribute__((noinline)) static void planted_128_zeros(const uint8_t *k, uint8_t *b, size_t n)
+{
     uint8_t made[2][BLOCK];
     (void)k, (void)b, (void)n;
     memcpy(made, zeros, sizeof made);
@@ -81,19 +93,26 @@ __attribute__((noinline)) static void planted_128_zeros(const uint8_t *k, uint8_
 /* What is counted: runs of bytes that differ, as long as a whole schedule; all bytes that differ, on the stack and in registers; blocks of
    zeros that were encrypted or decrypted. */
 enum counted { COPIES, BYTES, IN_REGISTERS, ZERO_BLOCKS, COUNTED };
-static int differs(const uint8_t *const *copies, size_t at) {
+
+static int differs(const uint8_t *const *copies, size_t at)
+{
     int found = 0;
-    for (int k = 1; k < KEYS; k++) found |= copies[k][at] != copies[0][at];
+    for (int k = 1; k < KEYS; k++)
+        found |= copies[k][at] != copies[0][at];
     return found;
 }
-static void count_left(int seen[COUNTED]) {
+
+static void count_left(int seen[COUNTED])
+{
     static const uint8_t none[BLOCK];
     const uint8_t *in_registers[KEYS];
     size_t schedule = BLOCK * (size / 4 + 7);
     for (int k = KEYS - 1; k >= 0; k--) {
         /* An odd step for each byte: none is the same under two keys. */
-        for (size_t i = 0; i < size; i++) key[i] = (uint8_t)(0x1d * i + 0x35 + (0x47 + 2 * i) * (size_t)k);
-        for (size_t i = 0; i < sizeof blocks; i++) blocks[i] = (uint8_t)(i * 7 + i / 256 + 1);
+        for (size_t i = 0; i < size; i++)
+            key[i] = (uint8_t)(0x1d * i + 0x35 + (0x47 + 2 * i) * (size_t)k);
+        for (size_t i = 0; i < sizeof blocks; i++)
+            blocks[i] = (uint8_t)(i * 7 + i / 256 + 1);
         (size == 16 ? ev_full_128 : size == 24 ? ev_full_192 : ev_full_256)(0, key, none, 1, zeros[0], 1, zeros[1], 1);
         run(k);
         in_registers[k] = registers[k];
@@ -103,13 +122,16 @@ static void count_left(int seen[COUNTED]) {
         seen[BYTES] += length > 0;
         seen[COPIES] += length && length % schedule == 0;
         /* The last run had the key of number 0. */
-        for (int way = 0; way < 2 && i + BLOCK <= STACK; way++) seen[ZERO_BLOCKS] += !memcmp(images[0] + i, zeros[way], BLOCK);
+        for (int way = 0; way < 2 && i + BLOCK <= STACK; way++)
+            seen[ZERO_BLOCKS] += !memcmp(images[0] + i, zeros[way], BLOCK);
     }
-    for (size_t i = 0; i < sizeof *registers; i++) seen[IN_REGISTERS] += differs(in_registers, i);
+    for (size_t i = 0; i < sizeof *registers; i++)
+        seen[IN_REGISTERS] += differs(in_registers, i);
 }
 
 /* A call's name says the size of the key, and what it takes. */
-static void report(const char *name, export *it) {
+static void report(const char *name, export *it)
+{
     static const size_t others[] = {7, 109, 231, 375};
     int most[COUNTED] = {0}, on_bytes = strstr(name, "stream") != 0, is_long = on_bytes || strstr(name, "slice");
     called = it;
@@ -118,7 +140,8 @@ static void report(const char *name, export *it) {
         int seen[COUNTED] = {0};
         count = !is_long ? 1 : !on_bytes ? i : i < EVERY ? BLOCK * i : others[i - EVERY];
         count_left(seen);
-        for (int kind = 0; kind < COUNTED; kind++) most[kind] = seen[kind] > most[kind] ? seen[kind] : most[kind];
+        for (int kind = 0; kind < COUNTED; kind++)
+            most[kind] = seen[kind] > most[kind] ? seen[kind] : most[kind];
     }
     printf("%s\t%d\t%d\t%d\t%d\n", name, most[COPIES], most[BYTES], most[IN_REGISTERS], most[ZERO_BLOCKS]);
 }
@@ -127,10 +150,13 @@ static void report(const char *name, export *it) {
 CALLS
 #undef X
 #define X(name) report(#name, name);
-int main(void) {
+
+int main(void)
+{
     has_upper_halves = __builtin_cpu_supports("avx2") != 0;
     stack = aligned_alloc(4096, STACK);
-    for (int k = 0; k < KEYS; k++) images[k] = malloc(STACK);
+    for (int k = 0; k < KEYS; k++)
+        images[k] = malloc(STACK);
     X(planted_128_deleted_wipe) X(planted_128_kept_wipe) X(planted_128_zeros)
     CALLS
     return 0;

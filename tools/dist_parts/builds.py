@@ -208,7 +208,7 @@ class Build:
 
     def lines(self):
         """Its lines in BUILD."""
-        others = [f"made of the module of {self.name}: {it.name}.s" for it in self.texts if it != self.assembly]
+        others = [f"made from the module of {self.name}: {it.name}.s" for it in self.texts if it != self.assembly]
         return [f"verdict of {self.name}: {self.verdict}", self.line_of_made(), *others]
 
     def line_of_made(self):

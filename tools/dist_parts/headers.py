@@ -97,7 +97,7 @@ class Header:
         return "\n".join([*lines, "", "library! {", f'    "{self.library}":', *calls, "}", ""])
 
     def files(self):
-        """All that is made of it: {file: what it holds}."""
+        """All that is made from it: {file: what it holds}."""
         return {
             DIST / f"x86_64/choose_{self.library}.c": self.choice(),
             DIST / f"windows_x86_64/{self.library}.def": self.definitions(),

@@ -30,7 +30,7 @@ CALLS = {
     "riscv64": {"call\t{}": "la\tt1, {0}\n\tjalr\tt1", "tail\t{}": "la\tt1, {0}\n\tjr\tt1"},
 }
 # The marks (Intel's CET, ARM's BTI): an instruction at the beginning of each export, a prefix of jumps by tables, and a note for the
-# linker, which marks only what is made of marked files. The object of a Rust crate has no note, since it has Rust's functions too. The
+# linker, which marks only what is made from marked files. The object of a Rust crate has no note, since it has Rust's functions too. The
 # words of the note are the sizes of its name and of what follows, its type, and "GNU"; then the property, its size, its bits and nothing.
 ENTRIES = {"x86_64": "\tendbr64\n", "aarch64": "\thint\t#34\n"}
 BY_TABLE = re.compile(r"^\t(notrack )?(jmpq\t\*%)", re.M)
@@ -66,7 +66,7 @@ COMMENTS = {"aarch64": "//", "arm": "@", "thumb": "@"}
 
 
 def sum_of_library(library):
-    """One sum of the crates that a library is made of: of their lines in BUILD."""
+    """One sum of the crates that a library is made from: of their lines in BUILD."""
     crate = LIBRARIES[library]
     return crates.sum_of("".join(f"sources of {it}: {crates.sum_of_sources(it)}\n" for it in [*crates.below(crate), crate]).encode())
 

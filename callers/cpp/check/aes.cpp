@@ -16,20 +16,23 @@ using Bytes = std::vector<std::uint8_t>;
 
 int passed, failed;
 
-void expect(bool holds, const char *what, std::size_t size) {
+void expect(bool holds, const char *what, std::size_t size)
+{
     ++(holds ? passed : failed);
     if (!holds)
         std::printf("failed: %s (%zu)\n", what, size);
 }
 
-Bytes bytes_of(const std::string &digits) {
+Bytes bytes_of(const std::string &digits)
+{
     Bytes bytes;
     for (std::size_t i = 0; i < digits.size(); i += 2)
         bytes.push_back(static_cast<std::uint8_t>(std::stoul(digits.substr(i, 2), nullptr, 16)));
     return bytes;
 }
 
-template <class Error, class Call> bool throws(Call call) {
+template <class Error, class Call> bool throws(Call call)
+{
     try {
         call();
     } catch (const Error &) {
@@ -38,7 +41,8 @@ template <class Error, class Call> bool throws(Call call) {
     return false;
 }
 
-template <class Call> bool says(const std::string &words, Call call) {
+template <class Call> bool says(const std::string &words, Call call)
+{
     try {
         call();
     } catch (const std::exception &error) {
@@ -75,7 +79,8 @@ const Row f_rows[] = {
      "2b0930daa23de94ce87017ba2d84988ddfc9c58db67aada613c2dd08457941a6"},
 };
 
-void blocks(const Row &row) {
+void blocks(const Row &row)
+{
     const Bytes key = bytes_of(row.key), plain = bytes_of(c_plain);
     const fotsgure::Aes aes(key);
     Bytes block = plain;
@@ -101,7 +106,8 @@ void blocks(const Row &row) {
         key.size());
 }
 
-void counter_mode(const Row &row) {
+void counter_mode(const Row &row)
+{
     const Bytes key = bytes_of(row.key), plain = bytes_of(f_plain), cipher = bytes_of(row.cipher),
         iv_bytes = bytes_of(f_iv);
     fotsgure::Block iv{};
@@ -143,7 +149,8 @@ void counter_mode(const Row &row) {
 }
 
 // SP 800-38A, F.2.1: the four blocks of f_plain by CBC.
-void chained_blocks() {
+void chained_blocks()
+{
     const Bytes plain = bytes_of(f_plain), cipher = bytes_of("7649abac8119b246cee98e9b12e9197d5086cb9b507219ee95db113a917678b2"
                                                              "73bed6b8e3c1743b7116e69e222295163ff1caa1681fac09120eca307586e1a7");
     const fotsgure::Block iv{0, 1, 2, 3, 4, 5, 6, 7, 8, 9, 10, 11, 12, 13, 14, 15};
@@ -159,7 +166,8 @@ void chained_blocks() {
 }
 
 // RFC 3394, 4.6, and RFC 5649, 6.
-void wrapped_keys() {
+void wrapped_keys()
+{
     const Bytes key = bytes_of("00112233445566778899aabbccddeeff000102030405060708090a0b0c0d0e0f"),
                 wrapped = bytes_of("28c9f404c4b810f4cbccb35cfb87f8263f5786e2d80ed326cbc7f0e71a99f43bfb988b9b7a02dd21"),
                 short_key = bytes_of("c37b7e6492584340bed12207808941155068f738"),
@@ -177,7 +185,8 @@ void wrapped_keys() {
 }
 
 // A key and a text are whatever has bytes, and a key moves.
-void other_types() {
+void other_types()
+{
     const std::string words(16, 'k');
     const std::uint8_t array[16] = {'k', 'k', 'k', 'k', 'k', 'k', 'k', 'k', 'k', 'k', 'k', 'k', 'k', 'k', 'k', 'k'};
     const std::vector<std::byte> single(16, std::byte{'k'});
@@ -199,7 +208,8 @@ void other_types() {
 
 } // namespace
 
-int main() {
+int main()
+{
     chained_blocks();
     wrapped_keys();
     other_types();

@@ -28,20 +28,23 @@ static_assert(!std::is_copy_constructible_v<Counter> && !std::is_move_constructi
 
 int passed, failed;
 
-void expect(bool holds, const char *what) {
+void expect(bool holds, const char *what)
+{
     ++(holds ? passed : failed);
     if (!holds)
         std::printf("failed: %s\n", what);
 }
 
-Text bytes_of(const std::string &digits) {
+Text bytes_of(const std::string &digits)
+{
     Text bytes;
     for (std::size_t i = 0; i < digits.size(); i += 2)
         bytes.push_back(static_cast<std::uint8_t>(std::stoul(digits.substr(i, 2), nullptr, 16)));
     return bytes;
 }
 
-template <class Error, class Call> bool throws(const std::string &words, Call call) {
+template <class Error, class Call> bool throws(const std::string &words, Call call)
+{
     try {
         call();
     } catch (const Error &error) {
@@ -62,7 +65,8 @@ const std::string was_refused = "the message was changed, or sealed under anothe
                   wrong_order = "the calls came in the wrong order, for example text after finish, or decrypt before accept",
                   key_length = "a key has 16, 24 or 32 bytes, of AES-GCM-SIV 16 or 32";
 
-void known_answer(const Gcm &gcm) {
+void known_answer(const Gcm &gcm)
+{
     Text text = plain;
     const Tag tag = gcm.seal(nonce, additional, text);
     expect(text == cipher && Text(tag.begin(), tag.end()) == right, "case 4, sealed");
@@ -71,14 +75,16 @@ void known_answer(const Gcm &gcm) {
     };
     expect(throws<Refused>(was_refused, opens(nonce, {}, right)), "other additional data");
     expect(throws<Refused>(was_refused, opens(key, additional, right)), "another nonce");
-    expect(throws<std::invalid_argument>("a tag has 16 bytes, or as many as are fixed", opens(nonce, additional, Text(15))), "a tag of 15 bytes");
+    expect(throws<std::invalid_argument>("a tag has 16 bytes, or as many as are fixed", opens(nonce, additional, Text(15))),
+        "a tag of 15 bytes");
     expect(throws<std::invalid_argument>("a nonce has one byte or more", opens({}, additional, right)), "no nonce");
     expect(text == cipher, "what is refused stays as it was");
     gcm.open(nonce, additional, text, right);
     expect(text == plain, "case 4, opened");
 }
 
-void there_and_back(const Gcm &gcm) {
+void there_and_back(const Gcm &gcm)
+{
     Counter counter;
     bool same = true, refused = true;
     for (std::size_t length = 0; length <= 300; ++length) {
@@ -102,7 +108,8 @@ void there_and_back(const Gcm &gcm) {
 }
 
 // Case 4 in pieces of each size, both ways.
-void pieces(const Gcm &gcm) {
+void pieces(const Gcm &gcm)
+{
     bool same = true;
     for (std::size_t size = 1; size <= plain.size(); ++size) {
         Text text = plain;
@@ -127,7 +134,8 @@ void pieces(const Gcm &gcm) {
 }
 
 // What a message in pieces refuses, and short tags.
-void pieces_refused(const Gcm &gcm) {
+void pieces_refused(const Gcm &gcm)
+{
     Text text = cipher;
     const auto verified = [&] {
         Message message = gcm.begin(nonce);
@@ -160,7 +168,8 @@ void pieces_refused(const Gcm &gcm) {
 }
 
 // A key moves, and leaves none behind.
-void moves() {
+void moves()
+{
     Text text = plain;
     std::vector<Gcm> keys;
     keys.emplace_back(Text(32));
@@ -179,7 +188,8 @@ void moves() {
     expect(text == cipher, "a moved key of AES-GCM-SIV works");
 }
 
-void siv_known_answer() {
+void siv_known_answer()
+{
     const GcmSiv siv(bytes_of("01000000000000000000000000000000"));
     const Nonce three{3};
     Text text = bytes_of("0100000000000000");
@@ -190,7 +200,8 @@ void siv_known_answer() {
     expect(text == bytes_of("0100000000000000"), "RFC 8452, C.1, opened");
 }
 
-void siv_there_and_back() {
+void siv_there_and_back()
+{
     const GcmSiv siv(std::string(32, 'k'));
     bool same = true, refused = true;
     Nonce before{};
@@ -210,7 +221,8 @@ void siv_there_and_back() {
 
 } // namespace
 
-int main() {
+int main()
+{
     siv_known_answer();
     siv_there_and_back();
     expect(throws<std::invalid_argument>(key_length, [] { GcmSiv middle_key(Text(24)); }), "no key of 24 bytes");

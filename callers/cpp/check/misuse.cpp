@@ -6,7 +6,8 @@
 #include <string>
 #include <vector>
 
-void misuse(const fotsgure::Aes &aes, fotsgure::Ctr &ctr, const fotsgure::Gcm &gcm, fotsgure::Counter &counter) {
+void misuse(const fotsgure::Aes &aes, fotsgure::Ctr &ctr, const fotsgure::Gcm &gcm, fotsgure::Counter &counter)
+{
     std::vector<std::uint8_t> bytes(16);
     std::vector<fotsgure::Block> blocks(1);
     std::vector<std::string> strings(4);

@@ -21,7 +21,10 @@ static int process(struct context *c, byte *text, size_t length)
 }
 
 /* Returns all bits 1 if a < b, else 0, without a branch. Both are below 2^63. */
-static size_t less(size_t a, size_t b) { return 0 - ((a - b) >> 63); }
+static size_t less(size_t a, size_t b)
+{
+    return 0 - ((a - b) >> 63);
+}
 
 /* Returns all bits 1 if each of the last n bytes has this value, else 0. It reads the last `most`, whatever n is. */
 static size_t ends_in(const byte *text, size_t count, size_t n, size_t value, size_t most)

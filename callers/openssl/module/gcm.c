@@ -7,7 +7,10 @@
 #define EXPLICIT 8 /* the part of a nonce that such a record carries (RFC 5288, 3), and that is counted */
 #define SALT 4     /* the part that it doesn't */
 
-static int draw(byte *to, size_t count) { return getrandom(to, count, 0) == (ssize_t)count; }
+static int draw(byte *to, size_t count)
+{
+    return getrandom(to, count, 0) == (ssize_t)count;
+}
 
 /* Begins the message when the first of it comes. If no nonce was given it draws one (SP 800-38D, 8.2.2), as OpenSSL
  * does. */

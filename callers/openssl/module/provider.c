@@ -258,6 +258,7 @@ static int is_served(void)
 
 /* It refuses libraries of another version than the headers: their structs may be larger. */
 OSSL_provider_init_fn OSSL_provider_init;
+
 int OSSL_provider_init(const OSSL_CORE_HANDLE *handle, const OSSL_DISPATCH *in, const OSSL_DISPATCH **out,
     void **context)
 {

@@ -86,7 +86,10 @@ struct context {
     struct fotsgure_gcm_message message;
 };
 
-static inline int is_mode(const struct context *c, unsigned mode) { return c->algorithm->mode == mode; }
+static inline int is_mode(const struct context *c, unsigned mode)
+{
+    return c->algorithm->mode == mode;
+}
 
 /* The calls that take text, by mode. `block` is ECB, CBC and CTR. */
 OSSL_FUNC_cipher_update_fn block_update, wrap_update, gcm_update, gcm_siv_update;

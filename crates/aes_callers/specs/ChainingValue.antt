@@ -1,5 +1,5 @@
--- The chaining value of cipher block chaining, counted by blocks: what codes that authenticate
--- messages are made of.
+-- The chaining value of cipher block chaining, counted by blocks: codes that authenticate
+-- messages are made from it.
 use Rattle.std.specs.Prelude.{ℕ, zero, suc, List, [], replicate, slice_index_or}
 use Rattle.aes_planes.specs.Fips197 as fips
 

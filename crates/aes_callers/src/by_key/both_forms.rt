@@ -10,7 +10,7 @@ use aes_hybrid::widths::{Width, Width128};
 use aes_hybrid::{BothWaysKeys, EncryptionKeys};
 
 /// Returns a value of the type for both directions, for a size of keys and a width of words, and a
-/// block encrypted and decrypted. What the types are made of is proved here once for all sizes and
+/// block encrypted and decrypted. What the types consist of is proved here once for all sizes and
 /// both widths.
 pub fn of_both<K: KeySize, W: Width>(
     key: &K::Key,

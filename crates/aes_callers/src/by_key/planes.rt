@@ -8,7 +8,7 @@ use aes::Fixsliced;
 use aes_cipher::aes::{AesCipher, Bits128, Bits192, Bits256, BothWays, KeySize};
 use aes_cipher::cipher::{Block, Decrypt, Encrypt};
 
-// The three types, with the size of the key as a parameter: what they are made of is proved once
+// The three types, with the size of the key as a parameter: what they consist of is proved once
 // for all sizes.
 
 fn of_both<K: KeySize>(

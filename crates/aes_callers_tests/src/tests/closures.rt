@@ -1,4 +1,5 @@
-//! The callers that pass closures to backends, on the types of `aes` and `aes_hybrid`.
+//! Tests of the proved callers in `closures.rt` of `aes_callers`, which pass closures to backends.
+//! They run on the types of `aes` and `aes_hybrid`.
 
 use aes::{Block, FixslicedAes};
 use aes_callers::closures::{Row, encrypt_row, twice_there_and_back};

@@ -73,7 +73,7 @@ fn moved<W: Word>(a: W) -> [W; 3] {
     [a.shift_left(row), a.shift_right(row), a.ror(row)]
 }
 
-// Each word that is made of a constant.
+// Each word that is made from a constant.
 fn constants<W: Word>() -> [W; 6] {
     [
         W::zero(),

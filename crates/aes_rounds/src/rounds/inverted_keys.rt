@@ -1,4 +1,4 @@
-//! The round keys of EqInvCipher, made of those of Cipher (FIPS 197, 5.3.5).
+//! The round keys of EqInvCipher, made from those of Cipher (FIPS 197, 5.3.5).
 
 ghost use Rattle.std.specs.Prelude.{◌≡◌, ◌<◌, [], length, slice_index_or};
 ghost use Rattle.aes_planes.specs.Fips197 as fips;

@@ -11,7 +11,7 @@ use aes::hazmat::{
 use aes_cipher::cipher::{Decrypt, Direction, Encrypt};
 use aes_planes::soft::word::Block;
 
-// A direction, by the single rounds that it is made of.
+// A direction, by the single rounds that it consists of.
 pub(super) trait SingleRounds: Direction {
     // The inverse of the column mixing in a round.
     ghost unmixed: { List ℕ → List ℕ };

@@ -53,7 +53,7 @@ impl<T: CipherTrial> Trial for ByType<'_, T> {
     }
 }
 
-// Whether the ciphers that are made of single rounds pass.
+// Whether the ciphers that consist of single rounds pass.
 fn pass_by_rounds<T: CipherTrial, const RK: usize>(trial: &T, round_keys: &[Block; RK]) -> bool
     requires { (RK ≡ 11) ⊎ (RK ≡ 13) ⊎ (RK ≡ 15) }
 {

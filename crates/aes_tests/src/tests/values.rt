@@ -64,7 +64,7 @@ const ORDERS: [[Kind; 3]; 6] = [
     [Kind::Dec, Kind::Both, Kind::Enc],
 ];
 
-// A value that encrypts, one that its clone became, and one that was made of it. They are dropped
+// A value that encrypts, one that its clone became, and one that was made from it. They are dropped
 // in each order.
 struct Orders;
 

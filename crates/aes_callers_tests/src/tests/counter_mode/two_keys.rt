@@ -1,4 +1,4 @@
-//! A cipher of one round, under any two round keys, made of the single rounds.
+//! A cipher of one round, under any two round keys, made from the single rounds.
 
 ghost use Rattle.std.specs.Prelude.{◌≡◌, ℕ, [], ◌∷◌};
 ghost use Rattle.std.proofs.Common.{arith};

@@ -1,4 +1,5 @@
-//! Work that is done with a backend of any type.
+//! Closures that work with a backend of any type. `calls.rt` passes them to the calls of
+//! `aes_cipher::cipher`; there is no test in this file.
 
 ghost use Rattle.std.specs.Prelude.{◌≡◌};
 ghost use Rattle.aes_planes.specs.Each.{Each};

@@ -1,0 +1,44 @@
+/* What the tests share: they count what holds and what fails, read hex digits, and end with the line `N passed, M failed`. */
+#ifndef CHECK_H
+#define CHECK_H
+
+#include <stdint.h>
+#include <stdio.h>
+
+static int passed, failed;
+
+/* Counts, and returns whether it failed. */
+static inline int fails(int holds)
+{
+    if (holds)
+        passed++;
+    else
+        failed++;
+    return !holds;
+}
+
+/* Prints what failed, with a number: a length, a row or the like. */
+static inline void expect(int holds, const char *what, size_t number)
+{
+    if (fails(holds))
+        printf("failed: %s (%zu)\n", what, number);
+}
+
+/* Returns how many bytes the digits are. */
+static inline size_t from_hex(uint8_t *bytes, const char *digits)
+{
+    unsigned byte;
+    size_t count = 0;
+    for (; sscanf(digits, "%2x", &byte) == 1; digits += 2)
+        bytes[count++] = (uint8_t)byte;
+    return count;
+}
+
+/* Prints the last line, and returns the program's status. */
+static inline int finish(void)
+{
+    printf("%d passed, %d failed\n", passed, failed);
+    return failed != 0;
+}
+
+#endif
