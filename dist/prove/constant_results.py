@@ -90,7 +90,7 @@ class Results(Followings):
         """Runs an instruction, and notes its result."""
         sources, results, shifted, affine = self.judged_operands(instruction)
         if not sources:
-            self.program.noted.settled.add(self.last)
+            self.program.noted.finished_addresses.add(self.last)
             return instruction.run(self, instruction.name, *instruction.operands)
         before = [self.whole_of(o, instruction.name) for o in sources]
         parts = concatenated(self.part_of(o, instruction.name) for o in sources) + [self.number(self.get(o)) for o in shifted]
@@ -99,16 +99,16 @@ class Results(Followings):
             places = [(o, at, min(LANE, size)) for o, at, size in places]
         instruction.run(self, instruction.name, *instruction.operands)
         noted = self.program.noted
-        if self.last not in noted.dropped:
+        if self.last not in noted.changing_results:
             self.note(before, concatenated(self.numbers_at(*place) for place in places) + parts)
         if noted.following.get(self.last, ()) is not None:
             self.follow(concatenated(before) if affine else (), places)
-        if self.last in noted.dropped and noted.following[self.last] is None:
-            noted.settled.add(self.last)
+        if self.last in noted.changing_results and noted.following[self.last] is None:
+            noted.finished_addresses.add(self.last)
 
     def note_written_by_libc(self, arguments, written):
         """Notes the bytes that a function of libc wrote, as results of the instruction that called it."""
-        if self.program.noted.accepts and self.last not in self.program.noted.dropped:
+        if self.program.noted.accepts and self.last not in self.program.noted.changing_results:
             self.note([[v] for v in arguments], [self.number(self.from_bytes(lane)) for lane in lanes(written, LANE)])
 
     def judged_operands(self, instruction):
@@ -131,7 +131,7 @@ class Results(Followings):
         elif numbers:
             numbers = self.as_before((0,) * len(numbers), numbers)
         if all(n is None for n in numbers):
-            noted.dropped[self.last] = old, self.generals
+            noted.changing_results[self.last] = old, self.generals
         else:
             noted.results[self.last] = Result(old.sources if old else sources, tuple(numbers), varied)
 
@@ -147,10 +147,10 @@ class Results(Followings):
     def forget_results(self, general):
         """Forgets that something was noted as changing after a general state with this name, since a guess of that state was wrong."""
         noted = self.program.noted
-        for address, (_, generals) in list(noted.dropped.items()):
+        for address, (_, generals) in list(noted.changing_results.items()):
             if general in generals:
-                del noted.dropped[address]
-                noted.settled.discard(address)
+                del noted.changing_results[address]
+                noted.finished_addresses.discard(address)
         self.forget_following(general)
 
     # What an instruction reads.
@@ -231,12 +231,12 @@ class Results(Followings):
 
 
 def joined_results(tasks):
-    """Gives {address: Result} of the results that were the same in all tasks. A task has its results, and the addresses with several
-    results."""
-    out, several = {}, set().union(*(dropped for _, dropped in tasks))
+    """Gives {address: Result} of the results that were the same in all tasks. A task has its results, and the addresses where
+    they change."""
+    out, all_changing = {}, set().union(*(changing for _, changing in tasks))
     for results, _ in tasks:
         for address, one in results.items():
             old = out.setdefault(address, one)
             numbers = tuple(a if a == b else None for a, b in zip(old.result, one.result))
             out[address] = Result(old.sources, numbers, old.varied or one.varied or old.sources != one.sources)
-    return {address: one for address, one in out.items() if address not in several and any(n is not None for n in one.result)}
+    return {address: one for address, one in out.items() if address not in all_changing and any(n is not None for n in one.result)}

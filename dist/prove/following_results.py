@@ -39,7 +39,7 @@ class Followings:
         new = Following(self.noted_differences(results, self.given_numbers()), self.noted_differences(self.as_numbers(sources), results))
         new = Following(*map(merged_values, old, new)) if old else new
         if self.generals and not (old and [v.by for v in concatenated(new)] == [v.by for v in concatenated(old)]):
-            noted.followed.setdefault((self.last, self.generals), old)
+            noted.earlier_following.setdefault((self.last, self.generals), old)
         noted.following[self.last] = new if any(v.by for v in new.results) else None
 
     def all_at(self, o, at, size):
@@ -77,12 +77,12 @@ class Followings:
     def forget_following(self, general):
         """Restores what was noted before a general state with this name, since a guess of that state was wrong."""
         noted = self.program.noted
-        for (address, generals), old in reversed([*noted.followed.items()]):
+        for (address, generals), old in reversed([*noted.earlier_following.items()]):
             if general in generals:
-                del noted.followed[address, generals]
+                del noted.earlier_following[address, generals]
                 noted.following.pop(address, None)
                 noted.following.update({address: old} if old else {})
-                noted.settled.discard(address)
+                noted.finished_addresses.discard(address)
 
 
 def joined_following(tasks):

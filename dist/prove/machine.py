@@ -246,7 +246,7 @@ class Machine(Arithmetic, Borders, Unknowns, Bytewise, Results, Access):
         self.used[instruction.form] = self.last
         self.next_address, stack_pointer = instruction.next, self.general[self.stack_pointer]
         noted = self.program.noted
-        if self.last in noted.settled or not noted.accepts:
+        if self.last in noted.finished_addresses or not noted.accepts:
             instruction.run(self, instruction.name, *instruction.operands)
         else:
             self.run_noted(instruction)
@@ -276,7 +276,7 @@ class Machine(Arithmetic, Borders, Unknowns, Bytewise, Results, Access):
     def note_way(self, way):
         """Notes where a jump led, which carry was added, or the condition by which a value was chosen."""
         noted = self.program.noted
-        noted.went.add((self.last, way, noted.accepts))
+        noted.ways.add((self.last, way, noted.accepts))
 
     def chosen(self, holds):
         """Notes a condition by which a value was chosen, and gives it unchanged. If it depends on a secret, both values are noted."""

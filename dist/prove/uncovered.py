@@ -141,23 +141,23 @@ def recorded_name(name):
 def of_program(program, covered, by_accepted=False):
     """Gives {a function: Uncovered} of a program whose cases cover this (noted.Covered). Functions that are covered are left out. With
     `by_accepted` the ways of refusals don't count."""
-    ran, same, follows = covered.ran, covered.results, covered.following
+    run_addresses, same, follows = covered.run_addresses, covered.results, covered.following
     ways, sides, out, read = {}, {}, {}, [address for address, _ in covered.looked_up]
-    several = {address for address, times in collections.Counter(read).items() if times > 1}
-    for address, way, accepts in covered.went:
+    many_places = {address for address, times in collections.Counter(read).items() if times > 1}
+    for address, way, accepts in covered.ways:
         if accepts or not by_accepted:
             ways.setdefault(address, set()).add(way)
     for address, below, far in covered.nearest:
         side = sides.setdefault(address, {})
         side[below] = min(far, side.get(below, far))
-    jumps, values = (some & ran for some in conditional(program))
+    jumps, values = (some & run_addresses for some in conditional(program))
     once = {a: next(iter(ways.get(a, ())), "not at all") for a in jumps | values if len(ways.get(a, ())) < 2}
     for name, addresses in program.functions().items():
         apart = {a: sides[a] for a in addresses & sides.keys() - once.keys() if sides[a] != {True: 0, False: 0}}
         of_kind = ({a: once[a] for a in addresses & once.keys() & kind} for kind in (jumps, values))
         numbers = {a: same[a].result for a in addresses & same.keys() if same[a].varied}
         given = {a: follows[a] for a in addresses & follows.keys()}
-        left = Uncovered(addresses - ran, *of_kind, apart, numbers, addresses & several, given)
+        left = Uncovered(addresses - run_addresses, *of_kind, apart, numbers, addresses & many_places, given)
         if any(left):
             out[name] = left
     return out
