@@ -6,7 +6,7 @@ import re
 from collections import namedtuple
 
 from bits import LOST, Undefined, Unproved
-from borders import apart
+from borders import distances
 from linear import Linear
 from machine import Machine
 from operands import (CODE, RETURN_ADDRESS, SECRET, Instruction, Memory, Pointer, Register, Scaled, Table, Vector, concatenated, constant,
@@ -23,14 +23,14 @@ WITH_TARGET = "b", "bl", "cbz", "cbnz", "tbz", "tbnz", "adrp"
 
 class Aarch64(Machine):
     """Describes 64-bit ARM with the AAPCS64. There the stack is aligned to 16 bytes, and nothing below the stack pointer may be used."""
-    tools, objdump, later = "aarch64-linux-gnu-", ("-M", "no-aliases"), None
+    tools, objdump, from_v2_and_v3 = "aarch64-linux-gnu-", ("-M", "no-aliases"), None
     compiler, linker = (tools + "gcc",), (tools + "ld",)
     registers, stack_pointer, stack_step = X + ["sp"], "sp", 16
     vector_count, vector_size = 32, 16
     arguments, result = X[:8], "x0"
-    kept, kept_vectors = X[18:30] + ["sp"], dict.fromkeys(range(8, 16), 8)
+    restored_registers, restored_vectors = X[18:30] + ["sp"], dict.fromkeys(range(8, 16), 8)
     scratch, reserved = X[:18], ("x18",)  # some systems use x18 themselves
-    red_zone, mark, comment = 0, r"hint\s#0x22", "//"
+    red_zone, landing_mark, comment = 0, r"hint\s#0x22", "//"
     jumps = r"b(?:\.\w+)?|cbn?z|tbn?z"
     conditional, padding = r"b\.|cbn?z|tbn?z|adcs?\s|sbcs?\s|csinc\s.*, c[cs]\b", "nop|udf"
     sets_flags = "adds|subs|ands|bics|adcs|sbcs|ccmp|ccmn"
@@ -218,7 +218,7 @@ def add(m, name, to, a, b):
         r, flags = m.lost_bytes(to.size), dict.fromkeys("czso", SECRET)
     if name == "adds":
         m.set_flags(**flags)
-        m.apart = apart(x, y, to.size, plus=True)
+        m.distances = distances(x, y, to.size, plus=True)
     m.put(to, r)
 
 
@@ -228,7 +228,7 @@ def sub(m, name, to, a, b):
     r, flags = (None, m.flags_of_difference(x, y, to.size)) if to.name == "xzr" else m.minus(x, y, to.size)
     if name == "subs":
         m.set_flags(**flags)
-        m.apart = apart(x, y, to.size)
+        m.distances = distances(x, y, to.size)
     m.put(to, r)
 
 
@@ -237,7 +237,7 @@ def ccmp(m, name, a, b, flags, code):
     if m.chosen(m.condition(code)):
         x, y = m.get(a), m.get(b)
         m.set_flags(**m.flags_of_difference(x, y, a.size))
-        m.apart = apart(x, y, a.size)
+        m.distances = distances(x, y, a.size)
     else:
         m.set_flags(s=flags >> 3 & 1, z=flags >> 2 & 1, c=flags >> 1 & 1, o=flags & 1)
 

@@ -38,7 +38,7 @@ class KeyedAes(SingleRounds, CmacCcm, KeyWrap, Keyed):
 
     def call_of_any_count(self, name, state, content, want, count, size, plain, way="", choose=None, facts=(), **more):
         """States a call on data of every length. `content` is the pattern of the data before the call, and `want` the one after it."""
-        facts, key = {unknown("n"), self.most // 2 - size, *facts}, [self.schedule()]
+        facts, key = {unknown("n"), self.highest // 2 - size, *facts}, [self.schedule()]
         if way == "_with":
             key, more["later"] = [Buffer("key", self.key), self.key_size], lambda m: self.go_on(m, {})
         return Call(name + way, [*key, *state, *self.streams_of(way, "blocks", size, count, content, want, choose)], DONE,
@@ -90,7 +90,7 @@ class KeyedAes(SingleRounds, CmacCcm, KeyWrap, Keyed):
         content, want = self.pattern(self.block_bytes, -1), self.pattern(chain)
 
         def steps(m):
-            k = m.done - m.first_block
+            k = m.steps_found - m.first_block
             return self.steps_appear_in, [d.moved(b, k) for b in chained], [d.moved(b, k) for b in want]
         cbc = Buffer("cbc", chain, self.in_last_block(want, count))
         return self.call_of_any_count("aes_cbc_encrypt", [cbc], content, want, count, count * 16, content, steps=steps,
@@ -249,7 +249,7 @@ class KeyedAes(SingleRounds, CmacCcm, KeyWrap, Keyed):
         n, k = unknown("n"), unknown("k")
         key, none, blocks, input_, output = self.schedule(), self.no_key(), nothing("blocks"), nothing("input", False), nothing("output")
         cbc = self.stays("cbc", [self.domain.fresh("previous byte %d" % i, DATA) for i in range(16)])
-        sizes = between(n, 0, self.most) | between(k, 0, self.most)
+        sizes = between(n, 0, self.highest) | between(k, 0, self.highest)
         for direction in ("encrypt", "decrypt"):
             name = "aes_%s_blocks" % direction
             yield Call(name, [none, blocks, n], NO_KEY, facts=sizes)

@@ -45,10 +45,12 @@ class AnyPiece:
         keyed, (groups, left), value = self.keyed, self.groups(m), functools.partial(self.value, m)
         block = lambda k: keyed.at_block(m, self.bytes, k)
         blocks = lambda group: [block(group * self.many + 1 + k) for k in range(self.many)]
-        group, full = m.done - 2, keyed.full_block()
+        group, full = m.steps_found - 2, keyed.full_block()
         if isinstance(group, int) and group < 0:
             so_far, part = keyed.before_piece()
-            return keyed.group_step(so_far, [full], value(0)) if m.done else ("memory", part[:self.filled] + block(0)[self.filled:], full)
+            if m.steps_found:
+                return keyed.group_step(so_far, [full], value(0))
+            return "memory", part[:self.filled] + block(0)[self.filled:], full
         if m.is_below(group, groups):
             return keyed.group_step(value(group), blocks(group), value(group + 1))
         if group == groups and left >= 16:
@@ -141,7 +143,7 @@ class AnyPieces:
 
         def steps(m):
             group, _ = piece.end(m)
-            done = m.done - 2 - group
+            done = m.steps_found - 2 - group
             if m.phase or done not in (0, 1):
                 return ("nothing", (), ()) if m.phase else piece.next_step(m)
             value, left = piece.value(m, group), sum(piece.left_of_block(m, m.known(piece.size) - count, count), [])

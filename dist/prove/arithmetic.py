@@ -71,11 +71,11 @@ class Arithmetic:
         if not isinstance(a, (int, Linear, Pointer, Number)) or not is_number(b):
             raise Unproved("an address is the sum of two addresses")
         if is_number(a):
-            r = wrapped(a + b, self.most)
-            return r & self.most if is_int(r) else r
+            r = wrapped(a + b, self.highest)
+            return r & self.highest if is_int(r) else r
         if isinstance(a, Number):
             return Number(a.base, wrapped(a.offset + b, 0xffffffff))
-        return Pointer(a.base, wrapped(a.offset + b, self.most))
+        return Pointer(a.base, wrapped(a.offset + b, self.highest))
 
     def plus(self, x, y, carry, size):
         """Computes x + y + carry and its flags: (result, {flag: value}). Flags that aren't named are undefined."""
@@ -88,7 +88,7 @@ class Arithmetic:
         if is_number(x, y) and size == self.word:
             x, y = self.ranged(x), self.ranged(y)
             r = self.offset(self.offset(x, carry), y)
-            return r, {"c": (self.most, x + y + carry, "below"), **self.zero_and_sign(r, size)} if self.fits(x) and self.fits(y) else {}
+            return r, {"c": (self.highest, x + y + carry, "below"), **self.zero_and_sign(r, size)} if self.fits(x) and self.fits(y) else {}
         if Number in (type(x), type(y)):  # modulo 2^32: so the lowest bytes of other values are enough
             x, y = (v if (whole := self.whole(v, size)) is None else whole for v in (x, y))
             return self.offset(self.offset(x, carry), y), {}
@@ -198,7 +198,7 @@ class Arithmetic:
         """Subtracts numbers of a word that aren't both known."""
         x, y = self.ranged(x), self.ranged(y)
         flags = {"c": ("not", (x, y + 1 - carry, "below"))} if self.fits(x) and self.fits(y) else {}
-        apart = self.implied(self.most - x + y) and self.implied(self.most + x - y)  # by less than 2^64
+        apart = self.implied(self.highest - x + y) and self.implied(self.highest + x - y)  # by less than 2^64
         return self.offset(x, carry - 1 - y), {**flags, **({"z": (x, y, "equal")} if apart and carry else {})}
 
     @staticmethod
@@ -224,7 +224,7 @@ class Arithmetic:
             flags = {"c": ("not", (x.offset, y.offset, "below")), "z": (x.offset, y.offset, "equal")}
             return self.offset(x.offset, -y.offset), flags if self.is_placed(x, y) else {}
         order = {"c": int(x.offset >= y.offset)} if self.is_placed(x, y) else {}
-        return x.offset - y.offset & self.most, {**order, "z": int(x.offset == y.offset)}
+        return x.offset - y.offset & self.highest, {**order, "z": int(x.offset == y.offset)}
 
     def flags_of_difference(self, x, y, size):
         """Gives the flags of x - y without the result. If values depend on the key or on data, only whether they are equal may be asked,

@@ -8,18 +8,18 @@ from linear import fulfilled, is_number, wrapped
 from operands import contrary, is_int, is_pointer
 
 
-def apart(x, y, size, carry=0, plus=False):
+def distances(x, y, size, carry=0, plus=False):
     """Gives {flag: a number}, for known numbers or for addresses in one buffer. The number is below 0 if the flag says that x is less than
     y, or that the sum is too large for a word."""
-    most = (1 << 8 * size) - 1
+    highest = (1 << 8 * size) - 1
     if is_int(x, y):
-        x, y = x & most, y & most
+        x, y = x & highest, y & highest
     elif is_pointer(x, y) and x.base == y.base and is_int(x.offset, y.offset):
         x, y = x.offset, y.offset
     else:
         return {}
     by = x + y + carry if plus else x - y - carry
-    return {"c": most - by if plus else by, "s": wrapped(by, most)}
+    return {"c": highest - by if plus else by, "s": wrapped(by, highest)}
 
 
 class Borders:
@@ -28,14 +28,14 @@ class Borders:
         flag = self.flags["c"]
         flag = contrary(flag) if isinstance(flag, tuple) and flag[0] == "not" else flag
         below = isinstance(flag, tuple) and is_number(*flag[:2]) and flag[2:] == ("below",)
-        by = flag[0] - flag[1] if below else self.apart.get("c")
+        by = flag[0] - flag[1] if below else self.distances.get("c")
         if by is not None:
             self.note_distance(by - or_equal)
 
     def note_border_of_sign(self, or_equal=False):
         """Notes the difference whose sign decided a comparison. (If it doesn't fit into a word, the numbers are far apart.)"""
-        if "s" in self.apart and self.flags["o"] == 0:
-            self.note_distance(self.apart["s"] - or_equal)
+        if "s" in self.distances and self.flags["o"] == 0:
+            self.note_distance(self.distances["s"] - or_equal)
 
     def note_border_of_numbers(self, x, y):
         """Notes the difference that decided a comparison without flags, if the answer is known."""
@@ -49,9 +49,9 @@ class Borders:
         below = by < 0 if is_int(by) else self.implied(-by - 1)
         far, place = -by - 1 if below else by, (self.last, below)
         known = self.program.noted.nearest
-        nearest = known.get(place, (self.most + 1,))[0]
+        nearest = known.get(place, (self.highest + 1,))[0]
         if not is_int(far):
-            far = self.most if nearest and not fulfilled(self.facts | {far, -far}) else 0
+            far = self.highest if nearest and not fulfilled(self.facts | {far, -far}) else 0
         if far < nearest:
             known[place] = far, self.generals
 

@@ -16,13 +16,13 @@ class Came(namedtuple("Came", "words number rest facts")):
 
 def any_came(keyed, name, most, rest):
     """Makes a number of bytes that came before, `most` at most: 16 n + `rest` for every n."""
-    blocks, high, base = unknown("blocks of " + name), unknown("higher word of " + name), keyed.most + 1
+    blocks, high, base = unknown("blocks of " + name), unknown("higher word of " + name), keyed.highest + 1
     low, sizes = blocks * 16 + rest, keyed.domain.sizes
-    sizes[blocks] = (min(most, keyed.most) // 16).bit_length()
+    sizes[blocks] = (min(most, keyed.highest) // 16).bit_length()
     if most < base:
         return Came([low], low, rest, {blocks, most - low})
     sizes[high] = (most // base).bit_length()
-    return Came([low, high], low + high * base, rest, {blocks, keyed.most - low, high, most - low - high * base})
+    return Came([low, high], low + high * base, rest, {blocks, keyed.highest - low, high, most - low - high * base})
 
 
 def came_in(keyed, phase, additional, text):
@@ -37,8 +37,8 @@ def with_more(keyed, m, n, count):
     if isinstance(n, int):
         return n + count
     low, *high = map(m.known, n.words)
-    carries = bool(high) and not m.implied(keyed.most - low - count)
-    return n._replace(words=[low + count - carries * (keyed.most + 1), *(word + carries for word in high)])
+    carries = bool(high) and not m.implied(keyed.highest - low - count)
+    return n._replace(words=[low + count - carries * (keyed.highest + 1), *(word + carries for word in high)])
 
 
 def bytes_of_counts(keyed, *numbers):

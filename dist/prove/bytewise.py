@@ -85,7 +85,7 @@ class Bytewise:
         if isinstance(x, Verdict) or isinstance(y, Verdict):
             return self.with_verdict(name, *((x, y) if isinstance(x, Verdict) else (y, x)), size)
         if is_pointer(x) and is_int(y) and x.base in self.regions:
-            align, low = self.regions[x.base].align, -y & self.most
+            align, low = self.regions[x.base].align, -y & self.highest
             if name == "or" and y < align and not x.offset & y:
                 return self.offset(x, y)
             if name == "and" and low and not low & low - 1 and align % low == 0:

@@ -105,7 +105,7 @@ def prove_call(domain, program, call, seed=None):
     if call.any_length:
         watches.append(functools.partial(lengths.watch, known))
     if call.paths is not None:
-        watches.append(lambda m: m.path.append(m.last))
+        watches.append(lambda m: m.trace.append(m.last))
     if seed is None:
         return run_to_all_ends(m, call, watches, known)
     m.native = Native(m, seed, call.counter)
@@ -126,7 +126,7 @@ def machine_before(domain, program, call):
     m = program.machine(domain, program, regions, program.exports["fotsgure_" + call.name], arguments)
     m.allowed = Allowed(call.reveals is not None, call.assumes, call.any_length)
     m.counter, m.facts = call.counter, call.facts
-    m.passed = (m.stack.top, tuple(numbers_of(m, call))),
+    m.numbers_by_frame = (m.stack.top, tuple(numbers_of(m, call))),
     for window in (r for r in regions.values() if isinstance(r, Window)):
         window.waits = call.later is not None
     streams = call.streams if call.later is None else []  # (else their bytes are of another domain)
@@ -200,7 +200,7 @@ def check(m, call):
         raise Unproved("returns %s and not %s" % (m.returned(call.size), status))
     if call.paths is not None:  # for each answer to how far buffers are apart
         answers = {q: answer for q, answer in m.answers.items() if q[0] not in ("zero", "bit")}
-        if call.paths.setdefault((status, *sorted(answers.items())), m.path) != m.path:
+        if call.paths.setdefault((status, *sorted(answers.items())), m.trace) != m.trace:
             raise Unproved("runs other instructions than another call that returns %s" % status)
     m.results, m.unsaid = [], []
     for buffer in call.buffers:

@@ -6,10 +6,10 @@ from operands import CODE, WORD, Distance, Negated, Number, Pointer, Verdict
 
 
 class Values:
-    def __init__(self, domain, random, counter=None, most=WORD):
+    def __init__(self, domain, random, counter=None, highest=WORD):
         """Prepares the values. `counter` is for counter mode, where the initial counter block consists of words (see keyed.CounterWord).
         `most` is the highest number in a word of the machine."""
-        self.domain, self.random, self.counter, self.most = domain, random, counter, most
+        self.domain, self.random, self.counter, self.highest = domain, random, counter, highest
         self.cells, self.bytes = {}, {}
         self.base = {CODE: 0}  # by names: the values of regions, and of what has a name alone
         self.groups = {}  # see `group`
@@ -87,21 +87,21 @@ class Values:
         if isinstance(v, Pointer):
             if v.base not in self.base:
                 self.base[v.base] = self.first_value(v.base)
-            return self.base[v.base] + v.offset & self.most
+            return self.base[v.base] + v.offset & self.highest
         if isinstance(v, Distance):
-            return self.base[v.base] - self.base[v.other] + v.offset & self.most
+            return self.base[v.base] - self.base[v.other] + v.offset & self.highest
         if isinstance(v, Negated):
-            return v.offset - self.base[v.base] & self.most
+            return v.offset - self.base[v.base] & self.highest
         b = [None] if isinstance(v, (Number, Verdict, Linear)) else list(map(self.byte, v))
         return None if None in b else int.from_bytes(bytes(b), "little")
 
     def first_value(self, base):
         """Gives a number to a word of unknown value, by the name of the word."""
         if self.counter and base == self.counter.word and self.counter.wrap < 1 << 63:
-            return self.most + 1 - self.counter.wrap
+            return self.highest + 1 - self.counter.wrap
         if base == "nonce low":
             return self.number([x for k in range(8) for x in self.domain.bits_of_word[base](0, k)])
-        return self.random.getrandbits(46) & self.most >> 2 & ~1  # (an address is even)
+        return self.random.getrandbits(46) & self.highest >> 2 & ~1  # (an address is even)
 
     def set_byte(self, b, value):
         """Sets the value of a byte that is a function of one cell: the cell gets a value that makes it so."""

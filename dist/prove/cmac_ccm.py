@@ -106,7 +106,7 @@ class CmacCcm:
         chained, alone = self.cipher_of(self.aes.xor(self.last_sum, self.chain()[0])), self.cipher_of(self.last_sum)
 
         def steps(m):
-            k, count = m.done, m.known(blocks)
+            k, count = m.steps_found, m.known(blocks)
             if m.is_below(k, count):
                 return self.any_link(m, k, ZEROS)
             if k != count:
@@ -230,7 +230,7 @@ class CmacCcm:
         tag = self.aes.xor(last_value, self.counter_stream(nonce, 0))[:tag_length]
 
         def chain(m, phase):
-            k = m.done - (phase == 0)
+            k = m.steps_found - (phase == 0)
             if isinstance(k, int) and k < 0:
                 return "block", self.cipher_of([flags, *nonce, *m.to_bytes(m.known(size), 8)[14 - nonce_length::-1]]), first
             if additional and phase == 0:
@@ -270,7 +270,7 @@ class CmacCcm:
     def cmac_refused(self):
         """NO_KEY; TAG_LENGTH if it has fewer or more"""
         n, k, tag = unknown("n"), unknown("k"), nothing("tag", False)
-        sizes = between(n, 0, self.most) | between(k, 0, self.most)
+        sizes = between(n, 0, self.highest) | between(k, 0, self.highest)
         message = [nothing("message", False), n]
         yield Call("aes_cmac", [self.no_key(), *message, nothing("tag")], NO_KEY, facts=sizes)
         yield Call("aes_cmac_verify", [self.no_key(), *message, tag, k], NO_KEY, facts=sizes)
@@ -280,19 +280,19 @@ class CmacCcm:
     def ccm_refused(self):
         """NO_KEY, TAG_LENGTH, NONCE_LENGTH or TOO_LONG, the first of them that applies"""
         n, a, t, k = (unknown(name) for name in ("nonce", "additional", "text", "tag"))
-        sizes = {f for x in (n, a, t, k) for f in between(x, 0, self.most)}
+        sizes = {f for x in (n, a, t, k) for f in between(x, 0, self.highest)}
         right = sizes | between(k, 0, len(CCM_TAGS) - 1), CCM_TAGS[0] + 2 * k  # every tag's length
         wrong = self.lengths_but(CCM_TAGS, "length")
         if self.program.machine.relaxed:
             # RISC-V's code adds a tag's lowest bit to a comparison: of a number that isn't known this says nothing.
-            others = 17, 18, 2 ** 8 + 8, 2 ** 16 + 8, 2 ** 31 + 8, 2 ** 32 + 8, self.most - 7
-            right, wrong = (sizes, CCM_TAGS[-1]), [*wrong[:-1], *((length, set()) for length in others if length <= self.most)]
+            others = 17, 18, 2 ** 8 + 8, 2 ** 16 + 8, 2 ** 31 + 8, 2 ** 32 + 8, self.highest - 7
+            right, wrong = (sizes, CCM_TAGS[-1]), [*wrong[:-1], *((length, set()) for length in others if length <= self.highest)]
         refusals = [(self.no_key(), n, k, NO_KEY, sizes)]
         refusals += [(self.schedule(), n, length, TAG_LENGTH, sizes | facts) for length, facts in wrong]
         refusals += [(self.schedule(), length, right[1], NONCE_LENGTH, right[0] | facts)
                      for length, facts in self.lengths_but(NONCES, "length")]
-        refusals += [(self.schedule(), length, right[1], TOO_LONG, right[0] | between(t, 1 << 8 * (15 - length), self.most))
-                     for length in NONCES[1:] if self.most >> 8 * (15 - length)]
+        refusals += [(self.schedule(), length, right[1], TOO_LONG, right[0] | between(t, 1 << 8 * (15 - length), self.highest))
+                     for length in NONCES[1:] if self.highest >> 8 * (15 - length)]
         for (aes, nonce, tag, status, facts), call in itertools.product(refusals, ("seal", "open")):
             yield Call("aes_ccm_" + call, [aes, nothing("nonce", False), nonce, nothing("additional", False), a, nothing("text"), t,
                                            nothing("tag", call == "seal"), tag], status, facts=facts)

@@ -56,12 +56,12 @@ class Followings:
         """Keeps the numbers with which a function is called. Forgets those of functions that have returned."""
         at = self.general[self.stack_pointer].offset
         numbers = tuple({v: None for r in self.arguments if is_number(v := self.general[r])})
-        self.passed = (*self.passed[:1], *[one for one in self.passed[1:] if one[0] > at], (at, numbers))
+        self.numbers_by_frame = (*self.numbers_by_frame[:1], *[one for one in self.numbers_by_frame[1:] if one[0] > at], (at, numbers))
 
     def given_numbers(self):
         """Gives the numbers of the call, and those of the function that runs."""
         at = self.general[self.stack_pointer].offset
-        return {*self.passed[0][1], *next((numbers for top, numbers in reversed(self.passed) if top >= at), ())}
+        return {*self.numbers_by_frame[0][1], *next((numbers for top, numbers in reversed(self.numbers_by_frame) if top >= at), ())}
 
     def as_numbers(self, values):
         """Gives the numbers in values and in their words: offsets instead of addresses, and None for other words."""
@@ -72,7 +72,7 @@ class Followings:
     def noted_differences(self, values, numbers):
         """Gives what is to be noted of values: by how much they differ from these numbers."""
         return [Follows(v if is_int(v) else None, isinstance(v, Linear), frozenset(
-            wrapped(by, self.most) for n in numbers if None not in (v, n) and is_int(by := v - n))) for v in values]
+            wrapped(by, self.highest) for n in numbers if None not in (v, n) and is_int(by := v - n))) for v in values]
 
     def forget_following(self, general):
         """Restores what was noted before a general state with this name, since a guess of that state was wrong."""

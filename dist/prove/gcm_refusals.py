@@ -14,7 +14,7 @@ class Refusals:
     """Makes the refusals of a KeyedGcm, with its key and without."""
 
     def __init__(self, keyed):
-        self.keyed, self.most = keyed, keyed.most
+        self.keyed, self.highest = keyed, keyed.highest
         self.key, self.no_key = keyed.schedule(), keyed.no_key()
 
     def calls(self):
@@ -31,14 +31,14 @@ class Refusals:
     # Facts of arguments. A refusal is (gcm, the status, facts).
     def fits(self, length, most):
         """Gives the facts that say that the standard allows a length."""
-        return between(length, 0, min(most, self.most))
+        return between(length, 0, min(most, self.highest))
 
     def passes(self, length, most):
         """Gives the ways in which a length is too long, as facts. (With 32 bits there are none.)"""
-        return [between(length, most + 1, self.most)] if self.most > most else []
+        return [between(length, most + 1, self.highest)] if self.highest > most else []
 
     def any_sizes(self):
-        return between(unknown("additional"), 0, self.most) | between(unknown("text"), 0, self.most)
+        return between(unknown("additional"), 0, self.highest) | between(unknown("text"), 0, self.highest)
 
     def with_any_key(self, status, ways):
         """Gives the refusals for these ways, with a key and without."""
@@ -73,7 +73,7 @@ class Refusals:
 
     def of_tag_lengths(self):
         """TAG_LENGTH comes before these."""
-        any_nonce = between(unknown("nonce"), 0, self.most)
+        any_nonce = between(unknown("nonce"), 0, self.highest)
         for (gcm, status, facts), (length, also), way in itertools.product(
                 self.with_any_key(TAG_LENGTH, [any_nonce]), self.keyed.lengths_but((16,), "tag"), ("", "_to")):
             arguments = [*self.whole_arguments(gcm, way), nothing("tag", False), length]
@@ -82,7 +82,7 @@ class Refusals:
     def of_unequal_lengths(self):
         """UNEQUAL_LENGTHS comes before all others."""
         a, t, k, n, tag = (unknown(name) for name in ("additional", "text", "output", "nonce", "tag"))
-        sizes = {f for x in (a, t, k, n, tag) for f in between(x, 0, self.most)}
+        sizes = {f for x in (a, t, k, n, tag) for f in between(x, 0, self.highest)}
         for gcm, facts in itertools.product((self.key, self.no_key), unequal(t, k)):
             arguments = [gcm, nothing("nonce", False), n, nothing("additional", False), a, *unread("_to", t, k)]
             yield Call("gcm_seal_to", [*arguments, nothing("tag")], UNEQUAL_LENGTHS, facts=sizes | facts)
@@ -125,7 +125,7 @@ class Refusals:
         last = {"finish": [nothing("tag")], "accept": [Buffer("tag", self.keyed.in_block(self.keyed.tag, 0)), 16],
                 "accept_short": [12, nothing("tag", False), 12]}
         for call, phases in TURNS.items():
-            arguments, sizes = last.get(call, [nothing("text"), n]), set() if call in last else between(n, 0, self.most)
+            arguments, sizes = last.get(call, [nothing("text"), n]), set() if call in last else between(n, 0, self.highest)
             refusals = self.turn_refusals(phases)
             refusals += [(self.key, p, TOO_LONG, facts) for p in phases if call not in last for facts in self.too_long(call, n)]
             for gcm, phase, status, facts in refusals:
@@ -157,7 +157,7 @@ class Refusals:
                 yield Call("gcm_accept_short", arguments, TAG_LENGTH, facts=message_facts | facts)
             for fixed, facts in itertools.product(SHORT_TAGS, unequal(n, 0)):
                 yield Call("gcm_accept_short", [gcm, message, fixed, nothing("tag", False), n + fixed], TAG_LENGTH,
-                           facts=message_facts | between(n + fixed, 0, self.most) | facts)
+                           facts=message_facts | between(n + fixed, 0, self.highest) | facts)
 
     def of_short_tags(self):
         """NO_KEY and OUT_OF_TURN with tags of other lengths than 12."""

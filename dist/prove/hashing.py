@@ -83,7 +83,7 @@ class KeyedHash(Keyed):
     def any_group(self, m, before, bytes_, size, many, end, after):
         """Gives the next step of GHASH of `size` bytes. It reads `many` blocks at once as long as it can, then the rest and the blocks
         `end`. A value becomes the block with which the next group begins. The last value becomes `after`."""
-        group, size = m.done, m.known(size)
+        group, size = m.steps_found, m.known(size)
         whole, rest = divmod(size, 16 * many) if isinstance(size, int) else size.divided(16 * many)
 
         def value_of(group):

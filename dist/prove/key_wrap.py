@@ -72,7 +72,7 @@ class KeyWrap:
         way = "encrypt" if wraps else "decrypt"
 
         def steps(m):
-            i, n, turn = m.done, m.known(count), m.phase - start
+            i, n, turn = m.steps_found, m.known(count), m.phase - start
             final = 0 if n == 1 else 5
             number = lambda t: m.to_bytes(t if wraps else 6 * n - t, 8)[::-1]
             if turn < 0:
@@ -197,8 +197,8 @@ class KeyWrap:
                     ("aes_unwrap", [aes, nothing("input", False), k, nothing("output"), n]))
         for name, arguments in calls(none, n, k):
             yield Call(name, arguments, NO_KEY, facts=sizes)
-        counts = [(n, k, {n - k}), (n, k, {k - n - 2}), (0, 1, set()), (1, 2, set()), (n, n + 1, between(n, 1 << 54, self.most - 1))]
-        for n, k, facts in counts if self.most >> 54 else counts[:-1]:
+        counts = [(n, k, {n - k}), (n, k, {k - n - 2}), (0, 1, set()), (1, 2, set()), (n, n + 1, between(n, 1 << 54, self.highest - 1))]
+        for n, k, facts in counts if self.highest >> 54 else counts[:-1]:
             for name, arguments in calls(key, n, k):
                 yield Call(name, arguments, INVALID_COUNT, facts=(sizes if facts else set()) | facts)
 
@@ -211,8 +211,8 @@ class KeyWrap:
 
         yield Call(*wrap(none, n), NO_KEY, facts=sizes)
         yield Call(*wrap(key, 0), INVALID_COUNT, facts=sizes)
-        if self.most >> 32:
-            yield Call(*wrap(key, n), INVALID_COUNT, facts=sizes | between(n, 1 << 32, self.most))
+        if self.highest >> 32:
+            yield Call(*wrap(key, n), INVALID_COUNT, facts=sizes | between(n, 1 << 32, self.highest))
         for rest in range(1, 9):  # bytes in the last of n + 1 semiblocks
             for facts in unequal(k, n + 2):
                 yield Call(*wrap(key, n * 8 + rest), INVALID_COUNT, facts=sizes | between(n, 0, (1 << 29) - 1) | facts)
@@ -222,5 +222,5 @@ class KeyWrap:
             return "aes_unwrap_padded", [aes, nothing("input", False), n, nothing("output"), k, key_length]
 
         yield Call(*unwrap(none, n, k), NO_KEY, facts=sizes)
-        for n, k, facts in ((n, k, {k - n}), (n, k, {n - k - 2}), (1, 0, set()), (k + 1, k, between(k, (1 << 29) + 1, self.most - 1))):
+        for n, k, facts in ((n, k, {k - n}), (n, k, {n - k - 2}), (1, 0, set()), (k + 1, k, between(k, (1 << 29) + 1, self.highest - 1))):
             yield Call(*unwrap(key, n, k), INVALID_COUNT, facts=(sizes if facts else set()) | facts)

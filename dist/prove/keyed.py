@@ -37,7 +37,7 @@ class Keyed:
     library, prefix, schedules, key_sizes = "aes", "aes", 2, (16, 24, 32)
 
     def __init__(self, program, key_size):
-        self.program, self.key_size, self.most, self.address = program, key_size, program.machine.most, program.machine.word
+        self.program, self.key_size, self.highest, self.address = program, key_size, program.machine.highest, program.machine.word
         narrow = program.narrow
         self.room, self.word = (120 * narrow, 2 * narrow) if narrow else SCHEDULE
         self.length_size = narrow or 4
@@ -222,10 +222,10 @@ class Keyed:
 
     def number_of_words(self, name):
         """Gives an unknown number of 64 bits, in one word or in two, and the facts of it."""
-        if self.most == WORD:
+        if self.highest == WORD:
             return unknown(name), between(unknown(name), 0, WORD)
         low, high = unknown(name + ", low"), unknown(name + ", high")
-        return low + high * (self.most + 1), between(low, 0, self.most) | between(high, 0, self.most)
+        return low + high * (self.highest + 1), between(low, 0, self.highest) | between(high, 0, self.highest)
 
     def unknown_number(self, number):
         """Gives the bytes of a number of 64 bits that isn't known."""
@@ -233,7 +233,7 @@ class Keyed:
 
     def parts(self, number):
         """Gives the words of such a number, as numbers."""
-        return [number] if self.most == WORD else [unknown(name) for name in sorted({name for name, _ in number.terms}, reverse=True)]
+        return [number] if self.highest == WORD else [unknown(name) for name in sorted({name for name, _ in number.terms}, reverse=True)]
 
     def words(self, numbers):
         """Gives the bytes of numbers that have a word each."""
@@ -241,7 +241,7 @@ class Keyed:
             self.domain.opaque((n, k)) for k in range(self.address)])]
 
     def lengths_but(self, right, name):
-        return lengths_but(right, name, self.most)
+        return lengths_but(right, name, self.highest)
 
 
 def nothing(name, writable=True):

@@ -166,24 +166,24 @@ def blocks_in_a_pass(first, second):
     places = [(v.offset, second.general[r].offset, first.regions[v.base].unit) for r, v in first.general.items()
               if is_pointer(v, second.general[r]) and v.base == second.general[r].base and isinstance(first.regions.get(v.base), Window)]
     for some in ends, places:
-        moved = [(wrapped(b - a, first.most), unit) for a, b, unit in some]
+        moved = [(wrapped(b - a, first.highest), unit) for a, b, unit in some]
         steps = [by // unit for by, unit in moved if is_int(by) and by > 0 and by % unit == 0]
         if steps:
             return max(steps)
-    by = second.done - first.done
+    by = second.steps_found - first.steps_found
     return by if is_int(by) else 0
 
 
-def generalized(a, b, passes, most):
+def generalized(a, b, passes, highest):
     """Gives the value after any number of passes that is a after the first and b after the second. It is None if there is no such value. A
-    number that moves farther than FARTHEST is none that counts. `most` is the highest word."""
+    number that moves farther than FARTHEST is none that counts. `highest` is the highest word."""
     if a == b:
         return a
     if is_number(a, b):
-        by = wrapped(b - a, most)
-        return wrapped(a + passes * by, most) if is_int(by) and abs(by) <= FARTHEST else None
+        by = wrapped(b - a, highest)
+        return wrapped(a + passes * by, highest) if is_int(by) and abs(by) <= FARTHEST else None
     if type(a) is type(b) and isinstance(a, (Pointer, Number)) and a.base == b.base:
-        offset = generalized(a.offset, b.offset, passes, most)
+        offset = generalized(a.offset, b.offset, passes, highest)
         return None if offset is None else a._replace(offset=offset)
     return None
 
@@ -195,7 +195,7 @@ def general_bytes(m, a, b, passes, numbers=()):
     for x, y in zip(lanes(a, m.word), lanes(b, m.word)):
         v = None
         if x != y and len(x) == m.word:
-            v = generalized(m.from_bytes(x), m.from_bytes(y), passes, m.most)
+            v = generalized(m.from_bytes(x), m.from_bytes(y), passes, m.highest)
             v = with_number(m, x, y, passes, numbers) if v is None else v
         if x == y:
             out += x
@@ -215,7 +215,7 @@ def with_number(m, x, y, passes, numbers):
     for a, b in numbers if all(map(m.domain.symbolic, x + y)) else ():
         rest = added(x, a)
         if rest == added(y, b) and not any(map(m.domain.unknown_cells, rest)):
-            return tuple(added(rest, generalized(a, b, passes, m.most)))
+            return tuple(added(rest, generalized(a, b, passes, m.highest)))
     return None
 
 
@@ -239,7 +239,7 @@ def general_state(known, key, visit, now, wrong=frozenset()):
     g.origins = {(c, b): on for (c, block), on in (*second.origins.items(), *first.origins.items())  # also of blocks of earlier passes
                  for b in (range(block, 0, -blocks) if block and blocks else [block])}
     g.forget_differences()
-    g.done = generalized(first.done, second.done, passes, g.most)
+    g.steps_found = generalized(first.steps_found, second.steps_found, passes, g.highest)
     general_registers(g, first, second, passes, wrong)
     general_regions(g, first, second, passes)
     g.stack.stale, g.stack.lowest = first.stack.stale | second.stack.stale, min(first.stack.lowest, second.stack.lowest)
@@ -260,7 +260,7 @@ def general_state(known, key, visit, now, wrong=frozenset()):
 def general_registers(g, first, second, passes, wrong):
     """Sets the registers of a general state. Nothing is known of those in `wrong`."""
     for r, v in first.general.items():
-        general = None if r in wrong else generalized(v, second.general[r], passes, g.most)
+        general = None if r in wrong else generalized(v, second.general[r], passes, g.highest)
         g.general[r] = tuple(g.any_byte() for _ in range(g.word)) if general is None else general
     g.vectors = [general_bytes(g, v, w, passes) for v, w in zip(first.vectors, second.vectors)]
 
@@ -281,7 +281,7 @@ def general_regions(g, first, second, passes):
         begin = min(first.accessed_from(name), second.accessed_from(name))
         region.content[begin:] = general_bytes(g, region.content[begin:], other.content[begin:], passes, changed)
         if isinstance(region, Window):
-            region.origin = generalized(region.origin, other.origin, passes, g.most)
+            region.origin = generalized(region.origin, other.origin, passes, g.highest)
             if region.origin is None:
                 raise Unproved("two passes of a loop don't come as far in %s" % name)
 
@@ -319,7 +319,7 @@ def differences(m, general, passes):
     wrong = [r for r, v in want.general.items() if not same(want.to_bytes(v, m.word), m.to_bytes(m.general[r], m.word))]
     wrong += ["vector register %d" % n for n, (v, w) in enumerate(zip(want.vectors, m.vectors)) if not same(v, w)]
     wrong += [name for name, r in want.regions.items() if differs(name, r, m.regions[name])]
-    equal = "first_block", "domain", "entered", "done", "phase", "next_address", "counter"
+    equal = "first_block", "domain", "registers_at_entry", "steps_found", "phase", "next_address", "counter"
     wrong += [what for what in equal if getattr(want, what) != getattr(m, what)]
     agrees = {
         "a fact": all(m.implied(f) for f in want.facts),

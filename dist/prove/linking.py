@@ -53,7 +53,7 @@ def library_of(build):
 
 def suffix_of(build):
     """Gives the ending of a build's names in a static library. A library for x86-64 holds several builds."""
-    return "" if BUILDS[build].later is None else build[-3:] if build[-3:] in ("_v1", "_v3") else "_v2"
+    return "" if BUILDS[build].from_v2_and_v3 is None else build[-3:] if build[-3:] in ("_v1", "_v3") else "_v2"
 
 
 def narrow_word(build):
@@ -106,7 +106,7 @@ class Built:
     def shared(self, library):
         """Gives the shared libraries, and the objects that each should have: [(path, {name of an export: its name there}, objects)]."""
         whole, wide = (glob.glob("%s/%slibfotsgure_%s.so.*" % (self.out, folder, library)) for folder in ("", "glibc-hwcaps/x86-64-v3/"))
-        if not self.machine.later:
+        if not self.machine.from_v2_and_v3:
             one = self.object_of("%s/%s" % (self.folder, library))
             return [(path, exports_of(one, ""), [one]) for path in whole]
         members = self.archive(library)
@@ -311,16 +311,16 @@ def refuse_instructions(program, suffix):
     """Refuses an instruction that isn't covered, or that not all processors of the build have. Refuses an export without the mark that some
     processors expect where an indirect call arrives, and a function that no export leads to."""
     functions = program.functions()
-    without = [name for name, address in program.exports.items() if not re.match(program.machine.mark, program.lines[address])]
+    without = [name for name, address in program.exports.items() if not re.match(program.machine.landing_mark, program.lines[address])]
     if without:
         raise Unproved("has no mark at the beginning of " + ", ".join(without))
     machine, elf = program.machine, Elf(program.path)
-    later = [] if not suffix else machine.later[int(suffix[2]) - 1:]
+    later = [] if not suffix else machine.from_v2_and_v3[int(suffix[2]) - 1:]
     for address in (address for addresses in functions.values() for address in addresses):
         name, line = program.decoded(address).name, program.lines[address]
         if any(re.fullmatch(pattern, name) for pattern in later) or elf.bytes_at(address, 1) == machine.avx512:
             raise Unproved("has an instruction that not all of its processors have: " + line)
-        if re.match(machine.to_mark, line):
+        if re.match(machine.jumps_to_mark, line):
             raise Unproved("has an indirect jump or call that arrives where a mark has to be: " + line)
     refuse_unreached(program, functions)
 
@@ -344,7 +344,7 @@ def refuse_unreached(program, functions):
 
 def choice_cases(built, dist, out):
     """Checks the exports of a static library that holds three builds. Each jumps to the function of the build for the processor."""
-    for library in filter(built.has, ("aes", "gcm")) if built.machine.later else ():
+    for library in filter(built.has, ("aes", "gcm")) if built.machine.from_v2_and_v3 else ():
         objects = [path for name, path in built.archive(library).items() if name != "seal_random.o"]
         program, wrong = link("%s/choose_%s_%s" % (out, built.folder, library), built.machine, objects), []
         declared = parameters("%s/include/fotsgure_%s.h" % (dist, library))
@@ -374,5 +374,5 @@ def leads_to(program, name, count, found, suffix):
     while m.next_address not in [program.symbols[name + build] for build in ("_v1", "_v2", "_v3")]:
         m.step()
     program.constants.pop()
-    same = all(m.general[r] == before[r] for r in (*m.kept, *m.arguments[:count]))
+    same = all(m.general[r] == before[r] for r in (*m.restored_registers, *m.arguments[:count]))
     return m.next_address == program.symbols[name + suffix] and same and m.regions["stack"].content[top:] == stack

@@ -13,19 +13,19 @@ beginning of a line of objdump.
     relaxed                whether the linker makes code shorter, so that a library isn't compared with an object
     strict                 whether an access has to be aligned, so that a struct is
     objdump                the options with which it prints what `decode` reads
-    later                  patterns of instructions that only builds from _v2 on may have, and from _v3 on; None if there is one build
-    word, most             bytes of a register and of an address, and the highest number in one; by default those of 64 bits
+    from_v2_and_v3         patterns of instructions that only builds from _v2 on may have, and from _v3 on; None if there is one build
+    word, highest          bytes of a register and of an address, and the highest number in one; by default those of 64 bits
     registers, stack_pointer, vector_count, vector_size     registers of a word by their names, vector registers by their numbers
     arguments, result      the registers of the ABI
     pushed                 what a call pushes; above it are the arguments that are on the stack, a word each
-    kept                   the registers that a function restores
-    kept_vectors           how many bytes it restores of vector registers, by their numbers
+    restored_registers     the registers that a function restores
+    restored_vectors       how many bytes it restores of vector registers, by their numbers
     shadow                 how many bytes the called function may use between what a call pushes and the arguments on the stack
     scratch                the registers that libc's functions may change
     also_called            a function of the compiler's library that only touches the stack
     red_zone               bytes below the stack pointer that a function may use
     stack_step             a number that has to divide the stack pointer if it is the base of an access
-    mark                   a pattern of instructions where an indirect call may arrive, if a processor looks for that
+    landing_mark           a pattern of instructions where an indirect call may arrive, if a processor looks for that
     jumps, returns         patterns of jumps to an address that are no calls, and of returns from a function
     conditional            a pattern of conditional jumps and of adds with carry
     padding                a pattern of instructions that only fill up space
@@ -66,9 +66,9 @@ class Allowed:
 
 
 class Machine(Arithmetic, Borders, Unknowns, Bytewise, Results, Access):
-    pushed, kept_vectors, shadow, stack_step, also_called, mark, to_mark, returns = (), {}, 0, 1, (), "", "(?!)", "ret"
+    pushed, restored_vectors, shadow, stack_step, also_called, landing_mark, jumps_to_mark, returns = (), {}, 0, 1, (), "", "(?!)", "ret"
     reserved = ()  # registers that may not change, as a signal's handler or the system may use them at any time
-    word, most, flag_names = 8, WORD, "czso"
+    word, highest, flag_names = 8, WORD, "czso"
     start, strict, relaxed, comment, avx512 = 0x123456700000, False, False, "#", b""
 
     def __init__(self, domain, program, regions, entry, arguments):
@@ -77,7 +77,7 @@ class Machine(Arithmetic, Borders, Unknowns, Bytewise, Results, Access):
         self.general = {r: Pointer("the caller's " + r, 0) for r in self.registers}
         self.vectors = [[domain.undefined] * self.vector_size for _ in range(self.vector_count)]
         self.flags = dict.fromkeys(self.flag_names)
-        self.apart = {}  # by flags: how far apart the numbers are that were compared (borders.py)
+        self.distances = {}  # by flags: how far apart the numbers are that were compared (borders.py)
         # The addresses of the next instruction and of the last one, how many ran, and {form of an instruction: where one ran}.
         self.next_address, self.last, self.steps, self.used = entry, entry, 0, {}
         self.externals = {program.symbols[n]: n for n in (*LIBC, *self.also_called) if n in program.symbols}
@@ -87,7 +87,7 @@ class Machine(Arithmetic, Borders, Unknowns, Bytewise, Results, Access):
         self.answers = {}  # to questions, {flag: 0 or 1}
         self.secret = SecretBytes()
         # How many steps of a call were found, in which phase of it, and what the next one looks for (steps.py).
-        self.done, self.phase, self.want = 0, 0, None
+        self.steps_found, self.phase, self.next_step = 0, 0, None
         self.origins = {}  # what a result depended on, by the (cell, block) that replaced it
         self.last_written = (), 0  # a list of bytes, and where in it
         self.ever_written = {}  # the bytes that were written to each of the caller's buffers, even if they were overwritten later
@@ -97,13 +97,13 @@ class Machine(Arithmetic, Borders, Unknowns, Bytewise, Results, Access):
         self.replaced = []  # (an unknown, the number that replaced it)
         self.first_block = 0  # the block of each buffer from which on blocks are numbered
         self.generals = ()  # the names of the general states from which the run came
-        self.forgets = 0  # how often blocks were forgotten
-        self.path = []  # where instructions ran, for calls that share it
+        self.times_forgotten = 0  # how often blocks were forgotten
+        self.trace = []  # where instructions ran, for calls that share it
         # (the stack pointer in a function, the numbers that it was given), for the call and for the last functions
-        self.passed = ((0, ()),)
+        self.numbers_by_frame = ((0, ()),)
         self.enter(arguments)
         self.stack = StackUse(self.general[self.stack_pointer].offset)
-        self.entered = dict(self.general)
+        self.registers_at_entry = dict(self.general)
 
     def enter(self, arguments):
         """Sets the registers and the stack at the first instruction of a call."""
@@ -113,12 +113,12 @@ class Machine(Arithmetic, Borders, Unknowns, Bytewise, Results, Access):
         stack += [b for v in self.pushed for b in self.to_bytes(v, self.word)] + [self.domain.undefined] * self.shadow
         stack += [b for v in arguments[len(self.arguments):] for b in self.to_bytes(v, self.word)]
         self.general[self.stack_pointer] = Pointer("stack", at)
-        for n, size in self.kept_vectors.items():
+        for n, size in self.restored_vectors.items():
             self.vectors[n][:size] = self.callers(n)
 
     def callers(self, n):
         """Gives the bytes that a vector register has at the call."""
-        words = [Pointer("the caller's vector %d" % n, k) for k in range(0, self.kept_vectors[n], 8)]
+        words = [Pointer("the caller's vector %d" % n, k) for k in range(0, self.restored_vectors[n], 8)]
         return concatenated(self.to_bytes(word, 8) for word in words)
 
     # Flags.
@@ -126,7 +126,7 @@ class Machine(Arithmetic, Borders, Unknowns, Bytewise, Results, Access):
         """Sets flags. Those that aren't named become undefined. If one depends on a secret, they may too."""
         all_named = len(flags) == len(self.flag_names)
         secret = not all_named and any(map(self.is_secret, (*self.flags.values(), *flags.values())))
-        self.flags, self.apart = dict.fromkeys(self.flag_names, SECRET if secret else None), {}
+        self.flags, self.distances = dict.fromkeys(self.flag_names, SECRET if secret else None), {}
         self.flags.update(flags)
 
     def decide(self, flag):
@@ -193,8 +193,8 @@ class Machine(Arithmetic, Borders, Unknowns, Bytewise, Results, Access):
         m = copy.copy(self)
         m.regions = {name: r.copy() for name, r in self.regions.items()}
         m.general, m.vectors, m.flags, m.last_written = dict(self.general), list(self.vectors), dict(self.flags), ((), 0)
-        m.entered, m.stack, m.secret = dict(self.entered), self.stack.copied(), self.secret.copied()
-        m.path, m.want = list(self.path), None
+        m.registers_at_entry, m.stack, m.secret = dict(self.registers_at_entry), self.stack.copied(), self.secret.copied()
+        m.trace, m.next_step = list(self.trace), None
         m.answers, m.origins, m.decided, m.loops = dict(self.answers), dict(self.origins), list(self.decided), dict(self.loops)
         m.ever_written = {name: set(b) for name, b in self.ever_written.items()}
         return m
@@ -231,11 +231,11 @@ class Machine(Arithmetic, Borders, Unknowns, Bytewise, Results, Access):
             raise
         except Unproved as e:
             raise Unproved("%s [at %x: %s]" % (e, self.last, self.program.lines.get(self.last))) from None
-        self.entered[self.stack_pointer] = self.offset(self.entered[self.stack_pointer], self.word * len(self.pushed))
-        for r in self.kept:
-            if self.general[r] != self.entered[r]:
+        self.registers_at_entry[self.stack_pointer] = self.offset(self.registers_at_entry[self.stack_pointer], self.word * len(self.pushed))
+        for r in self.restored_registers:
+            if self.general[r] != self.registers_at_entry[r]:
                 raise Unproved("%s isn't restored" % r)
-        for n, size in self.kept_vectors.items():
+        for n, size in self.restored_vectors.items():
             if self.vectors[n][:size] != self.callers(n):
                 raise Unproved("vector register %d isn't restored" % n)
 
@@ -313,7 +313,7 @@ class Machine(Arithmetic, Borders, Unknowns, Bytewise, Results, Access):
             self.general[r] = tuple(self.after_libc(name, self.to_bytes(self.general[r], self.word)))
         self.general[self.result] = to
         for n, v in enumerate(self.vectors):  # (libc empties the higher halves, as code without AVX can't do that)
-            kept = self.kept_vectors.get(n, 0)
+            kept = self.restored_vectors.get(n, 0)
             self.vectors[n] = v[:kept] + self.after_libc(name, v[kept:16]) + [self.domain.undefined] * (len(v) - 16)
         self.set_flags()
         self.leave()

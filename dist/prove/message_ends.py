@@ -35,7 +35,8 @@ class MessageEnds:
         def steps(m):
             lengths = length_in_bits(self, m, a) + length_in_bits(self, m, t)
             blocks = [part[:filled] + ZEROS[filled:]] * bool(filled) + [lengths]
-            return self.group_step(values[m.done], [blocks[m.done]], values[m.done + 1]) if m.done < len(blocks) else ("nothing", (), ())
+            k = m.steps_found
+            return self.group_step(values[k], [blocks[k]], values[k + 1]) if k < len(blocks) else ("nothing", (), ())
         tag = self.aes.xor(self.last_value(), any_pre_counter(self).cipher)
         before, after = (self.any_before((a, t, 0, p)) for p in (phase, DECRYPTING))
         return before, after, tag, dict(facts=a.facts | (t.facts if t else set()), steps=steps, any_length=True)

@@ -20,7 +20,7 @@ class Native:
         """A call has its own processor, and its own values, drawn by a seed. Instructions that run by themselves share both."""
         self.m = machine
         machine.ask = self.ask  # instead of raising a Question
-        self.values = values or Values(machine.domain, random.Random(seed), counter, machine.most)
+        self.values = values or Values(machine.domain, random.Random(seed), counter, machine.highest)
         self.processor = processor or PROCESSORS[type(machine)](machine.program.path)
         self.seen = [None] * len(machine.vectors)  # the vector registers as they were when they were last compared
         self.place_regions()
@@ -126,7 +126,7 @@ class Alone:
         symbols = [self.domain.byte_of_cell(cell, 0, t) for t in tables]
         self.constants = [b"".join(self.number(size) for _ in range(0, 8, size)) for size in (1, 8) for _ in range(256)]
         self.symbolic = [self.random.choices(symbols, k=8) for _ in range(512)]
-        self.values = Values(self.domain, self.random, most=program.machine.most)
+        self.values = Values(self.domain, self.random, highest=program.machine.highest)
         self.processor = PROCESSORS[program.machine](program.path)
 
     def number(self, size):

@@ -135,7 +135,7 @@ def any_nonce(keyed, rest, first=None):
     first, block = first or pre_counter_of(keyed), any_pre_counter(keyed).block
     if rest is None:
         place = "place", first.bytes + number(1, 4), block
-        return AnyNonce(first.arguments, 1, lambda m: ("again", (), ()) if m.done else place, set())
+        return AnyNonce(first.arguments, 1, lambda m: ("again", (), ()) if m.steps_found else place, set())
     length, hashed = unknown("k") * 48 + rest, keyed.made_once("hashed nonce", lambda: [
         keyed.domain.fresh("hashed nonce byte %d" % i, KEY | PUBLIC) for i in range(16)])
 
@@ -143,7 +143,7 @@ def any_nonce(keyed, rest, first=None):
         if m.phase == 0:
             return keyed.any_group(m, ZEROS, keyed.long_nonce, length, keyed.blocks_at_once(m, ()), [], hashed)
         lengths = [0] * 8 + m.to_bytes(m.known(length) * 8, 8)[::-1]
-        step = keyed.group_step(hashed, [lengths], block) if m.done == 0 else ("again", (), ())
+        step = keyed.group_step(hashed, [lengths], block) if m.steps_found == 0 else ("again", (), ())
         return step if m.phase == 1 else ("nothing", (), ())
     facts = {unknown("k"), length - (13 if rest == 12 else 1), MOST_NONCE - length, PTRDIFF_MAX - length}
     return AnyNonce([Stream("nonce", length, keyed.pattern(keyed.long_nonce)), length], 2, steps, facts)

@@ -118,7 +118,7 @@ class Emulator(Beside):
     qemu, processor = "qemu-aarch64", "cortex-a57"
     names, first_vector = Aarch64.registers + ["next", "flags"], 34  # first_vector: the protocol's number of the first vector register
     layout, flags = "<33QI", {"s": 31, "z": 30, "c": 29, "o": 28}
-    most = 1024  # bytes of memory in a packet
+    packet_size = 1024  # bytes of memory
 
     @classmethod
     def missing(cls):
@@ -153,12 +153,12 @@ class Emulator(Beside):
             raise Unproved("the emulator answers %s to %s" % (received, text[:20]))
 
     def write(self, address, content):
-        for k in range(0, len(content), self.most):
-            part = content[k:k + self.most]
+        for k in range(0, len(content), self.packet_size):
+            part = content[k:k + self.packet_size]
             self.tell("M%x,%x:%s" % (address + k, len(part), part.hex()))
 
     def read(self, address, size):
-        parts = [self.ask("m%x,%x" % (address + k, min(self.most, size - k))) for k in range(0, size, self.most)]
+        parts = [self.ask("m%x,%x" % (address + k, min(self.packet_size, size - k))) for k in range(0, size, self.packet_size)]
         return bytes.fromhex("".join(parts))
 
     def raw(self):

@@ -24,11 +24,11 @@ LONG = {"mv": "add\t{0},zero,{1}", "li": "addi\t{0},zero,{1}", "lui": "lui\t{0},
 
 class Riscv(Machine):
     """RISC-V with its ABI. The stack is aligned to 16 bytes, and nothing below the stack pointer may be used."""
-    tools, objdump, later = "riscv64-linux-gnu-", ("-M", "no-aliases"), None
+    tools, objdump, from_v2_and_v3 = "riscv64-linux-gnu-", ("-M", "no-aliases"), None
     registers, stack_pointer, stack_step = NAMES, "sp", 1
     vector_count, vector_size = 0, 0
     arguments, result = A, "a0"
-    kept, reserved = ["sp", "gp", "tp", *S], ("gp", "tp")
+    restored_registers, reserved = ["sp", "gp", "tp", *S], ("gp", "tp")
     scratch = A + ["t%d" % n for n in range(7)]
     red_zone, strict, relaxed, flag_names = 0, True, True, ""
     jumps, returns = r"(?:c\.)?(?:j|b[a-z]+)|jal(?=\tzero)", r"c\.jr\tra|jalr\tzero,0\(ra\)"
@@ -73,7 +73,7 @@ class Riscv(Machine):
 
     def get(self, o):
         v = super().get(o)
-        return v & self.most if isinstance(v, int) else v
+        return v & self.highest if isinstance(v, int) else v
 
     def put(self, o, v):
         if o.name != "zero":
@@ -135,7 +135,7 @@ class Riscv(Machine):
 
     def signed(self, v):
         """Gives a number with a sign, with the highest bit inverted. Such numbers have the same order as numbers without a sign."""
-        return self.offset(v, self.most // 2 + 1)
+        return self.offset(v, self.highest // 2 + 1)
 
     def number_of(self, flag):
         """Gives a flag as 1 or 0. A flag that says whether secret bytes are 0 isn't decided here: the result depends on these bytes."""
@@ -157,7 +157,7 @@ class Riscv32(Riscv):
     """RISC-V of 32 bits with M and C. It has no operating system, so there are no shared libraries."""
     compiler = "riscv64-unknown-elf-gcc", "-march=rv32imc", "-mabi=ilp32"
     linker = Riscv.tools + "ld", "-m", "elf32lriscv"
-    word, most, start = 4, (1 << 32) - 1, 0x23456000
+    word, highest, start = 4, (1 << 32) - 1, 0x23456000
     moves = "lw|sw"
 
 
@@ -215,7 +215,7 @@ def either(m, x, y):
     """Gives the result of `or`, also of unknown numbers."""
     zeros = [m.is_equal(v, 0) if m.is_counter(v) else None for v in (x, y)]
     if 0 in zeros:
-        return some_number(m, "%s or %s" % (x, y), {-1}, m.most)
+        return some_number(m, "%s or %s" % (x, y), {-1}, m.highest)
     if 1 in zeros:
         return (y, x)[zeros.index(1)]
     if Linear in (type(x), type(y)) and is_number(x, y) and 0 not in (x, y):
@@ -237,7 +237,7 @@ def both(m, x, y):
         b = m.to_bytes(x, m.word) + m.to_bytes(y, m.word)
         if not m.is_public(b):
             raise
-        v = m.verdict(m.most, m.bytewise("xor", b, [255] * len(b)), m.word)
+        v = m.verdict(m.highest, m.bytewise("xor", b, [255] * len(b)), m.word)
         m.secret.lost.difference_update(m.to_bytes(v, m.word))  # as the result isn't secret
         return v
 
@@ -260,7 +260,7 @@ def in_range(m, x):
 def some_number(m, name, at_least, at_most):
     """Gives another unknown number, with facts only about how large it is."""
     n = unknown(name)
-    m.facts |= {n + k for k in at_least} | {at_most - n, m.most - n}
+    m.facts |= {n + k for k in at_least} | {at_most - n, m.highest - n}
     return n
 
 
@@ -269,7 +269,7 @@ def differing(m, x, y):
     if Linear not in (type(x), type(y)) or not is_number(x, y) or 0 in (x, y):
         return m.logic("xor", x, y, m.word)
     x, y = in_range(m, x), in_range(m, y)
-    if y == m.most:
+    if y == m.highest:
         return y - x
     return 0 if m.compare_numbers(x, y, "equal") else some_number(m, "%s xor %s" % (x, y), {-1}, x + y)
 
@@ -306,11 +306,11 @@ TABLE = Table({
     "blt": branch(signed(below)), "bge": branch(no(signed(below))),
     "sltu": result(lambda m, x, y: m.chosen(m.number_below(x, y))),
     "slt": result(lambda m, x, y: m.chosen(m.number_below(m.signed(x), m.signed(y)))),
-    "lui": result(lambda m, n: upper(n) & m.most),
-    "auipc": result(lambda m, n: Pointer(CODE, m.last + upper(n) & m.most)),
+    "lui": result(lambda m, n: upper(n) & m.highest),
+    "auipc": result(lambda m, n: Pointer(CODE, m.last + upper(n) & m.highest)),
     "add": result(added),
     "sub": result(lambda m, x, y: m.minus(x, y, m.word)[0]),
-    "mul": result(lambda m, x, y: factor(x) * factor(y) & m.most),
+    "mul": result(lambda m, x, y: factor(x) * factor(y) & m.highest),
     "mulhu": result(lambda m, x, y: factor(x) * factor(y) >> 8 * m.word),
     "addw": result(of_half(lambda m, x, y: m.plus(x, y, 0, 4)[0])),
     "subw": result(of_half(lambda m, x, y: m.minus(x, y, 4)[0])),

@@ -201,7 +201,7 @@ class KeyedSiv(KeyedHash):
             if m.phase in (1, 2):
                 return self.any_hash(m, m.phase - 1, sizes)
             phase = [*self.derivation(self.blocks_at_once(m, sizes) == 1), *first] if m.phase == 0 else last(m) if m.phase == 3 else []
-            return phase[m.done] if m.done < len(phase) else ("nothing", (), ())
+            return phase[m.steps_found] if m.steps_found < len(phase) else ("nothing", (), ())
         additional = Stream("additional", sizes[0], self.pattern(self.additional_bytes))
         arguments = [self.schedule(), Buffer("nonce", self.nonce), additional, sizes[0],
                      *self.streams_of(way, "text", sizes[1], sizes[1], content, want), tag]
@@ -211,12 +211,13 @@ class KeyedSiv(KeyedHash):
     def refused(self):
         """TOO_LONG or NO_KEY: .. A call that doesn't return DONE has changed nothing. With _to: UNEQUAL_LENGTHS, TOO_LONG or NO_KEY"""
         a, t, k, none, key = unknown("additional"), unknown("text"), unknown("output"), self.no_key(), self.schedule()
-        most = min(MOST, self.most)
+        most = min(MOST, self.highest)
         fits, long = between(a, 0, most) | between(t, 0, most), []
-        if self.most > MOST:  # (else no buffer is too long)
-            long = [between(a, MOST + 1, self.most) | between(t, 0, self.most), between(a, 0, MOST) | between(t, MOST + 1, self.most)]
+        if self.highest > MOST:  # (else no buffer is too long)
+            long = [between(a, MOST + 1, self.highest) | between(t, 0, self.highest),
+                    between(a, 0, MOST) | between(t, MOST + 1, self.highest)]
         late = [(none, NO_KEY, fits, t), *((siv, TOO_LONG, facts, t) for siv in (key, none) for facts in long)]
-        sizes = {f for x in (a, t, k) for f in between(x, 0, self.most)}
+        sizes = {f for x in (a, t, k) for f in between(x, 0, self.highest)}
         first = [(siv, UNEQUAL_LENGTHS, sizes | facts, k) for siv in (key, none) for facts in unequal(t, k)]
         for way, (siv, status, facts, output) in [("", one) for one in late] + [("_to", one) for one in first + late]:
             arguments = [siv, nothing("nonce", False), nothing("additional", False), a, *unread(way, t, output)]

@@ -29,7 +29,7 @@ class Unknowns:
 
     def fits(self, x):
         """Whether a number is equal to the machine's word, and not only modulo 2^64 (or 2^32)."""
-        return self.implied(x) and self.implied(self.most - x)
+        return self.implied(x) and self.implied(self.highest - x)
 
     def fewest_bytes(self, x, size):
         """Gives the bytes of a value. If a number is known to be small, its higher bytes are zeros."""
@@ -40,12 +40,12 @@ class Unknowns:
         """Gives a number as the machine's word, from 0 on. Whether it has wrapped around is a question. (Calls of any length don't ask it,
         because it would make passes of a loop differ.)"""
         while not self.fits(x):
-            if self.allowed.any_length and None in (self.is_below(x, 0), self.is_below(self.most, x)):
+            if self.allowed.any_length and None in (self.is_below(x, 0), self.is_below(self.highest, x)):
                 break
             if self.compare_numbers(x, 0, "below"):
-                x += self.most + 1
-            elif self.compare_numbers(self.most, x, "below"):
-                x -= self.most + 1
+                x += self.highest + 1
+            elif self.compare_numbers(self.highest, x, "below"):
+                x -= self.highest + 1
         return x
 
     def quotient(self, x, by):
@@ -78,7 +78,7 @@ class Unknowns:
         if isinstance(x, Linear) and is_int(y) and name == "or":
             return x + (y & ~x.constant) if 0 <= y < step_of(x) else None
         if isinstance(x, Linear) and is_int(y):
-            low = -y & self.most  # if this is a power of two, the mask clears all bits below it
+            low = -y & self.highest  # if this is a power of two, the mask clears all bits below it
             if y < step_of(x):
                 return x.constant & y
             if low and not low & low - 1 and step_of(x) % low == 0:
@@ -132,13 +132,13 @@ class Unknowns:
         self.each_byte(lambda b: self.renumbered(b, new), stay=self.domain.without_numbers)
         self.facts = frozenset(f for f in map(new, self.facts) if not is_int(f) or f < 0)
         self.flags, self.first_block = {f: new(x) for f, x in self.flags.items()}, new(self.first_block)
-        self.general = {r: new(v) & self.most if isinstance(v, Linear) and is_int(new(v)) else new(v) for r, v in self.general.items()}
+        self.general = {r: new(v) & self.highest if isinstance(v, Linear) and is_int(new(v)) else new(v) for r, v in self.general.items()}
         for region in self.regions.values():
             if isinstance(region, Window):
                 region.size, region.end, region.origin = new(region.size), new(region.end), new(region.origin)
-        self.counter, self.done = new(self.counter), new(self.done)
-        self.passed = tuple((at, tuple(map(new, numbers))) for at, numbers in self.passed)
-        self.loops, self.replaced, self.want = {}, [*self.replaced, (name, by)], None
+        self.counter, self.steps_found = new(self.counter), new(self.steps_found)
+        self.numbers_by_frame = tuple((at, tuple(map(new, numbers))) for at, numbers in self.numbers_by_frame)
+        self.loops, self.replaced, self.next_step = {}, [*self.replaced, (name, by)], None
 
     def renumbered(self, b, new):
         """Gives a byte in which `new` replaces numbers. It may be a byte of a number, or be computed from bytes of numbers."""
@@ -258,7 +258,7 @@ class Unknowns:
     def begin_again(self, name=None, *new):
         """Begins another phase. What is left of blocks is forgotten, and they are numbered again. The buffer `name` begins again as `new`
         says. Other buffers of the same cells can't be read any more."""
-        self.phase, self.done = self.phase + 1, 0
+        self.phase, self.steps_found = self.phase + 1, 0
         self.forget_differences()
         cells = {c for b in new[0] for c in self.domain.cells(b)} if name else set()
         for window in (r for r in self.regions.values() if isinstance(r, Window)):
@@ -270,10 +270,11 @@ class Unknowns:
 
     def forget_blocks(self, first):
         """Counts blocks from this one on. What is left of earlier ones in a register becomes arbitrary bits. The code may use these."""
-        d, self.forgets = self.domain, self.forgets + 1  # so that these bits aren't those of the last time
+        self.times_forgotten += 1  # so that these bits aren't those of the last time
+        d, times = self.domain, self.times_forgotten
         for r, v in self.general.items():
             if type(v) is tuple:
-                self.general[r] = self.from_bytes([d.forget_bits(b, (self.forgets, r, i)) if d.blocks(b) else b for i, b in enumerate(v)])
+                self.general[r] = self.from_bytes([d.forget_bits(b, (times, r, i)) if d.blocks(b) else b for i, b in enumerate(v)])
         self.each_byte(lambda b: self.any_byte() if d.blocks(b) else b)
         self.first_block, self.origins = first, {place: on for place, on in self.origins.items() if not place[1]}
 

@@ -3,7 +3,7 @@ manual (Intel 64 and IA-32 Architectures Software Developer's Manual, volume 2).
 import re
 
 from bits import Unproved
-from borders import apart
+from borders import distances
 from machine import Machine
 from operands import (CODE, RETURN_ADDRESS, SECRET, WORD, Instruction, Memory, Pointer, Register, Scaled, Table, Vector, concatenated,
                       constant, contrary, form, interleaved, is_int, lanes)
@@ -24,13 +24,13 @@ ALIGNED, UNALIGNED = ("movdqa", "movaps", "vmovdqa", "vmovaps"), ("movdqu", "mov
 class X86_64(Machine):
     """x86-64 with the System V ABI. The stack is aligned to 16 bytes before the return address is pushed."""
     tools, compiler, linker, objdump = "", ("gcc",), ("ld",), ("-M", "intel")
-    later = "ptest|pshufb|palignr|pblendw|pinsr[bd]|pextr[bq]", "v.*|andn|bzhi|mulx|movbe|shrx"
+    from_v2_and_v3 = "ptest|pshufb|palignr|pblendw|pinsr[bd]|pextr[bq]", "v.*|andn|bzhi|mulx|movbe|shrx"
     registers, stack_pointer = R64, "rsp"
     vector_count, vector_size = 16, 32
     arguments, result, pushed = "rdi rsi rdx rcx r8 r9".split(), "rax", (RETURN_ADDRESS,)
-    kept = "rbx rsp rbp r12 r13 r14 r15".split()
+    restored_registers = "rbx rsp rbp r12 r13 r14 r15".split()
     scratch = "rcx rdx rsi rdi r8 r9 r10 r11".split()
-    red_zone, mark = 128, "endbr64"
+    red_zone, landing_mark = 128, "endbr64"
     jumps, conditional, padding = r"j\w+", "j(?!mp)|adc|sbb", r"(data16 |cs )*nop|xchg +ax,ax"
     choosing = "set|cmov"
     sets_flags = r"(cmp|test|ptest|add|sub|adc|sbb|inc|dec|neg|and|or|xor(?!ps)|shl|shr(?!x)|sar|rol|ror|shld|shrd|bt|bzhi|mul)\b"
@@ -39,7 +39,7 @@ class X86_64(Machine):
     affine = "add|sub|inc|dec|neg|not|lea|xchg"
     compares, two_results, cancels, first_lane = "cmp|test", "mulx|xchg", "xor|v?pxor|v?xorps|sub|v?pcmpeq", "v?mov[qd]"
     # Jumps and calls that have to arrive at a mark; and the first byte of instructions of AVX-512, of which some are named as in AVX2.
-    to_mark, avx512 = r"(rex\.\w+ +)*(jmp|call)\b(?! +[0-9a-f]+ <)", b"\x62"
+    jumps_to_mark, avx512 = r"(rex\.\w+ +)*(jmp|call)\b(?! +[0-9a-f]+ <)", b"\x62"
 
     def leave(self):
         self.go_to(pop(self))
@@ -71,9 +71,9 @@ class Windows(X86_64):
     tools = "x86_64-w64-mingw32-"
     compiler, linker = (tools + "gcc",), (tools + "ld",)
     arguments, shadow = "rcx rdx r8 r9".split(), 32
-    kept, kept_vectors = "rbx rsp rbp rsi rdi r12 r13 r14 r15".split(), dict.fromkeys(range(6, 16), 16)
+    restored_registers, restored_vectors = "rbx rsp rbp rsi rdi r12 r13 r14 r15".split(), dict.fromkeys(range(6, 16), 16)
     scratch = "rcx rdx r8 r9 r10 r11".split()
-    red_zone, mark, to_mark, also_called = 0, "", "(?!)", ("___chkstk_ms",)
+    red_zone, landing_mark, jumps_to_mark, also_called = 0, "", "(?!)", ("___chkstk_ms",)
 
 
 def operand(text, name, following):
@@ -165,7 +165,7 @@ def xchg(m, name, a, b):
 def arithmetic(m, name, a, b=1):
     """Computes a sum, or a difference, whose flag c is the borrow. `inc` and `dec` keep that flag, and `cmp` only sets flags."""
     x, y = (0, m.get(a)) if name == "neg" else (m.get(a), m.get(b))
-    old, size, before = m.flags["c"], a.size, m.apart
+    old, size, before = m.flags["c"], a.size, m.distances
     carry = m.carried(old) if name in ("adc", "sbb") else 0
     if carry not in (0, 1):
         raise Unproved("adds a carry that depends on the key or on data, or that is undefined")
@@ -180,9 +180,9 @@ def arithmetic(m, name, a, b=1):
     if name in ("inc", "dec"):
         flags["c"] = old
     m.set_flags(**flags)
-    m.apart = apart(x, y, size, carry, name in ("add", "adc", "inc"))
+    m.distances = distances(x, y, size, carry, name in ("add", "adc", "inc"))
     if name in ("inc", "dec"):
-        m.apart["c"] = before.get("c")
+        m.distances["c"] = before.get("c")
     if name != "cmp":
         m.put(a, r)
 
