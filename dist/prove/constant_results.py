@@ -8,7 +8,7 @@ an instruction has had two different results, nothing more is noted of it. So mo
 import re
 from collections import namedtuple
 
-from following_results import Followings, is_affine
+from following_results import FollowingResults, is_affine
 from linear import Linear
 from operands import CODE, Memory, Number, Placed, Pointer, Register, Scaled, Shifted, Vector, concatenated, is_int, is_pointer, lanes
 from regions import Window
@@ -77,7 +77,7 @@ def has_change(x):
     return x == CHANGES or type(x) is tuple and any(map(has_change, x))
 
 
-class Results(Followings):
+class Results(FollowingResults):
     """Notes the results of the instructions that a machine runs."""
 
     # Each machine describes its instructions with these. How names begin: those of instructions without a result, of those that store, and
@@ -102,7 +102,7 @@ class Results(Followings):
         if self.last not in noted.changing_results:
             self.note(before, concatenated(self.numbers_at(*place) for place in places) + parts)
         if noted.following.get(self.last, ()) is not None:
-            self.follow(concatenated(before) if affine else (), places)
+            self.note_following(concatenated(before) if affine else (), places)
         if self.last in noted.changing_results and noted.following[self.last] is None:
             noted.finished_addresses.add(self.last)
 

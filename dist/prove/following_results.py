@@ -11,9 +11,9 @@ from linear import Linear, is_number, wrapped
 from operands import CODE, Memory, Register, Vector, concatenated, is_int, is_pointer, lanes
 
 # The values at one place: the first one, whether there were others, and by how much all of them differ from some numbers.
-Follows = namedtuple("Follows", "first varied by")
+PlaceDifferences = namedtuple("PlaceDifferences", "first varied differences")
 # The results of an instruction, compared with numbers of the call; and the values that it adds up or moves, compared with its results.
-Following = namedtuple("Following", "results sources")
+Differences = namedtuple("Differences", "results sources")
 
 
 def is_affine(machine, name, operands):
@@ -23,24 +23,24 @@ def is_affine(machine, name, operands):
     return bool(plain) and all(name == "lea" and isinstance(o, Memory) or o.size % machine.word == 0 for o in operands)
 
 
-def merged_values(old, new):
+def merged_differences(old, new):
     """Merges what is known of values with what is known of more of them."""
-    return [Follows(a.first, a.varied or b.varied or a.first != b.first, a.by & b.by) for a, b in zip(old, new)]
+    return [PlaceDifferences(a.first, a.varied or b.varied or a.first != b.first, a.differences & b.differences) for a, b in zip(old, new)]
 
 
-class Followings:
+class FollowingResults:
     """Notes by how much the results of instructions differ from numbers of the call."""
 
-    def follow(self, sources, places):
+    def note_following(self, sources, places):
         """Notes by how much the results of the last instruction differ from numbers of the call, and its sources from the results."""
         noted = self.program.noted
         old = noted.following.get(self.last)
         results = self.as_numbers(concatenated(self.all_at(*place) for place in places))
-        new = Following(self.noted_differences(results, self.given_numbers()), self.noted_differences(self.as_numbers(sources), results))
-        new = Following(*map(merged_values, old, new)) if old else new
-        if self.generals and not (old and [v.by for v in concatenated(new)] == [v.by for v in concatenated(old)]):
+        new = Differences(self.noted_differences(results, self.given_numbers()), self.noted_differences(self.as_numbers(sources), results))
+        new = Differences(*map(merged_differences, old, new)) if old else new
+        if self.generals and not (old and [v.differences for v in concatenated(new)] == [v.differences for v in concatenated(old)]):
             noted.earlier_following.setdefault((self.last, self.generals), old)
-        noted.following[self.last] = new if any(v.by for v in new.results) else None
+        noted.following[self.last] = new if any(v.differences for v in new.results) else None
 
     def all_at(self, o, at, size):
         """Gives the value of an operand. If it is a part of a register or word, gives that of the whole."""
@@ -71,7 +71,7 @@ class Followings:
 
     def noted_differences(self, values, numbers):
         """Gives what is to be noted of values: by how much they differ from these numbers."""
-        return [Follows(v if is_int(v) else None, isinstance(v, Linear), frozenset(
+        return [PlaceDifferences(v if is_int(v) else None, isinstance(v, Linear), frozenset(
             wrapped(by, self.highest) for n in numbers if None not in (v, n) and is_int(by := v - n))) for v in values]
 
     def forget_following(self, general):
@@ -91,6 +91,6 @@ def joined_following(tasks):
     for following in tasks:
         for address, one in following.items():
             old = out.get(address, one)
-            out[address] = one and old and Following(*map(merged_values, old, one))
-    return {address: by for address, one in out.items() if one and not any(v.by for v in one.sources)
-            for by in [tuple(sorted({d for v in one.results if v.varied for d in v.by}))] if by}
+            out[address] = one and old and Differences(*map(merged_differences, old, one))
+    return {address: by for address, one in out.items() if one and not any(v.differences for v in one.sources)
+            for by in [tuple(sorted({d for v in one.results if v.varied for d in v.differences}))] if by}

@@ -21,7 +21,7 @@ class Noted:
         results             {address: Result} (constant_results.py)
         changing_results    {where no result is noted any more: (what was noted there before, after which general states)}
         judged              {address: the operands that are compared}
-        following           {address: Following}, or None where nothing follows (following_results.py)
+        following           {address: Differences}, or None where nothing follows (following_results.py)
         earlier_following   the same as it was before, by general states
         finished_addresses  where neither results nor what follows is noted any more"""
 
