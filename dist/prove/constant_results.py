@@ -19,8 +19,8 @@ CHANGES = "changes"  # is noted instead of a number that isn't known
 Result = namedtuple("Result", "sources result varied")
 # The operands of an instruction: those that it reads, those that it writes, and those that ARM shifts before they are read. `affine`:
 # whether the instruction only adds, subtracts or moves.
-Judged = namedtuple("Judged", "sources results shifted affine")
-NOT_JUDGED = Judged((), (), (), True)
+JudgedOperands = namedtuple("JudgedOperands", "sources results shifted affine")
+NO_JUDGED_OPERANDS = JudgedOperands((), (), (), True)
 
 
 def simple_operands(operands):
@@ -32,15 +32,15 @@ def simple_operands(operands):
             yield from simple_operands(o)
 
 
-def operands_to_judge(machine, instruction):
+def find_judged_operands(machine, instruction):
     """Gives the operands of an instruction that are looked at. There are none if it has no result, if the result is the same whatever it
     reads, or if it only moves whole words."""
     name, operands = instruction.name, list(simple_operands(instruction.operands))
     if re.fullmatch(machine.compares, name):
         sources = [o for o in operands if isinstance(o, Memory) or isinstance(o, Register) and o.size < machine.word]
-        return Judged(tuple(sources), (), (), False)
+        return JudgedOperands(tuple(sources), (), (), False)
     if re.match(machine.without_result, name) or not operands:
-        return NOT_JUDGED
+        return NO_JUDGED_OPERANDS
     if re.match(machine.stores, name):
         sources, results = operands[:-1], operands[-1:]
     else:
@@ -51,10 +51,12 @@ def operands_to_judge(machine, instruction):
     chosen = {r for o in results if isinstance(o, Memory) for r in (o.base, o.index)} - {None, machine.stack_pointer}  # where it stores
     sources, results = sources + implicit + [Register(r, machine.word) for r in sorted(chosen)], implicit or results
     if re.match(machine.cancels, name) and len({*sources}) == 1 or moves_words(machine, name, sources, results):
-        return NOT_JUDGED
+        return NO_JUDGED_OPERANDS
     shifted = [o for o in instruction.operands if hasattr(o, "how") and o.operand]
     affine = not shifted and is_affine(machine, name, sources + results)
-    return Judged(tuple(sources), tuple(results), tuple(shifted), affine) if any(may_vary(machine, o) for o in sources) else NOT_JUDGED
+    if not any(may_vary(machine, o) for o in sources):
+        return NO_JUDGED_OPERANDS
+    return JudgedOperands(tuple(sources), tuple(results), tuple(shifted), affine)
 
 
 def may_vary(machine, o):
@@ -92,9 +94,9 @@ class Results(FollowingResults):
         if not sources:
             self.program.noted.finished_addresses.add(self.last)
             return instruction.run(self, instruction.name, *instruction.operands)
-        before = [self.whole_of(o, instruction.name) for o in sources]
-        parts = concatenated(self.part_of(o, instruction.name) for o in sources) + [self.number(self.get(o)) for o in shifted]
-        places = [self.where(o, instruction.name) for o in results]
+        before = [self.whole_value(o, instruction.name) for o in sources]
+        parts = concatenated(self.parts_read(o, instruction.name) for o in sources) + [self.number(self.get(o)) for o in shifted]
+        places = [self.place_of(o, instruction.name) for o in results]
         if re.fullmatch(self.first_lane, instruction.name):
             places = [(o, at, min(LANE, size)) for o, at, size in places]
         instruction.run(self, instruction.name, *instruction.operands)
@@ -112,10 +114,10 @@ class Results(FollowingResults):
             self.note([[v] for v in arguments], [self.number(self.from_bytes(lane)) for lane in lanes(written, LANE)])
 
     def judged_operands(self, instruction):
-        """Gives the operands of an instruction that are looked at, as `operands_to_judge` does, but finds them once."""
-        known = self.program.noted.judged
+        """Gives the operands of an instruction that are looked at, as `find_judged_operands` does, but finds them once."""
+        known = self.program.noted.judged_operands
         if self.last not in known:
-            known[self.last] = operands_to_judge(type(self), instruction)
+            known[self.last] = find_judged_operands(type(self), instruction)
         return known[self.last]
 
     def note(self, sources, numbers):
@@ -154,7 +156,7 @@ class Results(FollowingResults):
         self.forget_following(general)
 
     # What an instruction reads.
-    def whole_of(self, o, name):
+    def whole_value(self, o, name):
         """Gives all of a register of which an instruction reads a part, or the words of memory and their index. For constants it gives
         their address instead of the words."""
         if isinstance(o, Register):
@@ -163,19 +165,19 @@ class Results(FollowingResults):
             return [tuple(self.vectors[o.number][:max(16, o.size)])]
         if name == "lea":
             return [self.general[r] for r in (o.base, o.index) if r]
-        _, at, size = self.where(o, name)
+        _, at, size = self.place_of(o, name)
         numbers = [self.general[r] for r in (o.base, o.index) if r not in (None, self.stack_pointer)]
         if is_int(at) or not is_pointer(at) or not is_int(at.offset):
             return [*numbers, at]
         begin = at.offset // self.word * self.word
         return [*numbers, tuple(self.peeked(at._replace(offset=begin), -(-(at.offset + size - begin) // self.word) * self.word) or ())]
 
-    def part_of(self, o, name):
-        """Gives the numbers that an instruction reads, if they are a part of what `whole_of` gives. They count as its results."""
+    def parts_read(self, o, name):
+        """Gives the numbers that an instruction reads, if they are a part of what `whole_value` gives. They count as its results."""
         if isinstance(o, Memory):
             index = [self.shift("lsl", self.general[o.index], o.scale.bit_length() - 1, self.word)] if o.index and is_int(
                 self.general[o.index]) else []
-            return [*index, *(self.numbers_at(*self.where(o, name)) if name != "lea" else ())]
+            return [*index, *(self.numbers_at(*self.place_of(o, name)) if name != "lea" else ())]
         return self.numbers_at(o, None, o.size) if isinstance(o, Register) and o.size < self.word else []
 
     def public_value(self, v):
@@ -196,7 +198,7 @@ class Results(FollowingResults):
         return b not in self.domain.with_products and bool(self.domain.unknown_cells(b))
 
     # What it writes.
-    def where(self, o, name):
+    def place_of(self, o, name):
         """Gives an operand, its address if it has one, and its size."""
         if not isinstance(o, Memory):
             return o, None, o.size

@@ -87,7 +87,7 @@ class Machine(Arithmetic, Borders, Unknowns, Bytewise, Results, Access):
         self.answers = {}  # to questions, {flag: 0 or 1}
         self.secret = SecretBytes()
         # How many steps of a call were found, in which phase of it, and what the next one looks for (steps.py).
-        self.steps_found, self.phase, self.next_step = 0, 0, None
+        self.steps_found, self.phase, self.expected_step = 0, 0, None
         self.origins = {}  # what a result depended on, by the (cell, block) that replaced it
         self.last_written = (), 0  # a list of bytes, and where in it
         self.ever_written = {}  # the bytes that were written to each of the caller's buffers, even if they were overwritten later
@@ -194,7 +194,7 @@ class Machine(Arithmetic, Borders, Unknowns, Bytewise, Results, Access):
         m.regions = {name: r.copy() for name, r in self.regions.items()}
         m.general, m.vectors, m.flags, m.last_written = dict(self.general), list(self.vectors), dict(self.flags), ((), 0)
         m.registers_at_entry, m.stack, m.secret = dict(self.registers_at_entry), self.stack.copied(), self.secret.copied()
-        m.trace, m.next_step = list(self.trace), None
+        m.trace, m.expected_step = list(self.trace), None
         m.answers, m.origins, m.decided, m.loops = dict(self.answers), dict(self.origins), list(self.decided), dict(self.loops)
         m.ever_written = {name: set(b) for name, b in self.ever_written.items()}
         return m

@@ -20,14 +20,14 @@ class Noted:
                             general states)} (borders.py)
         results             {address: Result} (constant_results.py)
         changing_results    {where no result is noted any more: (what was noted there before, after which general states)}
-        judged              {address: the operands that are compared}
+        judged_operands     {address: the operands that are compared}
         following           {address: Differences}, or None where nothing follows (following_results.py)
         earlier_following   the same as it was before, by general states
         finished_addresses  where neither results nor what follows is noted any more"""
 
     def __init__(self):
         self.accepts, self.ways, self.looked_up, self.nearest = True, set(), set(), {}
-        self.results, self.judged, self.finished_addresses, self.changing_results = {}, {}, set(), {}
+        self.results, self.judged_operands, self.finished_addresses, self.changing_results = {}, {}, set(), {}
         self.following, self.earlier_following = {}, {}
 
     def covered(self, run_addresses):

@@ -61,9 +61,9 @@ class KeyedSiv(KeyedHash):
         d.numbers.update({d.cell_of(b)[0]: (k, counter) for k, b in enumerate(counter)})
         d.bits_of_word["counter of the tag"] = lambda offset, k: d.bits(d.byte_in_block(counter[k], offset + 1))
         self.own_tag = self.named_bytes(Number("counter of the tag", 0), 4) + self.fresh("tag", DATA)[4:]
-        self.highest = d.fresh("byte 15 of the first counter block", DATA)
+        self.byte_15 = d.fresh("byte 15 of the first counter block", DATA)
         self.tag_input = self.fresh("tag input", KEY | DATA)
-        self.own_stream = self.aes.cipher(counter + self.own_tag[4:15] + [self.highest], self.message_w)
+        self.own_stream = self.aes.cipher(counter + self.own_tag[4:15] + [self.byte_15], self.message_w)
 
     def stored(self, words):
         """Gives what set_key stores for these round keys. Each byte is a linear function of one of their bytes, plus perhaps a constant."""
@@ -103,7 +103,7 @@ class KeyedSiv(KeyedHash):
     def first_counter(self, tag):
         """Gives the step that makes the first counter block, which is the tag with its highest bit set."""
         same, last = tag[:15], tag[15]
-        return "memory", same + [self.domain.or_byte(last, 128)], same + [self.highest]
+        return "memory", same + [self.domain.or_byte(last, 128)], same + [self.byte_15]
 
     def crypted_by_tag(self, text):
         """Gives AES_CTR (4) of a text. The counter in block i is the tag's first number, the lowest byte first, plus i, modulo 2^32."""

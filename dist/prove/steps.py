@@ -44,26 +44,26 @@ def step_by_step(steps):
 
     def watch(m):
         """Replaces the result of the next step if it is there, or begins another phase."""
-        if m.next_step is None:
+        if m.expected_step is None:
             if not callable(steps) and m.steps_found == len(steps):
                 return
             where, want, new = steps(m) if callable(steps) else steps[m.steps_found]
             # (It is made before the code computes it, so that the code's products have the factors that it names: with_powers.)
-            m.next_step = where, want() if callable(want) else want, new
-        where, want, new = m.next_step
+            m.expected_step = where, want() if callable(want) else want, new
+        where, want, new = m.expected_step
         if where in PHASE_BEGINNINGS and begins_phase(m, where, want):
             m.begin_again(*((want, *new) if want else ()))
-            m.next_step = None
+            m.expected_step = None
         if where in PHASE_BEGINNINGS or where == "nothing":
             return
         if where == "place":
             content, at = was_written(m, want, m.domain.is_same) or ((), 0)
             if content:
-                content[at:at + len(want)], m.steps_found, m.next_step = new, m.steps_found + 1, None
+                content[at:at + len(want)], m.steps_found, m.expected_step = new, m.steps_found + 1, None
             return
         if where == "here" or is_found(m, where, want):
             replace_result(m, where, want, new)
-            m.steps_found, m.next_step, m.domain.factor_of = m.steps_found + 1, None, {}
+            m.steps_found, m.expected_step, m.domain.factor_of = m.steps_found + 1, None, {}
     return watch
 
 

@@ -138,7 +138,7 @@ class Unknowns:
                 region.size, region.end, region.origin = new(region.size), new(region.end), new(region.origin)
         self.counter, self.steps_found = new(self.counter), new(self.steps_found)
         self.numbers_by_frame = tuple((at, tuple(map(new, numbers))) for at, numbers in self.numbers_by_frame)
-        self.loops, self.replaced, self.next_step = {}, [*self.replaced, (name, by)], None
+        self.loops, self.replaced, self.expected_step = {}, [*self.replaced, (name, by)], None
 
     def renumbered(self, b, new):
         """Gives a byte in which `new` replaces numbers. It may be a byte of a number, or be computed from bytes of numbers."""
