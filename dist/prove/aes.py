@@ -6,7 +6,8 @@ from bits import DATA, LOST, PUBLIC, Unproved
 from calls import Buffer, Call
 from cmac_ccm import CmacCcm
 from key_wrap import KeyWrap
-from keyed import BATCH, DONE, KEY_LENGTH, KEYSTREAM_END, NEVER, NO_KEY, UNEQUAL_COUNTS, CounterWord, Keyed, between, nothing, unequal
+from keyed import (BATCH, DONE, KEY_LENGTH, KEYSTREAM_END, NEVER, NO_KEY, UNEQUAL_COUNTS, CounterWord, Keyed, facts_of_range, unequal,
+                   unused_buffer)
 from linear import WORD, Linear, unknown
 from operands import Pointer, Verdict
 from regions import Window
@@ -247,9 +248,10 @@ class KeyedAes(SingleRounds, CmacCcm, KeyWrap, Keyed):
         """NO_KEY .. UNEQUAL_COUNTS if they differ .. KEYSTREAM_END if the position would pass 2^64 - 1 .. INVALID_COUNT if keys of so many
         semiblocks are not wrapped, or the output isn't one longer or one shorter"""
         n, k = unknown("n"), unknown("k")
-        key, none, blocks, input_, output = self.schedule(), self.no_key(), nothing("blocks"), nothing("input", False), nothing("output")
+        key, none = self.schedule(), self.no_key()
+        blocks, input_, output = unused_buffer("blocks"), unused_buffer("input", False), unused_buffer("output")
         cbc = self.stays("cbc", [self.domain.fresh("previous byte %d" % i, DATA) for i in range(16)])
-        sizes = between(n, 0, self.highest) | between(k, 0, self.highest)
+        sizes = facts_of_range(n, 0, self.highest) | facts_of_range(k, 0, self.highest)
         for direction in ("encrypt", "decrypt"):
             name = "aes_%s_blocks" % direction
             yield Call(name, [none, blocks, n], NO_KEY, facts=sizes)
@@ -261,10 +263,10 @@ class KeyedAes(SingleRounds, CmacCcm, KeyWrap, Keyed):
         yield from self.wrap_refused(key, none, sizes)
         yield from self.wrap_padded_refused(key, none, sizes)
         for length, facts in self.lengths_but((16, 24, 32), "length"):
-            arguments, facts = [nothing("key", False), length], sizes | facts
+            arguments, facts = [unused_buffer("key", False), length], sizes | facts
             for direction in ("encrypt", "decrypt"):
                 yield Call("aes_%s_blocks_with" % direction, [*arguments, blocks, n], KEY_LENGTH, facts=facts)
-            yield Call("aes_add_keystream_with", [*arguments, self.ctr(k), nothing("bytes"), n], KEY_LENGTH, facts=facts)
+            yield Call("aes_add_keystream_with", [*arguments, self.ctr(k), unused_buffer("bytes"), n], KEY_LENGTH, facts=facts)
         yield from self.cmac_refused()
         yield from self.ccm_refused()
 
@@ -274,8 +276,8 @@ class KeyedAes(SingleRounds, CmacCcm, KeyWrap, Keyed):
 
     def keystream_refused(self, key, none, sizes):
         n, k, (position, position_facts) = unknown("n"), unknown("k"), self.number_of_words("position")
-        ctr, sizes, bytes_ = self.ctr(position), sizes | position_facts, nothing("bytes")
-        to = lambda aes, n, k: [aes, ctr, nothing("input", False), n, nothing("output"), k]
+        ctr, sizes, bytes_ = self.ctr(position), sizes | position_facts, unused_buffer("bytes")
+        to = lambda aes, n, k: [aes, ctr, unused_buffer("input", False), n, unused_buffer("output"), k]
         passes, stays = {position + n - WORD - 1}, {WORD - position - n}
         for aes, facts, status in ((none, stays, NO_KEY), (none, passes, KEYSTREAM_END), (key, passes, KEYSTREAM_END)):
             yield Call("aes_add_keystream", [aes, ctr, bytes_, n], status, facts=sizes | facts)

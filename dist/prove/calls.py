@@ -69,7 +69,7 @@ class Call:
         assumes                 bytes of public data that are not all zero
         later                   for a call that expands a key: turns bytes of the key's own domain into those of any round keys (aes.py)
         counter                 a word of unknown value (keyed.CounterWord)
-        keystream, between      what is added to the data; other blocks that the cipher gives
+        keystream, other_blocks what is added to the data; other blocks that the cipher gives
         plain                   what is secret of the data and of the results
         may_stay                {a kind of secret: how many bytes of it may stay on the stack}, if more than in other calls
         paths                   calls that share it run the same instructions whenever they return the same
@@ -78,12 +78,12 @@ class Call:
 
     def __init__(self, name, arguments, status, size=4, steps=None, reveals=None, refused=None, refused_after=None, assumes=None,
                  later=None, counter=None, keystream=(), plain=(), may_stay=None, paths=None, facts=(),
-                 undone=False, between=(), any_length=False):
+                 undone=False, other_blocks=(), any_length=False):
         self.name, self.arguments, self.status, self.size, self.steps = name, arguments, status, size, steps
         self.reveals, self.refused, self.refused_after = reveals, refused, refused_after or {}
         self.assumes, self.later, self.counter = assumes, later, counter
         self.keystream, self.plain, self.may_stay, self.paths = keystream, plain, may_stay or {}, paths
-        self.facts, self.undone, self.between, self.named = frozenset(facts), undone, between, {}
+        self.facts, self.undone, self.other_blocks, self.named = frozenset(facts), undone, other_blocks, {}
         self.buffers = [b for a in arguments if isinstance(a, Buffer) for b in (a, a.head) if b]
         self.streams = [b for b in self.buffers if isinstance(b, Stream)]
         self.any_length = any_length or bool(self.streams)

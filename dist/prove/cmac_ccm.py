@@ -9,7 +9,8 @@ from collections import namedtuple
 
 from bits import DATA, KEY, PUBLIC
 from calls import Buffer, Call, Stream
-from keyed import BATCH, DONE, NEVER, NO_KEY, NONCE_LENGTH, PTRDIFF_MAX, REFUSED, TAG_LENGTH, TOO_LONG, CounterWord, between, nothing
+from keyed import (BATCH, DONE, NEVER, NO_KEY, NONCE_LENGTH, PTRDIFF_MAX, REFUSED, TAG_LENGTH, TOO_LONG, CounterWord, facts_of_range,
+                   unused_buffer)
 from linear import WORD, unknown
 from operands import Pointer
 from standards import ZEROS, doubled, number, padded
@@ -226,7 +227,8 @@ class CmacCcm:
         first, middle, last_value = (self.fresh_block(name) for name in ("first value", "value after additional data", "last value"))
         flags = 64 * (additional > 0) + 8 * ((tag_length - 2) // 2) + 14 - nonce_length
         begin = {2: [], 6: [255, 254], 10: [255, 255]}[encoded] + self.highest_first(length, encoded - 2 or 2)
-        lengths = {2: between(length, 1, 0xfeff), 6: between(length, 0xff00, WORD >> 32), 10: between(length, 1 << 32, PTRDIFF_MAX)}
+        lengths = {2: facts_of_range(length, 1, 0xfeff), 6: facts_of_range(length, 0xff00, WORD >> 32),
+                   10: facts_of_range(length, 1 << 32, PTRDIFF_MAX)}
         tag = self.aes.xor(last_value, self.counter_stream(nonce, 0))[:tag_length]
 
         def chain(m, phase):
@@ -237,7 +239,7 @@ class CmacCcm:
                 return self.any_string(m, k, m.known(length) + encoded, cells, first, middle, m.known_bytes(begin))
             return self.any_string(m, k, m.known(size), self.block_bytes, middle if additional else first, last_value)
         data = Stream("additional", length, [self.pattern([cells[i % 16]], i // 16 - 1)[0] for i in range(encoded, encoded + 16)])
-        data = [data, length] if additional else [nothing("additional", False), 0]
+        data = [data, length] if additional else [unused_buffer("additional", False), 0]
         arguments = [self.schedule(), Buffer("nonce", nonce), nonce_length, *data]
         return AnyCcmMessage(arguments, size, text, stream, chain, 1 + (additional > 0), tag, dict(
             keystream=self.in_all_blocks(stream), counter=self.ccm_counter_word(nonce, size),
@@ -264,15 +266,15 @@ class CmacCcm:
         text = Stream("text", message.size, sealed, opened)
         return Call("aes_ccm_open", [*message.arguments, text, message.size, Buffer("tag", tag), len(tag)], DONE,
                     steps=steps, reveals=self.aes.xor(tag, message.tag), refused=REFUSED, plain=self.in_all_blocks(message.text + opened),
-                    between=self.in_all_blocks(undone), undone=True, **message.more)
+                    other_blocks=self.in_all_blocks(undone), undone=True, **message.more)
 
     # Calls that are refused, for all their arguments.
     def cmac_refused(self):
         """NO_KEY; TAG_LENGTH if it has fewer or more"""
-        n, k, tag = unknown("n"), unknown("k"), nothing("tag", False)
-        sizes = between(n, 0, self.highest) | between(k, 0, self.highest)
-        message = [nothing("message", False), n]
-        yield Call("aes_cmac", [self.no_key(), *message, nothing("tag")], NO_KEY, facts=sizes)
+        n, k, tag = unknown("n"), unknown("k"), unused_buffer("tag", False)
+        sizes = facts_of_range(n, 0, self.highest) | facts_of_range(k, 0, self.highest)
+        message = [unused_buffer("message", False), n]
+        yield Call("aes_cmac", [self.no_key(), *message, unused_buffer("tag")], NO_KEY, facts=sizes)
         yield Call("aes_cmac_verify", [self.no_key(), *message, tag, k], NO_KEY, facts=sizes)
         for length, facts in self.lengths_but(CMAC_TAGS, "length"):
             yield Call("aes_cmac_verify", [self.schedule(), *message, tag, length], TAG_LENGTH, facts=sizes | facts)
@@ -280,8 +282,8 @@ class CmacCcm:
     def ccm_refused(self):
         """NO_KEY, TAG_LENGTH, NONCE_LENGTH or TOO_LONG, the first of them that applies"""
         n, a, t, k = (unknown(name) for name in ("nonce", "additional", "text", "tag"))
-        sizes = {f for x in (n, a, t, k) for f in between(x, 0, self.highest)}
-        right = sizes | between(k, 0, len(CCM_TAGS) - 1), CCM_TAGS[0] + 2 * k  # every tag's length
+        sizes = {f for x in (n, a, t, k) for f in facts_of_range(x, 0, self.highest)}
+        right = sizes | facts_of_range(k, 0, len(CCM_TAGS) - 1), CCM_TAGS[0] + 2 * k  # every tag's length
         wrong = self.lengths_but(CCM_TAGS, "length")
         if self.program.machine.relaxed:
             # RISC-V's code adds a tag's lowest bit to a comparison: of a number that isn't known this says nothing.
@@ -291,8 +293,8 @@ class CmacCcm:
         refusals += [(self.schedule(), n, length, TAG_LENGTH, sizes | facts) for length, facts in wrong]
         refusals += [(self.schedule(), length, right[1], NONCE_LENGTH, right[0] | facts)
                      for length, facts in self.lengths_but(NONCES, "length")]
-        refusals += [(self.schedule(), length, right[1], TOO_LONG, right[0] | between(t, 1 << 8 * (15 - length), self.highest))
+        refusals += [(self.schedule(), length, right[1], TOO_LONG, right[0] | facts_of_range(t, 1 << 8 * (15 - length), self.highest))
                      for length in NONCES[1:] if self.highest >> 8 * (15 - length)]
         for (aes, nonce, tag, status, facts), call in itertools.product(refusals, ("seal", "open")):
-            yield Call("aes_ccm_" + call, [aes, nothing("nonce", False), nonce, nothing("additional", False), a, nothing("text"), t,
-                                           nothing("tag", call == "seal"), tag], status, facts=facts)
+            yield Call("aes_ccm_" + call, [aes, unused_buffer("nonce", False), nonce, unused_buffer("additional", False), a,
+                                           unused_buffer("text"), t, unused_buffer("tag", call == "seal"), tag], status, facts=facts)

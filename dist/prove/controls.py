@@ -48,7 +48,7 @@ def edited_assembly(assembly, fault):
 
 def uncovered_of(program, function):
     """Gives what the cases that ran don't reach of a function: {its name: {kind: descriptions of places}}."""
-    found, places = uncovered.of_program(program, joined_coverage([program.covered()]), True), Places(program)
+    found, places = uncovered.uncovered_functions(program, joined_coverage([program.covered()]), True), Places(program)
     found = {name: left for name, left in found.items() if re.search(function, uncovered.plain(name) + ":")}
     return {uncovered.recorded_name(name): {kind: Counter(texts) for kind, texts in descriptions_of(places, left)}
             for name, left in found.items()}
@@ -159,7 +159,7 @@ def try_wrong_meanings(options, machine):
         program, forms = assemble(build, source(options.dist, build), "%s/wrong_%s" % (options.out, build.replace("/", "_"))), {}
         for address in program.lines:
             try:
-                instruction = program.at(address)
+                instruction = program.instruction_at(address)
             except Unproved:
                 continue  # on no path
             if instruction.name not in tried:

@@ -5,7 +5,7 @@ import itertools
 from calls import Buffer, Call
 from gcm_header import (MOST, MOST_ADDITIONAL, MOST_NONCE, NO_KEY, NONCE_LENGTH, NONCES_END, OUT_OF_TURN, SHORT_TAGS, TAG_LENGTH, TOO_LONG,
                         TURNS, UNEQUAL_LENGTHS)
-from keyed import between, nothing, unequal, unread
+from keyed import facts_of_range, unused_buffer, unequal, unused_data
 from linear import unknown
 from standards import number
 
@@ -31,14 +31,14 @@ class Refusals:
     # Facts of arguments. A refusal is (gcm, the status, facts).
     def fits(self, length, most):
         """Gives the facts that say that the standard allows a length."""
-        return between(length, 0, min(most, self.highest))
+        return facts_of_range(length, 0, min(most, self.highest))
 
     def passes(self, length, most):
         """Gives the ways in which a length is too long, as facts. (With 32 bits there are none.)"""
-        return [between(length, most + 1, self.highest)] if self.highest > most else []
+        return [facts_of_range(length, most + 1, self.highest)] if self.highest > most else []
 
     def any_sizes(self):
-        return between(unknown("additional"), 0, self.highest) | between(unknown("text"), 0, self.highest)
+        return facts_of_range(unknown("additional"), 0, self.highest) | facts_of_range(unknown("text"), 0, self.highest)
 
     def with_any_key(self, status, ways):
         """Gives the refusals for these ways, with a key and without."""
@@ -47,7 +47,7 @@ class Refusals:
     def nonce_refusals(self):
         """Gives the facts that say that the standard allows the length of a nonce, and the refusals of other lengths."""
         n = unknown("nonce")
-        return self.fits(n, MOST_NONCE) | {n - 1}, self.with_any_key(NONCE_LENGTH, [between(n, 0, 0), *self.passes(n, MOST_NONCE)])
+        return self.fits(n, MOST_NONCE) | {n - 1}, self.with_any_key(NONCE_LENGTH, [facts_of_range(n, 0, 0), *self.passes(n, MOST_NONCE)])
 
     def text_refusals(self):
         """Gives the refusals with a right nonce: TOO_LONG, and else NO_KEY."""
@@ -60,7 +60,7 @@ class Refusals:
     def whole_arguments(self, gcm, way):
         """Gives the arguments before the tag. Nothing of them is read."""
         a, t = unknown("additional"), unknown("text")
-        return [gcm, nothing("nonce", False), unknown("nonce"), nothing("additional", False), a, *unread(way, t, t)]
+        return [gcm, unused_buffer("nonce", False), unknown("nonce"), unused_buffer("additional", False), a, *unused_data(way, t, t)]
 
     def of_whole_messages(self):
         """NONCE_LENGTH, TOO_LONG or NO_KEY"""
@@ -68,40 +68,40 @@ class Refusals:
         refusals = wrong + [(gcm, status, facts | nonces) for gcm, status, facts in self.text_refusals()]
         for (gcm, status, facts), way in itertools.product(refusals, ("", "_to")):
             before = self.whole_arguments(gcm, way)
-            yield Call("gcm_seal" + way, [*before, nothing("tag")], status, facts=facts)
-            yield Call("gcm_open" + way, [*before, nothing("tag", False), 16], status, facts=facts)
+            yield Call("gcm_seal" + way, [*before, unused_buffer("tag")], status, facts=facts)
+            yield Call("gcm_open" + way, [*before, unused_buffer("tag", False), 16], status, facts=facts)
 
     def of_tag_lengths(self):
         """TAG_LENGTH comes before these."""
-        any_nonce = between(unknown("nonce"), 0, self.highest)
+        any_nonce = facts_of_range(unknown("nonce"), 0, self.highest)
         for (gcm, status, facts), (length, also), way in itertools.product(
                 self.with_any_key(TAG_LENGTH, [any_nonce]), self.keyed.lengths_but((16,), "tag"), ("", "_to")):
-            arguments = [*self.whole_arguments(gcm, way), nothing("tag", False), length]
+            arguments = [*self.whole_arguments(gcm, way), unused_buffer("tag", False), length]
             yield Call("gcm_open" + way, arguments, status, facts=facts | also)
 
     def of_unequal_lengths(self):
         """UNEQUAL_LENGTHS comes before all others."""
         a, t, k, n, tag = (unknown(name) for name in ("additional", "text", "output", "nonce", "tag"))
-        sizes = {f for x in (a, t, k, n, tag) for f in between(x, 0, self.highest)}
+        sizes = {f for x in (a, t, k, n, tag) for f in facts_of_range(x, 0, self.highest)}
         for gcm, facts in itertools.product((self.key, self.no_key), unequal(t, k)):
-            arguments = [gcm, nothing("nonce", False), n, nothing("additional", False), a, *unread("_to", t, k)]
-            yield Call("gcm_seal_to", [*arguments, nothing("tag")], UNEQUAL_LENGTHS, facts=sizes | facts)
-            yield Call("gcm_open_to", [*arguments, nothing("tag", False), tag], UNEQUAL_LENGTHS, facts=sizes | facts)
+            arguments = [gcm, unused_buffer("nonce", False), n, unused_buffer("additional", False), a, *unused_data("_to", t, k)]
+            yield Call("gcm_seal_to", [*arguments, unused_buffer("tag")], UNEQUAL_LENGTHS, facts=sizes | facts)
+            yield Call("gcm_open_to", [*arguments, unused_buffer("tag", False), tag], UNEQUAL_LENGTHS, facts=sizes | facts)
 
     def of_begin(self):
         nonces, wrong = self.nonce_refusals()
         for gcm, status, facts in [*wrong, (self.no_key, NO_KEY, nonces)]:
-            yield Call("gcm_begin", [gcm, nothing("message"), nothing("nonce", False), unknown("nonce")], status, facts=facts)
+            yield Call("gcm_begin", [gcm, unused_buffer("message"), unused_buffer("nonce", False), unknown("nonce")], status, facts=facts)
 
     def of_next(self):
         """NONCES_END comes before the others."""
         last, other = self.keyed.stays("counter", [255] * 12), self.keyed.stays("counter", [*self.keyed.nonce[:11], 254])
         refusals = [(last, one) for one in self.with_any_key(NONCES_END, [set()])] + [(other, one) for one in self.text_refusals()]
-        text = [nothing("additional", False), unknown("additional"), nothing("text"), unknown("text")]
+        text = [unused_buffer("additional", False), unknown("additional"), unused_buffer("text"), unknown("text")]
         for counter, (gcm, status, facts) in refusals:
-            yield Call("gcm_seal_next", [gcm, counter, nothing("nonce"), *text, nothing("tag")], status, facts=facts)
+            yield Call("gcm_seal_next", [gcm, counter, unused_buffer("nonce"), *text, unused_buffer("tag")], status, facts=facts)
         for counter, gcm, status in (last, self.key, NONCES_END), (last, self.no_key, NONCES_END), (other, self.no_key, NO_KEY):
-            yield Call("gcm_begin_next", [gcm, nothing("message"), counter, nothing("nonce")], status)
+            yield Call("gcm_begin_next", [gcm, unused_buffer("message"), counter, unused_buffer("nonce")], status)
 
     # Messages in pieces.
     def any_message(self, phase):
@@ -122,10 +122,10 @@ class Refusals:
         """A call that comes out of turn is refused and changes nothing, and so is one that would make the message longer than the standard
         allows."""
         n = unknown("n")
-        last = {"finish": [nothing("tag")], "accept": [Buffer("tag", self.keyed.in_block(self.keyed.tag, 0)), 16],
-                "accept_short": [12, nothing("tag", False), 12]}
+        last = {"finish": [unused_buffer("tag")], "accept": [Buffer("tag", self.keyed.in_block(self.keyed.tag, 0)), 16],
+                "accept_short": [12, unused_buffer("tag", False), 12]}
         for call, phases in TURNS.items():
-            arguments, sizes = last.get(call, [nothing("text"), n]), set() if call in last else between(n, 0, self.highest)
+            arguments, sizes = last.get(call, [unused_buffer("text"), n]), set() if call in last else facts_of_range(n, 0, self.highest)
             refusals = self.turn_refusals(phases)
             refusals += [(self.key, p, TOO_LONG, facts) for p in phases if call not in last for facts in self.too_long(call, n)]
             for gcm, phase, status, facts in refusals:
@@ -151,13 +151,13 @@ class Refusals:
         message_facts |= phase_facts
         for gcm in self.key, self.no_key:
             for length, facts in self.keyed.lengths_but((16,), "tag"):
-                yield Call("gcm_accept", [gcm, message, nothing("tag", False), length], TAG_LENGTH, facts=message_facts | facts)
+                yield Call("gcm_accept", [gcm, message, unused_buffer("tag", False), length], TAG_LENGTH, facts=message_facts | facts)
             for fixed, facts in self.keyed.lengths_but(SHORT_TAGS, "fixed"):
-                arguments = [gcm, message, fixed, nothing("tag", False), fixed]
+                arguments = [gcm, message, fixed, unused_buffer("tag", False), fixed]
                 yield Call("gcm_accept_short", arguments, TAG_LENGTH, facts=message_facts | facts)
             for fixed, facts in itertools.product(SHORT_TAGS, unequal(n, 0)):
-                yield Call("gcm_accept_short", [gcm, message, fixed, nothing("tag", False), n + fixed], TAG_LENGTH,
-                           facts=message_facts | between(n + fixed, 0, self.highest) | facts)
+                yield Call("gcm_accept_short", [gcm, message, fixed, unused_buffer("tag", False), n + fixed], TAG_LENGTH,
+                           facts=message_facts | facts_of_range(n + fixed, 0, self.highest) | facts)
 
     def of_short_tags(self):
         """NO_KEY and OUT_OF_TURN with tags of other lengths than 12."""
@@ -167,4 +167,5 @@ class Refusals:
             if p not in TURNS["accept_short"]:
                 refusals.append((self.key, OUT_OF_TURN))
             for gcm, status in refusals:
-                yield Call("gcm_accept_short", [gcm, message, fixed, nothing("tag", False), fixed], status, facts=message_facts | facts)
+                yield Call("gcm_accept_short", [gcm, message, fixed, unused_buffer("tag", False), fixed], status,
+                           facts=message_facts | facts)

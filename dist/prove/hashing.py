@@ -25,7 +25,7 @@ class Hashing:
     def __init__(self, keyed, value, made=0):
         self.keyed, self.value, self.plan, self.made = keyed, value, [], made
 
-    def take(self, groups):
+    def add_groups(self, groups):
         """Adds these groups to the plan. A group of zeros before which there are only zeros changes nothing."""
         for group in groups if not self.keyed.program.narrow else ([block] for group in groups for block in group):
             if any(self.value) or any(map(any, group)):

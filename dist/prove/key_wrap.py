@@ -2,7 +2,7 @@
 proves."""
 from bits import DATA
 from calls import Buffer, Call, Stream
-from keyed import DONE, INVALID_COUNT, NO_KEY, REFUSED, between, nothing, unequal
+from keyed import DONE, INVALID_COUNT, NO_KEY, REFUSED, facts_of_range, unused_buffer, unequal
 from linear import unknown
 from standards import ICV1, ICV2, ZEROS, number
 
@@ -193,11 +193,12 @@ class KeyWrap:
         n, k = unknown("n"), unknown("k")
 
         def calls(aes, n, k):
-            return (("aes_wrap", [aes, nothing("input", False), n, nothing("output"), k]),
-                    ("aes_unwrap", [aes, nothing("input", False), k, nothing("output"), n]))
+            return (("aes_wrap", [aes, unused_buffer("input", False), n, unused_buffer("output"), k]),
+                    ("aes_unwrap", [aes, unused_buffer("input", False), k, unused_buffer("output"), n]))
         for name, arguments in calls(none, n, k):
             yield Call(name, arguments, NO_KEY, facts=sizes)
-        counts = [(n, k, {n - k}), (n, k, {k - n - 2}), (0, 1, set()), (1, 2, set()), (n, n + 1, between(n, 1 << 54, self.highest - 1))]
+        counts = [(n, k, {n - k}), (n, k, {k - n - 2}), (0, 1, set()), (1, 2, set()),
+                  (n, n + 1, facts_of_range(n, 1 << 54, self.highest - 1))]
         for n, k, facts in counts if self.highest >> 54 else counts[:-1]:
             for name, arguments in calls(key, n, k):
                 yield Call(name, arguments, INVALID_COUNT, facts=(sizes if facts else set()) | facts)
@@ -207,20 +208,21 @@ class KeyWrap:
         n, k = unknown("n"), unknown("k")
 
         def wrap(aes, length):
-            return "aes_wrap_padded", [aes, nothing("input", False), length, nothing("output"), k]
+            return "aes_wrap_padded", [aes, unused_buffer("input", False), length, unused_buffer("output"), k]
 
         yield Call(*wrap(none, n), NO_KEY, facts=sizes)
         yield Call(*wrap(key, 0), INVALID_COUNT, facts=sizes)
         if self.highest >> 32:
-            yield Call(*wrap(key, n), INVALID_COUNT, facts=sizes | between(n, 1 << 32, self.highest))
+            yield Call(*wrap(key, n), INVALID_COUNT, facts=sizes | facts_of_range(n, 1 << 32, self.highest))
         for rest in range(1, 9):  # bytes in the last of n + 1 semiblocks
             for facts in unequal(k, n + 2):
-                yield Call(*wrap(key, n * 8 + rest), INVALID_COUNT, facts=sizes | between(n, 0, (1 << 29) - 1) | facts)
+                yield Call(*wrap(key, n * 8 + rest), INVALID_COUNT, facts=sizes | facts_of_range(n, 0, (1 << 29) - 1) | facts)
         key_length = self.length_of_key([0] * 8)
 
         def unwrap(aes, n, k):
-            return "aes_unwrap_padded", [aes, nothing("input", False), n, nothing("output"), k, key_length]
+            return "aes_unwrap_padded", [aes, unused_buffer("input", False), n, unused_buffer("output"), k, key_length]
 
         yield Call(*unwrap(none, n, k), NO_KEY, facts=sizes)
-        for n, k, facts in ((n, k, {k - n}), (n, k, {n - k - 2}), (1, 0, set()), (k + 1, k, between(k, (1 << 29) + 1, self.highest - 1))):
+        for n, k, facts in ((n, k, {k - n}), (n, k, {n - k - 2}), (1, 0, set()),
+                            (k + 1, k, facts_of_range(k, (1 << 29) + 1, self.highest - 1))):
             yield Call(*unwrap(key, n, k), INVALID_COUNT, facts=(sizes if facts else set()) | facts)

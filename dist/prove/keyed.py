@@ -153,7 +153,7 @@ class Keyed:
         """.. else KEY_LENGTH, and *aes then is all zeros and holds no key."""
         struct = self.struct_of(self.undefined(self.struct_size), [0] * self.struct_size)
         for length, facts in self.lengths_but(self.key_sizes, "length"):
-            yield Call(self.prefix + "_set_key", [struct, nothing("key", False), length], KEY_LENGTH, facts=facts)
+            yield Call(self.prefix + "_set_key", [struct, unused_buffer("key", False), length], KEY_LENGTH, facts=facts)
 
     def key_length(self):
         """Returns how many bytes the key has: 16, 24 or 32"""
@@ -223,9 +223,9 @@ class Keyed:
     def number_of_words(self, name):
         """Gives an unknown number of 64 bits, in one word or in two, and the facts of it."""
         if self.highest == WORD:
-            return unknown(name), between(unknown(name), 0, WORD)
+            return unknown(name), facts_of_range(unknown(name), 0, WORD)
         low, high = unknown(name + ", low"), unknown(name + ", high")
-        return low + high * (self.highest + 1), between(low, 0, self.highest) | between(high, 0, self.highest)
+        return low + high * (self.highest + 1), facts_of_range(low, 0, self.highest) | facts_of_range(high, 0, self.highest)
 
     def unknown_number(self, number):
         """Gives the bytes of a number of 64 bits that isn't known."""
@@ -244,17 +244,17 @@ class Keyed:
         return lengths_but(right, name, self.highest)
 
 
-def nothing(name, writable=True):
+def unused_buffer(name, writable=True):
     """Makes a buffer of which no byte is read or written."""
     return Buffer(name, [], [] if writable else None)
 
 
-def unread(way, n, k):
+def unused_data(way, n, k):
     """Gives the arguments for data that a call neither reads nor writes: n bytes, and with _to also k bytes of output."""
-    return [nothing("input", False), n, nothing("output"), k] if way == "_to" else [nothing("text"), n]
+    return [unused_buffer("input", False), n, unused_buffer("output"), k] if way == "_to" else [unused_buffer("text"), n]
 
 
-def between(n, low, high):
+def facts_of_range(n, low, high):
     """Gives the facts that say that a number is from `low` to `high`."""
     return {n - low, high - n}
 
@@ -267,4 +267,4 @@ def unequal(a, b):
 def lengths_but(right, name, most=WORD):
     """Gives all lengths but the right ones: (a length, the facts of it). The last of the right ones is the highest."""
     length = unknown(name)
-    return [(n, set()) for n in range(right[-1]) if n not in right] + [(length, between(length, right[-1] + 1, most))]
+    return [(n, set()) for n in range(right[-1]) if n not in right] + [(length, facts_of_range(length, right[-1] + 1, most))]

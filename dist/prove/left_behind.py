@@ -112,7 +112,7 @@ def named_bits(m, call):
     """Gives the bits that a statement names, by the kind of secret, and the cells of plain text. They are made once for each call."""
     if m.domain not in call.named:
         streams = [m.domain.moved(b, k) for a in call.streams for pattern in a.patterns for b in pattern for k in range(LAST - LEAD)]
-        known = {"keystream": call.keystream, "plain": call.plain, "result": streams, "step": call.between}
+        known = {"keystream": call.keystream, "plain": call.plain, "result": streams, "step": call.other_blocks}
         known = {kind: bits_of(m, bytes_) for kind, bytes_ in known.items()}
         cells = {cell for x in known["plain"] if not depends_bit(m, x, False) & KEY for cell in cells_of_bit(m, x)}
         call.named[m.domain] = known, cells

@@ -52,14 +52,14 @@ class GeneralStates:
 
     def add(self, key, general):
         self.at.setdefault(key, []).append(general)
-        self.follows(general, general.state.generals[:-1])
+        self.note_need(general, general.state.generals[:-1])
 
-    def follows(self, general, names):
+    def note_need(self, general, names):
         """Notes that the proof of these general states needs the proof of another one."""
         for name in names:
             self.after.setdefault(name, set()).add(general.name)
 
-    def needs(self, name):
+    def needed_states(self, name):
         """Gives all general states whose proof the proof of this one needs. No state may need itself, as in a loop that doesn't end."""
         out, waiting = set(), [name]
         while waiting:
@@ -72,13 +72,13 @@ class GeneralStates:
         """Whether this machine is in a general state that is proved anyway, so that its run can end."""
         for general in self.at.get(key, ()):
             passes = passes_to(m, general)
-            if passes is None or not {general.name, *self.needs(general.name)}.isdisjoint(m.generals):
+            if passes is None or not {general.name, *self.needed_states(general.name)}.isdisjoint(m.generals):
                 continue
             try:
                 check_instance(renumbered(m, general, passes), general, passes)
             except Unproved:
                 continue
-            self.follows(general, m.generals)
+            self.note_need(general, m.generals)
             self.left_out.append((general, m.copied()))
             return True
         return False

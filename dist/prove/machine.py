@@ -225,7 +225,7 @@ class Machine(Arithmetic, Borders, Unknowns, Bytewise, Results, Access):
                 if self.steps > limit:
                     raise Unproved("doesn't return")
         except (Pause, Question):  # the instruction runs again later
-            if any(isinstance(o, Memory) and o.before for o in self.program.at(self.last).operands):
+            if any(isinstance(o, Memory) and o.before for o in self.program.instruction_at(self.last).operands):
                 raise Unproved("asks something after a base register has moved") from None
             self.next_address, self.steps = here, self.steps - 1
             raise
@@ -242,7 +242,7 @@ class Machine(Arithmetic, Borders, Unknowns, Bytewise, Results, Access):
     def step(self):
         """Runs one instruction."""
         self.last, self.steps = self.next_address, self.steps + 1
-        instruction = self.program.at(self.last)
+        instruction = self.program.instruction_at(self.last)
         self.used[instruction.form] = self.last
         self.next_address, stack_pointer = instruction.next, self.general[self.stack_pointer]
         noted = self.program.noted

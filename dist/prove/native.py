@@ -76,7 +76,7 @@ class Native:
     def watch(self, m):
         """Runs the machine's last instruction on the processor, and compares both."""
         want = self.registers()
-        if self.processor.step(m.program.at(m.last).name, want["next"], m.after_external):
+        if self.processor.step(m.program.instruction_at(m.last).name, want["next"], m.after_external):
             have = self.processor.registers()
             wrong = ["%s is %x and not %x" % (r, have[r], x) for r, x in want.items() if x != have[r]]
             self.refuse(wrong + self.wrong_vectors([n for n, v in enumerate(m.vectors) if v is not self.seen[n]]))
@@ -173,7 +173,7 @@ class Alone:
 
     def compare(self, address):
         """Gives how often the processor agreed with a form of an instruction. Raises if it differs once."""
-        instruction, agreed, tries, k = self.program.at(address), 0, TRIES, 0
+        instruction, agreed, tries, k = self.program.instruction_at(address), 0, TRIES, 0
         while k < tries:
             self.random.seed("%s %d" % (instruction.form, k))  # so that a form always has the same values
             self.constant, self.words, k = k % 2, self.words_of(instruction, k), k + 1
@@ -199,7 +199,7 @@ def compare_all(program, used):
     try:
         for form, address in sorted(used.items()):
             try:
-                if program.at(address).name not in NEVER_ALONE and alone.compare(address):
+                if program.instruction_at(address).name not in NEVER_ALONE and alone.compare(address):
                     out.add(form)
             except Unproved as e:
                 raise Unproved("%s [alone: %s]" % (e, program.lines[address])) from None

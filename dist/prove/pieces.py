@@ -52,14 +52,14 @@ class Pieces:
         rest = self.in_block(self.rest, 0)[:filled] + piece
         if len(rest) >= 16:
             whole = (len(rest) - 16) // 16 * 16 + 16
-            hashing.take([[rest[:16]]] + in_groups(padded(rest[16:whole])))
+            hashing.add_groups([[rest[:16]]] + in_groups(padded(rest[16:whole])))
             rest = rest[whole:]
         return rest + [None] * (16 - len(rest))
 
     def end_additional(self, hashing, phase, additional):
         """Hashes the last block of the additional data, filled up with zeros, as the first piece of text does."""
         if phase == ADDITIONAL and additional % 16:
-            hashing.take([padded(self.in_block(self.rest, 0)[:additional % 16])])
+            hashing.add_groups([padded(self.in_block(self.rest, 0)[:additional % 16])])
 
     def additional(self, before, count):
         """Takes a piece of the additional data .. DONE"""

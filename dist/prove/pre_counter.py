@@ -74,7 +74,7 @@ def pre_counter_of(keyed, length=12, after_text=False):
         return PreCounter(keyed, keyed.nonce, [Buffer("nonce", keyed.nonce), 12], False, after_text)
     nonce = keyed.in_blocks(keyed.long_nonce, length)
     first = PreCounter(keyed, keyed.pre_counter, [Buffer("nonce", nonce), length], True, after_text)
-    first.hashing.take(in_groups(padded(nonce)) + [[block_of_lengths(0, length)]])
+    first.hashing.add_groups(in_groups(padded(nonce)) + [[block_of_lengths(0, length)]])
     first.hashing.end_as(first.block(0))
     return first
 

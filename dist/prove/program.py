@@ -75,7 +75,7 @@ class Program:
         """Gives what the cases that ran cover. (An instruction that was decoded ran.)"""
         return self.noted.covered(self.cache)
 
-    def at(self, address):
+    def instruction_at(self, address):
         """Gives the instruction at an address."""
         if address not in self.cache:
             if address not in self.lines:

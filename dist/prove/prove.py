@@ -34,14 +34,14 @@ def say_what_ran(tasks, options):
     for assembly, own in tasks_of.items():
         program = Program(own[0].path, own[0].machine, suffix_of(own[0].build))
         covered = joined_coverage([task.covered for task in own])
-        found = uncovered.of_program(program, covered)
+        found = uncovered.uncovered_functions(program, covered)
         builds = {build for build in BUILDS if assembly_of(build) == assembly}
         is_whole = not options.only and options.keys == KEY_SIZES and builds <= {task.build for task in own}
         print("%s.s: %s%s" % (assembly, uncovered.summary(program, found), "" if options.level and is_whole else "; not judged here"))
         if options.lines:
             say_of_functions(assembly, program, found)
         if is_whole:
-            whole[assembly] = program, uncovered.of_program(program, covered, True)
+            whole[assembly] = program, uncovered.uncovered_functions(program, covered, True)
             faults += ["%s.s, %s" % (assembly, fault) for fault in without_case(program, own)]
     faults += judge(whole, {assembly_of(task.build) for task in tasks if task.failed}, options)
     for fault in faults:

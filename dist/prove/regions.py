@@ -39,7 +39,7 @@ class Window(Region):
         self.undoes = False  # whether its blocks become again what they were
         self.waits = False  # whether its patterns are of a later domain: a call that expands a key begins in another one
 
-    def at(self, m):
+    def bytes_before(self, m):
         """Gives how far `content` begins after the block with number LEAD."""
         at = self.origin - self.unit * m.first_block
         if not is_int(at):
@@ -48,7 +48,7 @@ class Window(Region):
 
     def extend(self, m, count):
         """Extends `content` to this number of bytes."""
-        for i in range(self.at(m) + len(self.content), self.at(m) + count):
+        for i in range(self.bytes_before(m) + len(self.content), self.bytes_before(m) + count):
             self.content.append(m.domain.moved(self.initial[i % self.unit], i // self.unit))
 
     @property
@@ -78,13 +78,13 @@ class Window(Region):
         want, unit = self.want, self.unit
         if callable(want):
             want = want(m, self.origin // unit if is_int(self.origin) else self.origin.divided(unit)[0])
-        return [x if x is None else m.domain.moved(x, self.at(m) // unit) for x in want]
+        return [x if x is None else m.domain.moved(x, self.bytes_before(m) // unit) for x in want]
 
     def settle(self, m):
         """Drops the first blocks of `content` if they are what they have to be. A block that is as it was stays."""
         unit = self.unit
         while len(self.content) >= unit:
-            have, before = self.content[:unit], [m.domain.moved(x, self.at(m) // unit) for x in self.initial]
+            have, before = self.content[:unit], [m.domain.moved(x, self.bytes_before(m) // unit) for x in self.initial]
             if have == before or have != self.wanted(m):
                 return
             self.origin, self.content = self.origin + unit, self.content[unit:]

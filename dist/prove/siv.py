@@ -8,7 +8,7 @@ from bits import DATA, KEY
 from calls import Buffer, Call, Stream, compare
 from gcm_header import DONE, NO_KEY, REFUSED, TOO_LONG, UNEQUAL_LENGTHS
 from hashing import Hashing, KeyedHash, in_groups
-from keyed import NEVER, CounterWord, between, nothing, unequal, unread
+from keyed import NEVER, CounterWord, facts_of_range, unused_buffer, unequal, unused_data
 from linear import unknown
 from operands import Number
 from standards import ZEROS, dot, mulx_ghash, padded, product
@@ -90,7 +90,7 @@ class KeyedSiv(KeyedHash):
         lengths = (little(8 * len(additional), 8) + little(8 * len(text), 8))[::-1]
         first, second = ([b[::-1] for b in padded(s)] for s in (additional, text))
         groups = [[b] for b in first + second + [lengths]] if few else in_groups(first) + in_groups(second + [lengths])
-        return few, hashing.take(groups)
+        return few, hashing.add_groups(groups)
 
     def tagged(self, value):
         """Gives the block that is encrypted to the tag: the sum of this value and the nonce, with the highest bit 0. Also gives arbitrary
@@ -187,7 +187,7 @@ class KeyedSiv(KeyedHash):
         return self.any_message(
             "open", way, sizes, sealed, opened, [self.first_counter(tag), ("whole", place, (plain, undone, True))],
             lambda m: [("memory", *right(m)[:2]), self.first_counter(tag), *zeros], Buffer("tag", tag), plain + opened,
-            reveals=lambda m: self.aes.xor(tag, right(m)[2]), refused=REFUSED, undone=True, between=self.in_all_blocks(undone))
+            reveals=lambda m: self.aes.xor(tag, right(m)[2]), refused=REFUSED, undone=True, other_blocks=self.in_all_blocks(undone))
 
     def any_texts(self, additional, text):
         """Gives the sizes, the patterns of a plain text and of the encrypted text, and the tag."""
@@ -212,14 +212,14 @@ class KeyedSiv(KeyedHash):
         """TOO_LONG or NO_KEY: .. A call that doesn't return DONE has changed nothing. With _to: UNEQUAL_LENGTHS, TOO_LONG or NO_KEY"""
         a, t, k, none, key = unknown("additional"), unknown("text"), unknown("output"), self.no_key(), self.schedule()
         most = min(MOST, self.highest)
-        fits, long = between(a, 0, most) | between(t, 0, most), []
+        fits, long = facts_of_range(a, 0, most) | facts_of_range(t, 0, most), []
         if self.highest > MOST:  # (else no buffer is too long)
-            long = [between(a, MOST + 1, self.highest) | between(t, 0, self.highest),
-                    between(a, 0, MOST) | between(t, MOST + 1, self.highest)]
+            long = [facts_of_range(a, MOST + 1, self.highest) | facts_of_range(t, 0, self.highest),
+                    facts_of_range(a, 0, MOST) | facts_of_range(t, MOST + 1, self.highest)]
         late = [(none, NO_KEY, fits, t), *((siv, TOO_LONG, facts, t) for siv in (key, none) for facts in long)]
-        sizes = {f for x in (a, t, k) for f in between(x, 0, self.highest)}
+        sizes = {f for x in (a, t, k) for f in facts_of_range(x, 0, self.highest)}
         first = [(siv, UNEQUAL_LENGTHS, sizes | facts, k) for siv in (key, none) for facts in unequal(t, k)]
         for way, (siv, status, facts, output) in [("", one) for one in late] + [("_to", one) for one in first + late]:
-            arguments = [siv, nothing("nonce", False), nothing("additional", False), a, *unread(way, t, output)]
-            yield Call("gcm_siv_seal" + way, [*arguments, nothing("tag")], status, facts=facts)
-            yield Call("gcm_siv_open" + way, [*arguments, nothing("tag", False)], status, facts=facts)
+            arguments = [siv, unused_buffer("nonce", False), unused_buffer("additional", False), a, *unused_data(way, t, output)]
+            yield Call("gcm_siv_seal" + way, [*arguments, unused_buffer("tag")], status, facts=facts)
+            yield Call("gcm_siv_open" + way, [*arguments, unused_buffer("tag", False)], status, facts=facts)

@@ -120,7 +120,7 @@ def run_all(pool, options):
         yield future.result()
 
 
-def alone(path, machine, used):
+def compare_each_form(path, machine, used):
     """Compares each form by itself. Gives the forms that the processor didn't confirm, and the text of a difference."""
     try:
         return set(used) - compare_all(Program(path, machine), used), ""
@@ -137,7 +137,7 @@ def compare_forms(pool, tasks):
     programs, lacking, differed = {}, [], 0
     for (machine, form), (path, address) in forms.items():
         programs.setdefault((path, machine), {})[form] = address
-    futures = [(pool.submit(alone, path, machine, dict(part)), path, machine) for (path, machine), used in programs.items()
+    futures = [(pool.submit(compare_each_form, path, machine, dict(part)), path, machine) for (path, machine), used in programs.items()
                for part in lanes(sorted(used.items()), 200)]
     for future, path, machine in futures:
         without, fault = future.result()

@@ -138,7 +138,7 @@ def recorded_name(name):
     return re.sub(r"^\w+_v\d\.|_v\d$", "", name)
 
 
-def of_program(program, covered, by_accepted=False):
+def uncovered_functions(program, covered, by_accepted=False):
     """Gives {a function: Uncovered} of a program whose cases cover this (noted.Covered). Functions that are covered are left out. With
     `by_accepted` the ways of refusals don't count."""
     run_addresses, same, follows = covered.run_addresses, covered.results, covered.following

@@ -16,7 +16,7 @@ class WholeMessages:
         """Gives the additional data, the encrypted text, and GHASH of both."""
         additional, sealed = self.in_blocks(self.additional_bytes, additional_length), self.in_blocks(self.sealed, text_length)
         hashing = Hashing(self, ZEROS, first.hashing.made)
-        hashing.take(in_groups(padded(additional)) + in_groups(padded(sealed) + [block_of_lengths(additional_length, text_length)]))
+        hashing.add_groups(in_groups(padded(additional)) + in_groups(padded(sealed) + [block_of_lengths(additional_length, text_length)]))
         return Buffer("additional", additional), sealed, hashing
 
     def seal(self, additional_length, text_length, nonce=(), way="", name="gcm_seal", first=None, **more):
