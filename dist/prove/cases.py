@@ -11,13 +11,13 @@ from gcm_header import ADDITIONAL, ENCRYPTING, MOST, MOST_ADDITIONAL, MOST_NONCE
 from headers import version
 from linking import takes_few
 from pre_counter import ANY_J_0_NONCE, CarryTo
-from remainders import AMONG_REMAINDERS, DIRECTIONS, EVERY, FEW, LENGTHS, LONGEST_CCM, PAIRS
+from remainders import AMONG_REMAINDERS, DIRECTIONS, EVERY, FEW, LENGTHS, LONGEST_CCM, PAIRS, TABLES, AtLengths
 from riscv import Riscv
 
-# A statement (a method of KeyedAes, KeyedGcm or KeyedSiv), a description of its arguments, and lists of these. The page says which builds
-# and keys take a list. All builds take `most` but those that takes_few (linking.py) names: these are compiled from the sources of the
-# others. Keys of 24 and 32 bytes take each call once, and the code that loops over round keys. Only the builds of FIRST take `remainders`
-# and `lengths_24_32`. These are other remainders of lengths, and each call at every length with keys of 24 and 32 bytes.
+# A statement (a method of KeyedAes, KeyedGcm or KeyedSiv, or one of TABLES), a description of its arguments, and lists of these. The page
+# says which builds and keys take a list. All builds take `most` but those that takes_few (linking.py) names: these are compiled from the
+# sources of the others. Keys of 24 and 32 bytes take each call once, and the code that loops over round keys. Only the builds of FIRST take
+# `remainders` and `lengths_24_32`. These are other remainders of lengths, and each call at every length with keys of 24 and 32 bytes.
 Row = collections.namedtuple("Row", "name what each most first remainders keys_24_32 lengths_24_32 all_", defaults=[()] * 7)
 ONCE = [()]  # no arguments
 FIRST = "x86_64/aes", "x86_64/siv", "x86_64/gcm"  # the builds that take `first` with PROVE=builds
@@ -288,7 +288,7 @@ def statements(keyed, options, part, parts):
             values = as_tuple(values)
             what = name_of(row, values)
             if options.only in what and next(number) % parts == part:
-                yield what, getattr(keyed, row.name)(*values)
+                yield what, AtLengths(keyed, row.name, *values) if row.name in TABLES else getattr(keyed, row.name)(*values)
     for call in keyed.refused():
         refusals[call.name] += 1
         if options.only in call.name + " refused" and next(number) % parts == part:

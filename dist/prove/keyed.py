@@ -91,16 +91,6 @@ class Keyed:
             self.calls.add(call.name)
         return m
 
-    def at_ends(self, name):
-        """States a call at lengths that leave each remainder."""
-        from remainders import LENGTHS, AtLengths  # (which needs this file)
-        return AtLengths(self, name, LENGTHS)
-
-    def at_pairs(self, name):
-        """States a call at lengths that leave each pair of remainders by 16."""
-        from remainders import PAIRS, AtLengths
-        return AtLengths(self, name, PAIRS)
-
     def made_once(self, what, make):
         """Gives what several statements need. It is made when it is first asked for."""
         if what not in self.cache:

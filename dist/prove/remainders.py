@@ -92,11 +92,14 @@ FEW = {
     "seal": FEW_GCM[::2], "open": FEW_GCM[1::2]}
 
 
-class AtLengths:
-    """The calls of a statement at these lengths. Each call is made when it is proved."""
+TABLES = {"at_ends": LENGTHS, "at_pairs": PAIRS}
 
-    def __init__(self, keyed, name, lengths):
-        self.make, self.all = getattr(keyed, name), lengths[keyed.library][name]
+
+class AtLengths:
+    """The calls of a statement at the lengths of one of these tables. Each call is made when it is proved."""
+
+    def __init__(self, keyed, table, name):
+        self.make, self.lengths = getattr(keyed, name), TABLES[table][keyed.library][name]
 
     def __iter__(self):
-        return (self.make(*values) for values in self.all)
+        return (self.make(*values) for values in self.lengths)
