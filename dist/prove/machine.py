@@ -26,6 +26,7 @@ beginning of a line of objdump.
     red_zone               bytes below the stack pointer that a function may use
     stack_step             a number that has to divide the stack pointer if it is the base of an access
     landing_mark           a pattern of instructions where an indirect call may arrive, if a processor looks for that
+    jumps_to_mark          a pattern of jumps and calls that have to arrive at such an instruction
     jumps, returns         patterns of jumps to an address that are no calls, and of returns from a function
     conditional            a pattern of conditional jumps and of adds with carry
     padding                a pattern of instructions that only fill up space
