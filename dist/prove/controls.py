@@ -72,12 +72,12 @@ def refuse_unreached(found, usual):
 
 
 class Planted:
-    """Keeps the assembly of a build, in which faults are planted, and the cases that the build takes."""
+    """Keeps the assembly of a build, in which faults are planted, and the cases that the build takes with keys of one size."""
 
-    def __init__(self, options, build):
+    def __init__(self, options, build, key_size=16):
         self.build, self.out = build, "%s/controls_%s" % (options.out, build.replace("/", "_"))
         self.assembly = open(source(options.dist, build)).read()
-        self.keyed = LIBRARIES[build.split("/")[1][:3]][0](assemble(build, source(options.dist, build), self.out), 16)
+        self.keyed = LIBRARIES[build.split("/")[1][:3]][0](assemble(build, source(options.dist, build), self.out), key_size)
         self.keyed.set_key()
         level = "all" if takes_few(build) else "builds"
         self.cases = dict(statements(self.keyed, argparse.Namespace(dist=options.dist, level=level, only=""), 0, 1), set_key=None)
@@ -90,7 +90,7 @@ class Planted:
         keyed.program = assemble(self.build, self.out + ".s", self.out)
         for case in cases:
             keyed.program.noted.accepts = "refused" not in case
-            keyed.prove_statement(self.cases[case]) if self.cases[case] else type(keyed)(keyed.program, 16).set_key()
+            keyed.prove_statement(self.cases[case]) if self.cases[case] else type(keyed)(keyed.program, keyed.key_size).set_key()
         refuse_lines(self.out + ".s", BUILDS[self.build])
 
     def left_by(self, assembly, cases, function):
@@ -112,13 +112,12 @@ class Planted:
 
 def try_faults(options, build):
     """Tries the faults of one build."""
-    planted, verdicts = Planted(options, build), []
-    for fault in faults_of(build):
-        if not {*fault.cases()} <= planted.cases.keys():
+    faults = [fault for fault in faults_of(build) if options.only in fault.what]
+    planted = {size: Planted(options, build, size) for size in {fault.key_size for fault in faults}}
+    for fault in faults:
+        if not {*fault.cases()} <= planted[fault.key_size].cases.keys():
             raise SystemExit("controls: %s: no such case: %s" % (fault.what, fault.case))
-        if options.only in fault.what:
-            verdicts.append(planted.try_fault(fault))
-    return verdicts
+    return [planted[fault.key_size].try_fault(fault) for fault in faults]
 
 
 # Wrong meanings: the processor has to disagree.

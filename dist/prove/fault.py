@@ -3,14 +3,15 @@ does, and not by the registers that the compiler took, where that can be."""
 from collections import namedtuple
 
 
-class Fault(namedtuple("Fault", "what label found becomes case")):
+class Fault(namedtuple("Fault", "what label found becomes case key_size", defaults=[16])):
     """An edit of one place in the assembly of a build.
 
         what        what is wrong then
         label       a pattern of the label that the place is behind: of a function, or of a table
         found       a pattern of what is looked for there
         becomes     what the first match of it becomes: a template, or a function of the match
-        case        the case of `make prove` that has to refuse it. In unreached_faults.py: the cases that run the function"""
+        case        the case of `make prove` that has to refuse it. In unreached_faults.py: the cases that run the function
+        key_size    how many bytes a key has in these cases"""
 
     def cases(self):
         """Gives the names in `case`."""

@@ -57,6 +57,17 @@ UNREACHED_FAULTS = {
               becomes=r"\1\tmovq\t%rdx, -24(%rsp)\n\tmovl\t%edx, %eax\n\tandl\t$15, %eax\n\tmovb\t$0, -32(%rsp,%rax)\n"
                       r"\tmovq\t-24(%rsp), %rdx\n",
               case="any_cmac 1; any_cmac 16"),
+        Fault("messages of 16 n + 8 bytes without the low byte of their length, by a copy of libc to where the length says",
+              exported("aes_cmac"), found=ENTRY,
+              becomes=r"\1\tpushq\t%rdi\n\tpushq\t%rsi\n\tpushq\t%rcx\n\tpushq\t%r8\n\tpushq\t%rdx\n\tsubq\t$16, %rsp\n"
+                      r"\tmovl\t%edx, %eax\n\tandl\t$15, %eax\n\tleaq\t8(%rsp,%rax), %rdi\n\txorl\t%esi, %esi\n\tmovl\t$1, %edx\n"
+                      r"\tcallq\t*memset@GOTPCREL(%rip)\n\taddq\t$16, %rsp\n"
+                      r"\tpopq\t%rdx\n\tpopq\t%r8\n\tpopq\t%rcx\n\tpopq\t%rsi\n\tpopq\t%rdi\n",
+              case="any_cmac 1; any_cmac 16"),
+        Fault("messages of 8 n + 5 bytes without the last one, by a table that is written to the stack", exported("aes_cmac"), found=ENTRY,
+              becomes=r"\1\tmovabsq\t$0x10000000000, %rax\n\tmovq\t%rax, -16(%rsp)\n\tmovl\t%edx, %eax\n\tandl\t$7, %eax\n"
+                      r"\tleaq\t-16(%rsp), %r11\n\taddq\t%rax, %r11\n\tmovzbl\t(%r11), %eax\n\tsubq\t%rax, %rdx\n",
+              case="any_cmac 1; any_cmac 16"),
         Fault("16 n + 4 blocks without four, put together of two parts, in a function that is given fewer than the call", IN_BATCHES,
               *in_two_parts("rcx"), case="any_blocks encrypt 1; any_blocks encrypt 9; blocks encrypt 16"),
         Fault("messages of 52 to 59 bytes compared without the last one", exported("aes_cmac_verify"), *one_less_between("rdx", 52, 60),
