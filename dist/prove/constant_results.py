@@ -81,9 +81,9 @@ class Results(Followings):
     """Notes the results of the instructions that a machine runs."""
 
     # Each machine describes its instructions with these. How names begin: those of instructions without a result, of those that store, and
-    # of those that don't read their first operand. Whole names: those of instructions with two results, of comparisons, of moves, of instructions that give
-    # 0 if their operands are the same, and of those that clear all of a vector but the first eight bytes. `implicit` is {name: registers
-    # that the operands don't name}.
+    # of those that don't read their first operand. Whole names: those of instructions with two results, of comparisons, of moves, of
+    # instructions that give 0 if their operands are the same, and of those that clear all of a vector but the first eight bytes. `implicit`
+    # is {name: registers that the operands don't name}.
     stores, two_results, compares, first_lane, implicit = "(?!)", "(?!)", "(?!)", "(?!)", {}
 
     def run_noted(self, instruction):
