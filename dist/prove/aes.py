@@ -14,6 +14,8 @@ from regions import Window
 from single_rounds import SingleRounds
 from standards import number
 
+LEFT_OF_CBC = {"data": 16 * BATCH}  # bytes of encrypted blocks that may stay after CBC decryption
+
 
 class KeyedAes(SingleRounds, CmacCcm, KeyWrap, Keyed):
     """Has the statements for all calls of fotsgure_aes.h. Those for blocks, counter mode and CBC are here."""
@@ -83,7 +85,8 @@ class KeyedAes(SingleRounds, CmacCcm, KeyWrap, Keyed):
         between = self.pattern(self.ciphers["decrypt"])
         want = self.aes.xor(between, previous)
         cbc = Buffer("cbc", previous, self.in_last_block(content, count))
-        return self.call_of_any_count("aes_cbc_decrypt", [cbc], content, want, count, count * 16, want + between)
+        return self.call_of_any_count("aes_cbc_decrypt", [cbc], content, want, count, count * 16, want + between,
+                                      may_stay=LEFT_OF_CBC)
 
     def any_cbc_encrypt(self):
         """States CBC encryption of every length. A plain block has the number of the encrypted block before it."""
@@ -210,7 +213,7 @@ class KeyedAes(SingleRounds, CmacCcm, KeyWrap, Keyed):
         between = self.result_blocks("decrypt", count)
         want = self.aes.xor(between, chain)
         return Call("aes_cbc_decrypt", [self.schedule(), Buffer("cbc", previous, chain[-16:]), Buffer("blocks", content, want), count],
-                    DONE, plain=want + between)  # (what the cipher gives reveals the text)
+                    DONE, plain=want + between, may_stay=LEFT_OF_CBC)  # (what the cipher gives reveals the text)
 
     def chain(self):
         """Gives any value before a block of a chain, and Cipher of the sum of the value and the block."""

@@ -3,9 +3,9 @@ from bits import DATA, KEY, Unproved
 from operands import LAST, LEAD, Content, Verdict
 
 KINDS = "key", "inner", "difference", "plain", "step", "keystream", "result", "data"  # of what is left; see `kind_of_secret`
-# How many bytes of a kind any call may leave on the stack. A call that adds keystream may leave what it keeps of a batch. The other kinds
-# are copies of blocks of the result, of encrypted blocks, and of tags.
-MAY_STAY = {"keystream": 112, "result": 32, "data": 112}
+# How many bytes of a kind any call may leave on the stack. A call that adds keystream may leave eight blocks of it. The other kinds are
+# copies of blocks of the result and of tags.
+MAY_STAY = {"keystream": 128, "result": 32, "data": 16}
 REGISTER_OF_A_COPY = 8  # bytes of text that may be left on the stack by a copy between buffers that overlap
 IN_BUFFERS, IN_A_MESSAGE = "the caller's buffers, perhaps for a while", "a message"
 MAY_NOT_COME = "key", "inner"  # to buffers
