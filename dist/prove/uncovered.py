@@ -100,6 +100,12 @@ SAME = [
      "or of a number that is too large. Others ask how many whole batches come first."),
     ("x86_64/.*", r"add_in_batches\.\w+|add_gctr|fotsgure_\w+|zeroize\.\w+\.\w+|siv\.prepare",
      "It stores zeros where it wipes, in structs and on the stack, and the length of a key."),
+    ("x86_64/.*", r"process_on_planes|lend_planes_to_encrypt|siv\.(open|seal)_in", "memset wipes what a function used of the stack, which "
+     "isn't always at the same depth."),
+    ("x86_64/.*", "process_planes", "The round keys on planes aren't always at the same depth of the stack. A round key is as far from the "
+     "first one each time."),
+    ("x86_64/.*", r"chaining\.chain|hash_piece|put_mask", "It reads an address from a struct on the stack, which isn't always at the same "
+     "depth. The address is that of the key."),
     ("x86_64/gcm", r"keys\.derive", "It stores the numbers of the blocks from which keys are derived (RFC 8452, 4)."),
     ("x86_64/aes", r"tags\.tag", "It stores the byte 128 after a message, which may end anywhere in a block (SP 800-38B, 6.2)."),
 ]
