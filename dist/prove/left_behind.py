@@ -6,7 +6,8 @@ KINDS = "key", "inner", "difference", "plain", "step", "keystream", "result", "d
 # How many bytes of a kind any call may leave on the stack. A call that adds keystream may leave eight blocks of it. The other kinds are
 # copies of blocks of the result and of tags.
 MAY_STAY = {"keystream": 128, "result": 32, "data": 16}
-REGISTER_OF_A_COPY = 8  # bytes of text that may be left on the stack by a copy between buffers that overlap
+# How many bytes of text a copy between buffers that overlap may leave on the stack. It may have copied them before they were right.
+REGISTER_OF_A_COPY, OF_A_COPY = 8, ("plain", "step")
 IN_BUFFERS, IN_A_MESSAGE = "the caller's buffers, perhaps for a while", "a message"
 MAY_NOT_COME = "key", "inner"  # to buffers
 MAY_NOT_BE = {IN_BUFFERS: MAY_NOT_COME, IN_A_MESSAGE: (*MAY_NOT_COME, "difference", "plain")}
@@ -27,7 +28,7 @@ def nothing_secret(m, call):
 
 def may_stay_on_stack(m, call, kind):
     """Gives how many bytes of a kind a call may leave on the stack."""
-    of_a_copy = REGISTER_OF_A_COPY if kind == "plain" and m.says_buffers_overlap() else 0
+    of_a_copy = REGISTER_OF_A_COPY if kind in OF_A_COPY and m.says_buffers_overlap() else 0
     return max(MAY_STAY.get(kind, 0), call.may_stay.get(kind, 0), of_a_copy)
 
 
