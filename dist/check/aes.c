@@ -1,4 +1,4 @@
-/* The library from C. The last line is `N passed, M failed`. It tries:
+/* The library from C. The last line is `PROGRAM: N passed, M failed`. It tries:
  * - FIPS 197, appendix C, in both directions; slices of 0 to 40 blocks against single calls; single rounds;
  * - SP 800-38A, F.5 and F.2, cut at every place;
  * - key wrap by RFC 3394 and RFC 5649; CMAC by SP 800-38B, D.1 to D.3; CCM by SP 800-38C, C.1 to C.3;

@@ -1,9 +1,15 @@
-/* What the tests share: they count what holds and what fails, read hex digits, and end with the line `N passed, M failed`. */
+/* What the tests share: they count what holds and what fails, read hex digits, and end with the line
+ * `PROGRAM: N passed, M failed`. */
 #ifndef CHECK_H
 #define CHECK_H
 
 #include <stdint.h>
 #include <stdio.h>
+
+/* The Makefile names the program, and by that the build that it tests. Otherwise it is the source file. */
+#ifndef FOTSGURE_CHECK_NAME
+#define FOTSGURE_CHECK_NAME __BASE_FILE__
+#endif
 
 static int passed, failed;
 
@@ -37,7 +43,7 @@ static inline size_t from_hex(uint8_t *bytes, const char *digits)
 /* Prints the last line, and returns the program's status. */
 static inline int finish(void)
 {
-    printf("%d passed, %d failed\n", passed, failed);
+    printf("%s: %d passed, %d failed\n", FOTSGURE_CHECK_NAME, passed, failed);
     return failed != 0;
 }
 

@@ -1,6 +1,6 @@
 /* What a shared library asks of the loader. It may have no text relocation, no executable stack, no segment that is both
  * writable and executable, and no function that is bound at its first use. Its exports are exactly those that are named.
- * usage: elf LIBRARY EXPORT .. */
+ * usage: elf LIBRARY EXPORT ..    (the last line begins with the name of the library) */
 #include <elf.h>
 #include <stdio.h>
 #include <stdlib.h>
@@ -94,5 +94,6 @@ int main(int count, char **words)
     segments(bytes, head);
     exports(bytes, head, count - 2, words + 2);
     free(bytes);
+    printf("%s: ", words[1]);
     return finish();
 }

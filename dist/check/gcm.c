@@ -1,4 +1,4 @@
-/* The library of GCM from C. AES-GCM-SIV is in siv.h. The last line is `N passed, M failed`. It tries:
+/* The library of GCM from C. AES-GCM-SIV is in siv.h. The last line is `PROGRAM: N passed, M failed`. It tries:
  * - test cases 1 to 4, 13 and 16 of the submission of GCM (McGrew and Viega, appendix B), also from buffer to buffer;
  * - nonces under which the counter wraps;
  * - texts of 0 to 700 bytes there and back, and with WITH_OPENSSL against OpenSSL;

@@ -1,5 +1,5 @@
 /* The call that draws a nonce, over a system that is played here. It tries what the call asks the system for, that it
- * continues after a signal, and that without randomness nothing is written. The last line is `N passed, M failed`. */
+ * continues after a signal, and that without randomness nothing is written. The last line is `PROGRAM: N passed, M failed`. */
 #include <fotsgure_gcm.h>
 #include <errno.h>
 #include <stdio.h>
