@@ -7,7 +7,7 @@
 mod message;
 mod siv;
 
-pub use message::{Message, NotTaken};
+pub use message::{Message, NotAccepted};
 pub use siv::GcmSiv;
 
 use crate::{boxed, Aes, InvalidLength};

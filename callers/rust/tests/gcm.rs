@@ -1,6 +1,6 @@
 //! GCM and AES-GCM-SIV through this crate: the standards' examples, whole and in pieces, and every refusal.
 
-use fotsgure_aes::gcm::{Counter, Gcm, GcmSiv, NotSealed, NotTaken, Refused};
+use fotsgure_aes::gcm::{Counter, Gcm, GcmSiv, NotAccepted, NotSealed, Refused};
 use fotsgure_aes::Aes;
 
 // Test case 4 of the submission of GCM (McGrew and Viega, appendix B).
@@ -97,7 +97,7 @@ fn case_4_in_pieces() {
             let mut opened = text.clone();
             opened.chunks_mut(size).try_for_each(|piece| message.decrypt(piece)).unwrap();
             assert_eq!(opened, bytes_of(PLAIN));
-            assert_eq!(message.decrypt(&mut [0]), Err(NotTaken::TooLong));
+            assert_eq!(message.decrypt(&mut [0]), Err(NotAccepted::TooLong));
         }
     }
 }
@@ -108,15 +108,15 @@ fn pieces_that_are_refused() {
     let (gcm, cipher, tag) = (gcm(), bytes_of(CIPHER), bytes_of(TAG));
     let mut message = gcm.begin(&bytes_of(NONCE)).unwrap();
     message.verify(&cipher).unwrap();
-    assert_eq!(message.additional(b""), Err(NotTaken::OutOfTurn));
-    assert_eq!(message.decrypt(&mut [0]), Err(NotTaken::OutOfTurn));
-    assert_eq!(message.accept(&tag), Err(NotTaken::Refused));
-    assert_eq!(message.accept(&tag[..15]), Err(NotTaken::Refused));
-    assert_eq!(message.accept_short(12, &tag[..12]), Err(NotTaken::Refused));
-    assert_eq!(message.accept_short(12, &tag[..11]), Err(NotTaken::Refused));
-    assert_eq!(message.accept_short(11, &tag[..11]), Err(NotTaken::Refused));
-    assert_eq!(message.encrypt(&mut [0]), Err(NotTaken::OutOfTurn));
-    assert_eq!(message.finish(), Err(NotTaken::OutOfTurn));
+    assert_eq!(message.additional(b""), Err(NotAccepted::OutOfTurn));
+    assert_eq!(message.decrypt(&mut [0]), Err(NotAccepted::OutOfTurn));
+    assert_eq!(message.accept(&tag), Err(NotAccepted::Refused));
+    assert_eq!(message.accept(&tag[..15]), Err(NotAccepted::Refused));
+    assert_eq!(message.accept_short(12, &tag[..12]), Err(NotAccepted::Refused));
+    assert_eq!(message.accept_short(12, &tag[..11]), Err(NotAccepted::Refused));
+    assert_eq!(message.accept_short(11, &tag[..11]), Err(NotAccepted::Refused));
+    assert_eq!(message.encrypt(&mut [0]), Err(NotAccepted::OutOfTurn));
+    assert_eq!(message.finish(), Err(NotAccepted::OutOfTurn));
     assert_eq!(gcm.begin(b"").unwrap_err(), NotSealed::NonceLength);
 }
 

@@ -6,7 +6,7 @@ use std::fmt;
 
 /// Why a call for a piece was refused. The message stays as it was.
 #[derive(Debug, Clone, Copy, PartialEq, Eq)]
-pub enum NotTaken {
+pub enum NotAccepted {
     /// The call came at a time when it may not: additional data after text, text after the end, `decrypt` before
     /// `accept`.
     OutOfTurn,
@@ -16,26 +16,26 @@ pub enum NotTaken {
     Refused,
 }
 
-impl fmt::Display for NotTaken {
+impl fmt::Display for NotAccepted {
     fn fmt(&self, f: &mut fmt::Formatter<'_>) -> fmt::Result {
         f.write_str(match self {
-            NotTaken::OutOfTurn => {
+            NotAccepted::OutOfTurn => {
                 "the calls came in the wrong order, for example text after finish, or decrypt before accept"
             }
-            NotTaken::TooLong => "there are more bytes than GCM allows, or than were verified",
-            NotTaken::Refused => "the message was refused",
+            NotAccepted::TooLong => "there are more bytes than GCM allows, or than were verified",
+            NotAccepted::Refused => "the message was refused",
         })
     }
 }
 
-impl std::error::Error for NotTaken {}
+impl std::error::Error for NotAccepted {}
 
-fn taken(status: u32) -> Result<(), NotTaken> {
+fn accepted(status: u32) -> Result<(), NotAccepted> {
     match status {
         c::FOTSGURE_GCM_DONE => Ok(()),
-        c::FOTSGURE_GCM_TOO_LONG => Err(NotTaken::TooLong),
-        c::FOTSGURE_GCM_TAG_LENGTH | c::FOTSGURE_GCM_REFUSED => Err(NotTaken::Refused),
-        c::FOTSGURE_GCM_OUT_OF_TURN => Err(NotTaken::OutOfTurn),
+        c::FOTSGURE_GCM_TOO_LONG => Err(NotAccepted::TooLong),
+        c::FOTSGURE_GCM_TAG_LENGTH | c::FOTSGURE_GCM_REFUSED => Err(NotAccepted::Refused),
+        c::FOTSGURE_GCM_OUT_OF_TURN => Err(NotAccepted::OutOfTurn),
         other => unreachable!("status {other} with a key"),
     }
 }
@@ -108,52 +108,52 @@ impl Message<'_> {
     ///
     /// # Errors
     ///
-    /// [`NotTaken::OutOfTurn`], [`NotTaken::TooLong`].
-    pub fn additional(&mut self, bytes: &[u8]) -> Result<(), NotTaken> {
+    /// [`NotAccepted::OutOfTurn`], [`NotAccepted::TooLong`].
+    pub fn additional(&mut self, bytes: &[u8]) -> Result<(), NotAccepted> {
         // SAFETY: the key and the message are whole structs that `new` and `begin` wrote, and the slice is borrowed for
         // the call. Those that are written are mutable, so that they overlap nothing.
-        taken(unsafe { c::fotsgure_gcm_additional(&*self.gcm.0, &mut *self.message, bytes.as_ptr(), bytes.len()) })
+        accepted(unsafe { c::fotsgure_gcm_additional(&*self.gcm.0, &mut *self.message, bytes.as_ptr(), bytes.len()) })
     }
 
     /// Encrypts a piece of the text in place.
     ///
     /// # Errors
     ///
-    /// [`NotTaken::OutOfTurn`], [`NotTaken::TooLong`].
-    pub fn encrypt(&mut self, text: &mut [u8]) -> Result<(), NotTaken> {
+    /// [`NotAccepted::OutOfTurn`], [`NotAccepted::TooLong`].
+    pub fn encrypt(&mut self, text: &mut [u8]) -> Result<(), NotAccepted> {
         // SAFETY: as in `additional`.
-        taken(unsafe { c::fotsgure_gcm_encrypt(&*self.gcm.0, &mut *self.message, text.as_mut_ptr(), text.len()) })
+        accepted(unsafe { c::fotsgure_gcm_encrypt(&*self.gcm.0, &mut *self.message, text.as_mut_ptr(), text.len()) })
     }
 
     /// Ends a message that was encrypted, and returns its tag.
     ///
     /// # Errors
     ///
-    /// [`NotTaken::OutOfTurn`].
-    pub fn finish(mut self) -> Result<[u8; 16], NotTaken> {
+    /// [`NotAccepted::OutOfTurn`].
+    pub fn finish(mut self) -> Result<[u8; 16], NotAccepted> {
         let mut tag = [0; 16];
         // SAFETY: as in `additional`.
-        taken(unsafe { c::fotsgure_gcm_finish(&*self.gcm.0, &mut *self.message, &mut tag) }).map(|()| tag)
+        accepted(unsafe { c::fotsgure_gcm_finish(&*self.gcm.0, &mut *self.message, &mut tag) }).map(|()| tag)
     }
 
     /// Takes a piece of an encrypted text, whose tag `accept` compares later. `Ok` doesn't say that the piece is authentic.
     ///
     /// # Errors
     ///
-    /// [`NotTaken::OutOfTurn`], [`NotTaken::TooLong`].
-    pub fn verify(&mut self, text: &[u8]) -> Result<(), NotTaken> {
+    /// [`NotAccepted::OutOfTurn`], [`NotAccepted::TooLong`].
+    pub fn verify(&mut self, text: &[u8]) -> Result<(), NotAccepted> {
         // SAFETY: as in `additional`.
-        taken(unsafe { c::fotsgure_gcm_verify(&*self.gcm.0, &mut *self.message, text.as_ptr(), text.len()) })
+        accepted(unsafe { c::fotsgure_gcm_verify(&*self.gcm.0, &mut *self.message, text.as_ptr(), text.len()) })
     }
 
     /// Compares the tag of what has come.
     ///
     /// # Errors
     ///
-    /// [`NotTaken::OutOfTurn`], [`NotTaken::Refused`].
-    pub fn accept(&mut self, tag: &[u8]) -> Result<(), NotTaken> {
+    /// [`NotAccepted::OutOfTurn`], [`NotAccepted::Refused`].
+    pub fn accept(&mut self, tag: &[u8]) -> Result<(), NotAccepted> {
         // SAFETY: as in `additional`.
-        taken(unsafe { c::fotsgure_gcm_accept(&*self.gcm.0, &mut *self.message, tag.as_ptr(), tag.len()) })
+        accepted(unsafe { c::fotsgure_gcm_accept(&*self.gcm.0, &mut *self.message, tag.as_ptr(), tag.len()) })
     }
 
     /// Compares a tag of 4, 8 or 12 to 15 bytes (SP 800-38D, 5.2.1.2). Call it instead of `accept`. `fixed_length` is how
@@ -162,10 +162,10 @@ impl Message<'_> {
     ///
     /// # Errors
     ///
-    /// [`NotTaken::OutOfTurn`]; [`NotTaken::Refused`], also if `fixed_length` is none of these numbers, or isn't that of `tag`.
-    pub fn accept_short(&mut self, fixed_length: usize, tag: &[u8]) -> Result<(), NotTaken> {
+    /// [`NotAccepted::OutOfTurn`]; [`NotAccepted::Refused`], also if `fixed_length` is none of these numbers, or isn't that of `tag`.
+    pub fn accept_short(&mut self, fixed_length: usize, tag: &[u8]) -> Result<(), NotAccepted> {
         // SAFETY: as in `additional`.
-        taken(unsafe {
+        accepted(unsafe {
             c::fotsgure_gcm_accept_short(&*self.gcm.0, &mut *self.message, fixed_length, tag.as_ptr(), tag.len())
         })
     }
@@ -174,10 +174,10 @@ impl Message<'_> {
     ///
     /// # Errors
     ///
-    /// [`NotTaken::OutOfTurn`], [`NotTaken::TooLong`].
-    pub fn decrypt(&mut self, text: &mut [u8]) -> Result<(), NotTaken> {
+    /// [`NotAccepted::OutOfTurn`], [`NotAccepted::TooLong`].
+    pub fn decrypt(&mut self, text: &mut [u8]) -> Result<(), NotAccepted> {
         // SAFETY: as in `additional`.
-        taken(unsafe { c::fotsgure_gcm_decrypt(&*self.gcm.0, &mut *self.message, text.as_mut_ptr(), text.len()) })
+        accepted(unsafe { c::fotsgure_gcm_decrypt(&*self.gcm.0, &mut *self.message, text.as_mut_ptr(), text.len()) })
     }
 }
 
