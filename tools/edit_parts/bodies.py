@@ -97,17 +97,17 @@ def edits_in(file):
 
 
 class Edit:
-    """What a crate's file of edits says of one bug, and pairs of texts. Each 'old:' is in its file exactly once. A line 'same:' in place of
-    'bug:' says that both texts of each pair mean the same, so that no prover may refuse it. If an edit changes more than bodies, a line
-    'at: src/FILE FUNCTION' names the function that has to refuse it."""
+    """What a crate's file of edits says of one bug, and pairs of texts. Each 'old:' is in its file exactly once. A harmless edit has a
+    line 'same:' in place of 'bug:': both texts of each pair mean the same, so that no prover may refuse it. If an edit changes more than
+    bodies, a line 'at: src/FILE FUNCTION' names the function that has to refuse it."""
 
     def __init__(self, name, text):
-        self.name, self.text, self.pairs, self.fault, self.is_control = name, text, [], None, False
+        self.name, self.text, self.pairs, self.fault, self.is_harmless = name, text, [], None, False
         said = [line.partition(":")[::2] for line in self.text.splitlines()]
         if not re.fullmatch(r"(bug|same)( at)?( file( old new)+)+", " ".join(key for key, _ in said)):
             self.fault = "its lines aren't 'bug:' or 'same:', 'at:' or none, 'file:' and pairs of 'old:' and 'new:'"
             return
-        self.is_control = said[0][0] == "same"
+        self.is_harmless = said[0][0] == "same"
         self.at = said[1][1].split() if said[1][0] == "at" else None
         for key, text in said:
             if key == "file":
