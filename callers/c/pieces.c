@@ -5,7 +5,7 @@
 #include <stdio.h>
 #include <string.h>
 
-/* Both return 0 if all was read, done and written. This one takes the counter's next nonce: store the counter, as
+/* Both return 0 if all was read, done and written. This one uses the counter's next nonce: store the counter, as
  * example_gcm.c does, before the file is sent. */
 static int seal_file(const struct fotsgure_gcm *gcm, struct fotsgure_gcm_counter *counter, FILE *in, FILE *out)
 {

@@ -4,7 +4,7 @@ export class FotsgureError extends Error {
   readonly status: number;
 }
 
-/** Takes compiled modules. Either may be left out. */
+/** Accepts compiled modules. Either may be left out. */
 export function load(modules: { aes?: WebAssembly.Module; gcm?: WebAssembly.Module }): void;
 
 /** The block cipher, for those who build a mode. A key has 16, 24 or 32 bytes. */

@@ -73,7 +73,7 @@ class Library {
   }
 }
 
-/** Takes compiled modules: `await WebAssembly.compileStreaming(fetch(..))`, or in node `new WebAssembly.Module(bytes)`. Either may be left out. */
+/** Accepts compiled modules: `await WebAssembly.compileStreaming(fetch(..))`, or in node `new WebAssembly.Module(bytes)`. Either may be left out. */
 export function load({ aes, gcm }) {
   if (aes) libraries.aes = new Library(aes, KEPT.aes);
   if (gcm) {

@@ -1,4 +1,4 @@
-/* What the program aes-kat takes from C beside libc's own calls: memory that grows, the number of the last error, and answers to
+/* What the program aes-kat needs from C beside libc's own calls: memory that grows, the number of the last error, and answers to
  * --help and --version. */
 #include "../include/fotsgure_aes.h"
 

@@ -2,7 +2,7 @@
 #include <cpuid.h>
 #include <stdatomic.h>
 
-/* For every processor; for x86-64-v2, whose byte shuffle the library takes; and for x86-64-v3. */
+/* For every processor; for x86-64-v2, whose byte shuffle the library needs; and for x86-64-v3. */
 enum { NOT_ASKED, V1, V2, V3 };
 /* The last build that a library has: tests have fewer. */
 #ifndef FOTSGURE_LAST_BUILD
@@ -48,7 +48,7 @@ static inline int build(void)
     return found == NOT_ASKED ? ask() : found;
 }
 
-/* The names of builds that the library doesn't have stand for one that it has; `build` never takes them. */
+/* The names of builds that the library doesn't have stand for one that it has; `build` never chooses them. */
 #if FOTSGURE_LAST_BUILD < 2
 #define OF_V2(name) name##_v1
 #else

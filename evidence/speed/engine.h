@@ -23,18 +23,18 @@ struct engine {
     const char *name; /* the library */
     const char *how;  /* what it runs on this machine, in this run */
     const char *kind; /* bitsliced, permutations, instructions, planted */
-    /* Takes a key of `bytes` bytes for one direction. */
+    /* Sets a key of `bytes` bytes for one direction. */
     void (*set_key)(enum direction to, const uint8_t *key, size_t bytes);
-    /* Processes `count` blocks in place, under the key that was taken last for that direction. */
+    /* Processes `count` blocks in place, under the key that was set last for that direction. */
     void (*process)(enum direction to, uint8_t *blocks, size_t count);
-    /* Takes a key and a counter block, and adds the keystream; without a key (0), that taken last. */
+    /* Sets a key and a counter block, and adds the keystream; without a key (0), under the one set last. */
     void (*stream)(const uint8_t *key, size_t bytes, const uint8_t *iv, uint8_t *data, size_t length);
-    /* GCM: takes a key of 16 bytes, and seals a text in place under the key taken last. */
+    /* GCM: sets a key of 16 bytes, and seals a text in place under the key set last. */
     void (*gcm_key)(const uint8_t *key);
     void (*seal)(const struct message *m);
     /* AES-GCM-SIV: the same under a key of its own. */
     void (*seal_siv)(const struct message *m);
-    /* EVP: takes a key of a mode; processes a message under it, with an initialization vector of its own, one update and
+    /* EVP: sets a key of a mode; processes a message under it, with an initialization vector of its own, one update and
        the end, and returns whether it was accepted. GCM decrypts with a wrong tag. */
     void (*mode_key)(enum mode mode, const uint8_t *key);
     int (*process_message)(enum mode mode, const uint8_t *iv, const uint8_t *in, uint8_t *out, size_t length);

@@ -20,7 +20,7 @@ static inline void use(const void *at)
 static uint8_t *stack, *images[KEYS], registers[KEYS][BLOCK * REGISTERS] __attribute__((aligned(64)));
 static ucontext_t home, away;
 
-/* An export of one block takes no count, and doesn't see that it is given one. */
+/* An export of one block has no count, and doesn't see that it is given one. */
 typedef void export(const uint8_t *key, uint8_t *blocks, size_t count);
 static uint8_t key[32], blocks[BLOCK * EVERY], zeros[2][BLOCK];
 static size_t size, count;
@@ -129,7 +129,7 @@ static void count_left(int seen[COUNTED])
         seen[IN_REGISTERS] += differs(in_registers, i);
 }
 
-/* A call's name says the size of the key, and what it takes. */
+/* A call's name says the size of the key, and what it needs. */
 static void report(const char *name, export *it)
 {
     static const size_t others[] = {7, 109, 231, 375};

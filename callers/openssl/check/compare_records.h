@@ -89,7 +89,7 @@ static int records_by_cbc(struct run *r, const unsigned char *key)
             return 1;
         if (decrypts && draw(r, 2))
             bytes[draw(r, (unsigned)length)] ^= (unsigned char)(1 << draw(r, 8)), is_whole = 0;
-        if (decrypts && draw(r, 4) == 0) /* OpenSSL takes a record without a first block as one of 2^64 bytes */
+        if (decrypts && draw(r, 4) == 0) /* OpenSSL reads a record without a first block as one of 2^64 bytes */
             length = 16 + (int)draw(r, (unsigned)length - 15), is_whole = 0;
         r->records_by_cbc = decrypts;
         if (update(r, bytes, length, draw(r, 8) ? IN_PLACE : APART, &got))

@@ -88,7 +88,7 @@ static void wrap(const char *name)
     EVP_EncryptUpdate(ctx, out, &count, text, sizeof text);
     step(name, "wraps", 0);
     EVP_DecryptInit_ex2(ctx, cipher, key, NULL, NULL);
-    step(name, "takes the key again", 0);
+    step(name, "sets the key again", 0);
     EVP_DecryptUpdate(ctx, back, &more, out, count);
     step(name, "unwraps, which shows whether it was right, and with padding the length", strstr(name, "PAD") ? 99 : 1);
     EVP_CIPHER_CTX_free(ctx), EVP_CIPHER_free(cipher);

@@ -11,7 +11,7 @@ import threading
 import weakref
 from typing import Any, Iterable, Iterator, List, Optional, Tuple, Union
 
-# What has bytes: these, and whatever else `bytes_of` takes.
+# What has bytes: these, and whatever else `bytes_of` accepts.
 Bytes = Union[bytes, bytearray, memoryview, "array.array[int]"]
 # The words of the structs that hold a key, as the headers have them.
 Word = ctypes.c_uint64 if platform.machine() == "riscv64" else ctypes.c_uint32
