@@ -3,16 +3,14 @@ import collections
 import itertools
 import re
 
-import aes
-import cmac_ccm
-import gcm
-import siv
-from gcm_header import ADDITIONAL, ENCRYPTING, MOST, MOST_ADDITIONAL, MOST_NONCE, PHASES, SHORT_TAGS, VERIFYING
-from headers import version
-from linking import takes_few
-from pre_counter import ANY_J_0_NONCE, CarryTo
+from aes_statements import aes, cmac_ccm
+from gcm_statements import gcm, siv
+from gcm_statements.gcm_header import ADDITIONAL, ENCRYPTING, MOST, MOST_ADDITIONAL, MOST_NONCE, PHASES, SHORT_TAGS, VERIFYING
+from gcm_statements.pre_counter import ANY_J_0_NONCE, CarryTo
+from linked.headers import version
+from linked.linking import takes_few
+from machines.riscv import Riscv
 from remainders import AMONG_REMAINDERS, DIRECTIONS, EVERY, FEW, LENGTHS, LONGEST_CCM, PAIRS, TABLES, AtLengths
-from riscv import Riscv
 
 # A statement (a method of KeyedAes, KeyedGcm or KeyedSiv, or one of TABLES), a description of its arguments, and lists of these. The page
 # says which builds and keys take a list. All builds take `most` but those that takes_few (linking.py) names: these are compiled from the
