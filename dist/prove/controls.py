@@ -71,7 +71,7 @@ def refuse_unreached(found, usual):
 
 
 class Planted:
-    """Keeps the assembly of a build, in which faults are planted, and the cases that the build takes with keys of one size."""
+    """Keeps the assembly of a build, in which faults are planted, and the cases that the build has with keys of one size."""
 
     def __init__(self, options, build, key_size=16):
         self.build, self.out = build, "%s/controls_%s" % (options.out, build.replace("/", "_"))

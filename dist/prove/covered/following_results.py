@@ -1,5 +1,5 @@
 """Finds instructions that computed a number of the call, or one that always differs from it by the same, and that don't only add, subtract
-or move. So it finds code that takes a length apart and puts it together again. Such code may be right at just the lengths that cases have.
+or move. So it finds code that splits a length and puts it together again. Such code may be right at just the lengths that cases have.
 
 The numbers of a call are its arguments, such as lengths and counts, and what the struct of a message counts. Shifts and masks make other
 numbers from them, so few instructions give one back. A sum or a move counts only if it does more than add a constant to one value. If an

@@ -65,7 +65,7 @@ VALUES = [
     ("x86_64/.*", r"add_in_batches\.add_next", "A text that ends in its first block is processed by other code. In AES-GCM-SIV whole "
      "batches are processed before."),
     ("x86_64/gcm", r"gcm_siv\.message\.process_text", "Whole batches are processed before, so fewer bytes than a batch has are left."),
-    ("x86_64/aes", "key_wrap.padded.wrap_padded", "A key of fewer than eight bytes takes another path."),
+    ("x86_64/aes", "key_wrap.padded.wrap_padded", "A key of fewer than eight bytes has a path of its own."),
     ("x86_64/aes", "ccm.message.put_tag", "It asks whether there are more than two rounds. Every key has more."),
     ("x86_64/gcm", "BorrowedGcm.compare",
      "The export refuses wrong lengths. The code asks for them a second time, and that never succeeds."),

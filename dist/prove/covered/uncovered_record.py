@@ -1,6 +1,6 @@
 """Keeps the record of places that stay uncovered with PROVE=builds: uncovered.tsv. `prove.py --record` writes it, and other runs compare
 with it. A line has an assembly file, a function, a kind, the number of its places of that kind, and their hashes (code_places.py). So no
-place can be taken for another one. uncovered.py has the reasons.
+place can be mistaken for another one. uncovered.py has the reasons.
 
 Refusals are proved for all numbers. Their instructions count as run. But the ways of their conditions don't count: else they would cover a
 condition that asks for a single length. If an assembly file changes, its record has to be written again."""

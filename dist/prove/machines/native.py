@@ -55,7 +55,7 @@ class Native:
         return self.processor.read(self.values.base[name], len(self.m.regions[name].content))
 
     def known_or(self, content, read):
-        """Gives the values of bytes. Bytes without a known value are taken from what `read` gives."""
+        """Gives the values of bytes. Bytes without a known value have those that `read` gives."""
         known = self.values.bytes_of(content)
         return bytes([x if b is None else b for b, x in zip(known, read())] if None in known else known)
 

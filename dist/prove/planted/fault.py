@@ -1,5 +1,5 @@
 """What a planted fault is, and what the lists of faults share: labels, patterns and instructions. A place is found by what a function
-does, and not by the registers that the compiler took, where that can be."""
+does, and not by the registers that the compiler chose, where that can be."""
 from collections import namedtuple
 
 

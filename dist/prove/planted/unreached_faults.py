@@ -22,7 +22,7 @@ def one_less_at(count, length, how):
 
 
 def in_two_parts(register, joined="or"):
-    """A number taken apart into 16 n and what is left, which are put together again without one bit of the rest."""
+    """A number split into 16 n and what is left, which are put together again without one bit of the rest."""
     return ENTRY, (r"\1\tmovq\t%%%s, %%rax\n\tshrq\t$4, %%rax\n\tshlq\t$4, %%rax\n\tandl\t$11, %%%s\n\t%sq\t%%rax, %%%s\n" % (
         register, low(register), joined, register))
 

@@ -1,6 +1,6 @@
 """Keeps bits in canonical forms. Every proof here rests on these.
 
-A *cell* is a byte that takes all 256 values: a byte of the key schedule, of a block, or what enters an S-box. A bit is kept as the
+A *cell* is a byte that may have any of 256 values: a byte of the key schedule, of a block, or what enters an S-box. A bit is kept as the
 exclusive or of functions of single cells, and perhaps of 1. Each function is a truth table of 256 entries: a Python int whose entry 0 is 0.
 So equal forms are equal functions of the cells. Exclusive or is exact, cell by cell. `And` and look-ups are done only where everything
 involved depends on one cell. Then they are exact too, on the 256 values of that cell. There are two exceptions. A look-up that is an affine
