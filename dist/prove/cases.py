@@ -1,26 +1,25 @@
-"""Lists the cases: a table of statements, their arguments, and the builds and keys that take them. tools/pages makes CASES.md of it."""
+"""Lists the cases: a table of statements, their arguments, and the builds and keys that have them. tools/pages makes CASES.md of it."""
 import collections
 import itertools
 import re
 
-import aes
-import cmac_ccm
-import gcm
-import siv
-from gcm_header import ADDITIONAL, ENCRYPTING, MOST, MOST_ADDITIONAL, MOST_NONCE, PHASES, SHORT_TAGS, VERIFYING
-from headers import version
-from linking import takes_few
-from pre_counter import ANY_J_0_NONCE, CarryTo
+from aes_statements import aes, cmac_ccm
+from gcm_statements import gcm, siv
+from gcm_statements.gcm_header import ADDITIONAL, ENCRYPTING, MOST, MOST_ADDITIONAL, MOST_NONCE, PHASES, SHORT_TAGS, VERIFYING
+from gcm_statements.pre_counter import ANY_J_0_NONCE, CarryTo
+from linked.headers import version
+from linked.linking import takes_few
+from machines.riscv import Riscv
 from remainders import AMONG_REMAINDERS, DIRECTIONS, EVERY, FEW, LENGTHS, LONGEST_CCM, PAIRS, TABLES, AtLengths
-from riscv import Riscv
 
 # A statement (a method of KeyedAes, KeyedGcm or KeyedSiv, or one of TABLES), a description of its arguments, and lists of these. The page
-# says which builds and keys take a list. All builds take `most` but those that takes_few (linking.py) names: these are compiled from the
-# sources of the others. Keys of 24 and 32 bytes take each call once, and the code that loops over round keys. Only the builds of FIRST take
-# `remainders` and `lengths_24_32`. These are other remainders of lengths, and each call at every length with keys of 24 and 32 bytes.
+# says which builds and keys have a list. All builds have `most`, except those that takes_few (linking.py) names: these are compiled
+# from the sources of the others. Keys of 24 and 32 bytes have each call once, and the code that loops over round keys. Only the builds of
+# FIRST have `remainders` and `lengths_24_32`. These are other remainders of lengths, and each call at every length with keys of 24 and 32
+# bytes.
 Row = collections.namedtuple("Row", "name what each most first remainders keys_24_32 lengths_24_32 all_", defaults=[()] * 7)
 ONCE = [()]  # no arguments
-FIRST = "x86_64/aes", "x86_64/siv", "x86_64/gcm"  # the builds that take `first` with PROVE=builds
+FIRST = "x86_64/aes", "x86_64/siv", "x86_64/gcm"  # the builds that have `first` with PROVE=builds
 
 SINGLE_ROUNDS = [(name, way) for name in ("cipher_round", "equiv_inv_cipher_round") for way in ("", "_par")]
 COLUMNS = ["mix_columns", "inv_mix_columns"]
@@ -263,7 +262,7 @@ def left_out(library, word, name, values):
 
 
 def arguments_taken(row, build, key_size, level):
-    """Gives the arguments with which a build takes a statement."""
+    """Gives the arguments that a build has for a statement."""
     is_late, is_first = takes_few(build), level and build in FIRST
     if key_size != 16:
         many = [*row.each, *row.most] if level == "all" and not is_late else []

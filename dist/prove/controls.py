@@ -9,18 +9,17 @@ import re
 import sys
 from collections import Counter
 
-import uncovered
-import uncovered_record
-from bits import Unproved
 from cases import LIBRARIES, statements
-from code_places import Places
-from directives import refuse_lines
-from faults import BUILDS_WITH_FAULTS, faults_of, is_unreached
-from linking import BUILDS, assemble, source, takes_few
-from native import NEVER_ALONE, compare_all
-from noted import joined_coverage
-from processors import MEANINGS, PROCESSORS
+from covered import uncovered, uncovered_record
+from covered.code_places import Places
+from covered.noted import joined_coverage
+from linked.directives import refuse_lines
+from linked.linking import BUILDS, assemble, source, takes_few
+from machines.native import NEVER_ALONE, compare_all
+from machines.processors import MEANINGS, PROCESSORS
+from planted.faults import BUILDS_WITH_FAULTS, faults_of, is_unreached
 from prove import options_of
+from symbols.bits import Unproved
 from tasks import pool_of
 
 
@@ -72,7 +71,7 @@ def refuse_unreached(found, usual):
 
 
 class Planted:
-    """Keeps the assembly of a build, in which faults are planted, and the cases that the build takes with keys of one size."""
+    """Keeps the assembly of a build, in which faults are planted, and the cases that the build has with keys of one size."""
 
     def __init__(self, options, build, key_size=16):
         self.build, self.out = build, "%s/controls_%s" % (options.out, build.replace("/", "_"))

@@ -8,15 +8,15 @@ import shutil
 import sys
 import time
 
-import uncovered
-import uncovered_record
-from domain import Domain
-from headers import header_cases, riscv_header_cases
-from linking import (BUILDS, HERE, MACHINES, Built, assembly_of, built_cases, choice_cases, library_of, line_cases, rust_cases, suffix_of)
-from noted import joined_coverage
-from processors import PROCESSORS
-from program import Program
-from standards import pinned
+from covered import uncovered, uncovered_record
+from covered.noted import joined_coverage
+from linked.headers import header_cases, riscv_header_cases
+from linked.linking import (BUILDS, MACHINES, PROVE_FOLDER, Built, assembly_of, built_cases, choice_cases, library_of, line_cases,
+                            rust_cases, suffix_of)
+from linked.program import Program
+from machines.processors import PROCESSORS
+from statements.standards import pinned
+from symbols.domain import Domain
 from tasks import compare_forms, pool_of, run_all
 
 KEY_SIZES = 16, 32, 24
@@ -105,7 +105,7 @@ def say_what_is_missing(machines):
 def options_of(description, level=os.environ.get("PROVE", "")):
     """Reads the options of the command line. Prints for which machines tools are missing, and keeps the builds of the others."""
     parser = argparse.ArgumentParser(description=description)
-    parser.add_argument("--dist", default=os.path.dirname(HERE))
+    parser.add_argument("--dist", default=os.path.dirname(PROVE_FOLDER))
     parser.add_argument("--out", default="out/prove")
     parser.add_argument("--built", type=lambda s: s.split("="), default=("", ""), metavar="FOLDER=OUT",
                         help="where the Makefile built the libraries of the assembly in a folder; the others are built below --out")

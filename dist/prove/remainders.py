@@ -5,9 +5,9 @@ number of bytes of a block that came before. So one of its lengths refuses a fau
 pair of remainders by 16, at short lengths. So it refuses a fault that shows at a single pair."""
 import itertools
 
-from cmac_ccm import CCM_TAGS, CMAC_TAGS, NONCES
-from gcm_header import ADDITIONAL, ENCRYPTING, PHASES, SHORT_TAGS, VERIFYING
-from keyed import NEVER as NO_CARRY
+from aes_statements.cmac_ccm import CCM_TAGS, CMAC_TAGS, NONCES
+from gcm_statements.gcm_header import ADDITIONAL, ENCRYPTING, PHASES, SHORT_TAGS, VERIFYING
+from statements.keyed import NEVER as NO_CARRY
 
 DIRECTIONS, BLOCK = ("encrypt", "decrypt"), range(16)
 PARTS = range(1, 16)  # of a block

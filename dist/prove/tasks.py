@@ -4,14 +4,14 @@ import concurrent.futures
 import gc
 import time
 
-from bits import Unproved
 from cases import FIRST, LIBRARIES, statements
-from linking import BUILDS, is_windows, narrow_word, program_of, takes_few
-from native import compare_all
-from operands import lanes
-from processors import MEANINGS, PROCESSORS
-from program import Program
-from vectors import check_vectors
+from linked.linking import BUILDS, is_windows, narrow_word, program_of, takes_few
+from linked.program import Program
+from machines.native import compare_all
+from machines.operands import lanes
+from machines.processors import MEANINGS, PROCESSORS
+from statements.vectors import check_vectors
+from symbols.bits import Unproved
 
 SEED = 1
 

@@ -3,8 +3,8 @@ import itertools
 
 import cases
 from crates import TOP
-from pre_counter import ANY_J_0_NONCE
-from riscv import Riscv32, Riscv64
+from gcm_statements.pre_counter import ANY_J_0_NONCE
+from machines.riscv import Riscv32, Riscv64
 
 PAGE = TOP / "dist/prove/CASES.md"
 HEAD = """# The cases of the second proof

@@ -1,0 +1,55 @@
+"""Tracks how many bytes of a message came before a call of GCM: a number, or 16 n + r for every n."""
+from collections import namedtuple
+
+from gcm_statements.gcm_header import ADDITIONAL, MOST, MOST_ADDITIONAL
+from loops.linear import unknown
+from statements.standards import number
+
+
+class Came(namedtuple("Came", "words number rest facts")):
+    """Says how many bytes came before a call: 16 n + `rest` for every n. It has the words of that number, the number, and facts of
+    these."""
+
+    def __mod__(self, k):
+        return self.rest % k
+
+
+def any_came(keyed, name, most, rest):
+    """Makes a number of bytes that came before, `most` at most: 16 n + `rest` for every n."""
+    blocks, high, base = unknown("blocks of " + name), unknown("higher word of " + name), keyed.highest + 1
+    low, sizes = blocks * 16 + rest, keyed.domain.sizes
+    sizes[blocks] = (min(most, keyed.highest) // 16).bit_length()
+    if most < base:
+        return Came([low], low, rest, {blocks, most - low})
+    sizes[high] = (most // base).bit_length()
+    return Came([low, high], low + high * base, rest, {blocks, keyed.highest - low, high, most - low - high * base})
+
+
+def came_in(keyed, phase, additional, text):
+    """Makes the numbers of bytes of additional data and of text that came before: 16 k + `additional` and 16 m + `text`, for every k and m.
+    In the first phase no text came."""
+    came = any_came(keyed, "additional data", MOST_ADDITIONAL, additional)
+    return came, 0 if phase == ADDITIONAL else any_came(keyed, "text", MOST, text)
+
+
+def with_more(keyed, m, n, count):
+    """Gives the number of bytes that came, after `count` more."""
+    if isinstance(n, int):
+        return n + count
+    low, *high = map(m.known, n.words)
+    carries = bool(high) and not m.implied(keyed.highest - low - count)
+    return n._replace(words=[low + count - carries * (keyed.highest + 1), *(word + carries for word in high)])
+
+
+def bytes_of_counts(keyed, *numbers):
+    """Gives the bytes of numbers of 64 bits, which may be unknown."""
+    words = lambda n: n.words if isinstance(n, Came) else [n]
+    return [b for n in numbers for b in (number(n, 8)[::-1] if isinstance(n, int) else keyed.words(words(n)))]
+
+
+def length_in_bits(keyed, m, n):
+    """Gives the bytes of a length in bits, the highest first. `n` is the length in bytes."""
+    if not n:
+        return [0] * 8
+    bits = [0, 0, 0] + [x for word in n.words for x in m.bits(m.known(word), keyed.address)]
+    return [keyed.domain.pack(bits[k:k + 8]) for k in range(56, -8, -8)]

@@ -1,0 +1,63 @@
+"""States what calls of fotsgure_gcm.h do for short pieces and for the end of a message, after any number of bytes.
+
+Before such a call 16 k + `additional` bytes of additional data and 16 m + `text` bytes of text came, for every k and m. In the first phase
+no text came."""
+from gcm_statements.byte_counts import Came, came_in, length_in_bits
+from gcm_statements.gcm_header import ADDITIONAL, DECRYPTING, MESSAGE, MOST, MOST_ADDITIONAL, REFUSED
+from gcm_statements.pre_counter import any_pre_counter
+from statements.calls import Buffer
+from statements.standards import ZEROS
+
+
+class MessageEnds:
+    """Calls of fotsgure_gcm.h that process a short piece, or that end a message."""
+
+    def any_then_additional(self, filled, count):
+        a, _ = came_in(self, ADDITIONAL, filled, 0)
+        return after_any(self.additional(a, count), MOST_ADDITIONAL - count - a.number, a)
+
+    def any_then_piece(self, call, phase, additional, text, count):
+        a, t = came_in(self, phase, additional, text)
+        return after_any(self.piece(call, phase, a, t, count), MOST - count - (t.number if t else 0), a, t)
+
+    def any_then_decrypt(self, additional, filled, count):
+        a, before = came_in(self, DECRYPTING, additional, filled)
+        whole, facts = self.number_of_words("whole text")
+        text = Came(self.parts(whole), whole, None, facts | {MOST - whole})
+        return after_any(self.decrypt(text, before, count, additional=a), whole - count - before.number, a, before, text)
+
+    def any_end(self, phase, additional, text):
+        """Gives the message before the call, the message whose text may be decrypted after it, the tag, and other arguments of Call."""
+        a, t = came_in(self, phase, additional, text)
+        (so_far, part), filled = self.before_piece(), additional if phase == ADDITIONAL else text
+        values = [so_far, *[self.middle_value()] * bool(filled), self.last_value()]
+
+        def steps(m):
+            lengths = length_in_bits(self, m, a) + length_in_bits(self, m, t)
+            blocks = [part[:filled] + ZEROS[filled:]] * bool(filled) + [lengths]
+            k = m.steps_found
+            return self.group_step(values[k], [blocks[k]], values[k + 1]) if k < len(blocks) else ("nothing", (), ())
+        tag = self.aes.xor(self.last_value(), any_pre_counter(self).cipher)
+        before, after = (self.any_before((a, t, 0, p)) for p in (phase, DECRYPTING))
+        return before, after, tag, dict(facts=a.facts | (t.facts if t else set()), steps=steps, any_length=True)
+
+    def any_finish(self, phase, additional, text):
+        """Ends a message that was encrypted: writes its tag, and overwrites *message with zeros. .. DONE"""
+        before, _, tag, more = self.any_end(phase, additional, text)
+        return self.call_on_message("finish", before, [0] * MESSAGE, [Buffer("tag", self.undefined(16), tag)], **more)
+
+    def any_accept(self, phase, additional, text, length=None):
+        """Compares the tag of what has come, without an early exit. If it is right, the encrypted text may come once more, to be decrypted.
+        .. REFUSED; else DONE. With a length: Compares a tag of 4, 8 or 12 to 15 bytes (5.2.1.2)."""
+        before, after, right, more = self.any_end(phase, additional, text)
+        tag = self.in_block(self.tag, 0)[:length or 16]
+        arguments = [length] * bool(length) + [Buffer("tag", tag), len(tag)]
+        return self.call_on_message("accept" + "_short" * bool(length), before, after, arguments, reveals=self.aes.xor(tag, right),
+                                    refused=REFUSED, **more)
+
+
+def after_any(call, fact, *came):
+    """Gives a call with one more fact, and with the facts of what came before it. Its steps are made before it runs."""
+    call.steps, call.any_length = call.steps and list(call.steps()), True
+    call.facts = frozenset({fact}.union(*(n.facts for n in came if n)))
+    return call

@@ -1,0 +1,165 @@
+"""Makes J_0, the block that GCM makes of a nonce (SP 800-38D, 7.1, step 2), the blocks that are counted from it, and the keystream."""
+from collections import namedtuple
+from dataclasses import dataclass
+
+from gcm_statements.byte_counts import any_came
+from gcm_statements.gcm_header import MOST, MOST_NONCE
+from gcm_statements.hashing import Hashing, block_of_lengths, in_groups
+from loops.linear import unknown
+from machines.operands import Number, Pointer
+from statements.calls import Buffer, Stream
+from statements.keyed import NEVER, PTRDIFF_MAX, CounterWord
+from statements.standards import ZEROS, number, padded
+from symbols.bits import KEY, PUBLIC
+
+ANY_J_0_NONCE = (8,)  # a nonce of 8 bytes. J_0 is then any block, even that of a nonce of 12 bytes (see pre_counter_of)
+OF_J_0, OF_ANY_J_0 = "counter of J_0", "counter of J_0, at any length"
+ANY_J_0 = CounterWord(OF_ANY_J_0, 1, NEVER, None)
+# A nonce in calls of every length: the arguments, how many phases come before the message, their steps, and facts of the arguments.
+AnyNonce = namedtuple("AnyNonce", "arguments phases steps facts")
+# In these calls: J_0, Cipher of it, and Cipher of a later block.
+AnyPreCounter = namedtuple("AnyPreCounter", "block cipher stream")
+
+
+@dataclass(frozen=True)
+class CarryTo:
+    """A counter of nonces in which adding 1 carries to one byte, which may be any. Bytes after it are 255, and those before it are 0."""
+    place: int
+
+    def __str__(self):
+        return "carry to byte %d" % self.place
+
+
+class PreCounter:
+    """J_0 of a nonce: its first twelve bytes, how GHASH makes it, and the arguments of a call."""
+
+    def __init__(self, keyed, bytes_, arguments, is_any=False, after_text=False):
+        """`is_any`: the last four bytes are a number of unknown value. `after_text`: any number of blocks came before."""
+        self.keyed, self.bytes, self.arguments, self.is_any, self.after_text = keyed, bytes_, arguments, is_any, after_text
+        self.hashing = Hashing(keyed, ZEROS)
+
+    def block(self, i):
+        """Gives the block J_0 + i."""
+        if self.is_any:
+            any_streams(self.keyed)
+            return self.bytes + self.keyed.highest_first(Number(OF_J_0, i), 4)
+        return self.bytes + number((i + 1) % 2 ** 32, 4)
+
+    def stream(self, i):
+        """Gives Cipher of the block J_0 + i."""
+        keyed = self.keyed
+        if self.is_any:
+            return keyed.in_block(any_streams(keyed)[self.after_text], i)
+        block = self.block(i)
+        return keyed.made_once(("stream", *block), lambda: keyed.aes.cipher(block, keyed.round_key_words))
+
+    def crypted(self, text, position=0):
+        """Gives GCTR (6.5) of bytes of a text from a position on: their sum with the keystream, which begins at J_0 + 1."""
+        return [self.keyed.domain.xor_byte(b, self.stream(1 + i // 16)[i % 16]) for i, b in enumerate(text, position)]
+
+    def streams(self, count, position=0):
+        """Gives the blocks of keystream for `count` bytes from a position on."""
+        begin, end = 1 + position // 16, 2 + (position + count) // 16
+        # The code processes batches of 16 blocks from 224 bytes on, and of 8 blocks from 113 bytes on, or smaller ones if it has no byte
+        # shuffle. The last batch may have more blocks, whose keystream isn't used.
+        batch = 16 if count >= 224 else 8 if count > 112 else self.keyed.program.narrow // 2
+        for i in range(end, -(-end // batch) * batch + 2 if batch else 0):
+            self.stream(i)  # so that the inputs of their S-boxes have names
+        return [b for i in range(begin, end) for b in self.stream(i)]
+
+
+def pre_counter_of(keyed, length=12, after_text=False):
+    """Gives J_0 of a nonce. If the nonce doesn't have 12 bytes, J_0 is any block."""
+    if length == 12:
+        return PreCounter(keyed, keyed.nonce, [Buffer("nonce", keyed.nonce), 12], False, after_text)
+    nonce = keyed.in_blocks(keyed.long_nonce, length)
+    first = PreCounter(keyed, keyed.pre_counter, [Buffer("nonce", nonce), length], True, after_text)
+    first.hashing.add_groups(in_groups(padded(nonce)) + [[block_of_lengths(0, length)]])
+    first.hashing.end_as(first.block(0))
+    return first
+
+
+def next_pre_counter(keyed, counter=None):
+    """Gives J_0 of the next nonce of a counter of nonces, and what the call assumes of the counter. The counter may be a number, a CarryTo,
+    or None: any number whose low half doesn't carry."""
+    d = keyed.domain
+    if isinstance(counter, CarryTo):
+        nonce, after, assumes = carried_to(keyed, counter.place)
+    elif counter is not None:
+        nonce, after, assumes = number(counter, 12), number(counter + 1, 12), None
+    else:
+        d.bits_of_word["nonce low"] = lambda offset, k: d.bits(keyed.nonce[11 - k]) if offset == 0 else None
+        nonce, after = (keyed.nonce[:4] + [d.opaque((Pointer("nonce low", n), k)) for k in range(8)][::-1] for n in (0, 1))
+        assumes = [d.xor_byte(b, 255) for b in keyed.nonce[4:]]
+    bytes_ = keyed.nonce if counter is None else nonce
+    return PreCounter(keyed, bytes_, [Buffer("counter", nonce, after), Buffer("nonce", keyed.undefined(12), nonce)]), assumes
+
+
+def carried_to(keyed, place):
+    """Gives a counter of nonces in which adding 1 carries to this byte, and the next counter. Also gives bytes that the call may assume not
+    to be all 0, because the counter isn't the last one."""
+    d, byte, before = keyed.domain, keyed.nonce[place], [0] * place
+
+    def of_byte(function):
+        return d.lookup(tuple(map(function, range(256))), d.bits(byte))
+    more, carry = of_byte(lambda x: (x + 1) % 256), of_byte(lambda x: x // 255)
+    after = [*before[1:], *[carry][:place], more] + [0] * (11 - place)
+    return before + [byte] + [255] * (11 - place), after, None if place else [d.xor_byte(byte, 255)]
+
+
+# The last four bytes of J_0 are a number of unknown value, which is one more in each block, modulo 2^32 (inc_32, 6.2).
+def any_streams(keyed):
+    """Gives Cipher of the block J_0 + i as that of block i, and of J_0 + n + i, where n blocks came before."""
+    return keyed.made_once("any counter", lambda: count_from_any(keyed))
+
+
+def count_from_any(keyed):
+    """Lets the domain count blocks from any J_0 on, and gives what any_streams gives."""
+    d, before = keyed.domain, any_came(keyed, "text", MOST, 0).number.divided(16)[0]
+
+    def fresh(name):
+        return [d.fresh("%s byte %d" % (name, k), KEY | PUBLIC, True) for k in range(4)]
+    low, later = fresh("counter of J_0,"), fresh("counter after any text,")
+    d.numbers.update({d.cell_of(b)[0]: (k, low) for k, b in enumerate(low)})
+
+    def word(offset, k):
+        block, bytes_ = (offset, low) if isinstance(offset, int) else (offset - before, later)
+        return d.bits(d.byte_in_block(bytes_[k], block + 1)) if isinstance(block, int) else None
+    d.bits_of_word[OF_J_0] = word
+    return [keyed.aes.cipher(keyed.pre_counter + bytes_[::-1], keyed.round_key_words) for bytes_ in (low, later)]
+
+
+# Texts of every length (lengths.py).
+def any_nonce(keyed, rest, first=None):
+    """Gives a nonce of 48 k + `rest` bytes for every k, or of 12 bytes if `rest` is None. When J_0 is in memory, it becomes any block."""
+    first, block = first or pre_counter_of(keyed), any_pre_counter(keyed).block
+    if rest is None:
+        place = "place", first.bytes + number(1, 4), block
+        return AnyNonce(first.arguments, 1, lambda m: ("again", (), ()) if m.steps_found else place, set())
+    length, hashed = unknown("k") * 48 + rest, keyed.made_once("hashed nonce", lambda: [
+        keyed.domain.fresh("hashed nonce byte %d" % i, KEY | PUBLIC) for i in range(16)])
+
+    def steps(m):
+        if m.phase == 0:
+            return keyed.any_group(m, ZEROS, keyed.long_nonce, length, keyed.blocks_at_once(m, ()), [], hashed)
+        lengths = [0] * 8 + m.to_bytes(m.known(length) * 8, 8)[::-1]
+        step = keyed.group_step(hashed, [lengths], block) if m.steps_found == 0 else ("again", (), ())
+        return step if m.phase == 1 else ("nothing", (), ())
+    facts = {unknown("k"), length - (13 if rest == 12 else 1), MOST_NONCE - length, PTRDIFF_MAX - length}
+    return AnyNonce([Stream("nonce", length, keyed.pattern(keyed.long_nonce)), length], 2, steps, facts)
+
+
+def any_pre_counter(keyed):
+    """Gives any J_0. It is made once."""
+    return keyed.made_once("any J_0", lambda: make_any_pre_counter(keyed))
+
+
+def make_any_pre_counter(keyed):
+    """Makes any J_0. Its last four bytes are a number that has its own cells, and so are those of later blocks."""
+    d, own = keyed.domain, [keyed.domain.fresh("J_0 byte %d" % k, KEY | PUBLIC) for k in range(15, 11, -1)]
+    low = [d.fresh("counter byte %d after J_0" % k, KEY | PUBLIC, True) for k in range(4)]
+    d.placed[OF_ANY_J_0] = lambda number, k: d.bits(d.byte_in_block(low[k], number))
+    d.bits_of_word[OF_ANY_J_0] = lambda offset, k: d.bits(own[k]) if offset == 0 else None
+    block = keyed.pre_counter + keyed.highest_first(Number(OF_ANY_J_0, 0), 4)
+    return AnyPreCounter(block, keyed.aes.cipher(block, keyed.round_key_words),
+                         keyed.aes.cipher(keyed.pre_counter + low[::-1], keyed.round_key_words))

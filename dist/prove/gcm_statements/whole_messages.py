@@ -1,0 +1,105 @@
+"""States what calls of fotsgure_gcm.h do for whole messages, next to the sentence of the header that each proves."""
+from gcm_statements.gcm_header import DONE, MOST, MOST_ADDITIONAL, REFUSED
+from gcm_statements.hashing import Hashing, block_of_lengths, in_groups
+from gcm_statements.pre_counter import ANY_J_0, any_nonce, any_pre_counter, next_pre_counter, pre_counter_of
+from loops.linear import unknown
+from statements.calls import Buffer, Call, Stream
+from statements.keyed import PTRDIFF_MAX
+from statements.standards import ZEROS, padded
+from symbols.bits import DATA
+
+
+class WholeMessages:
+    """Calls of fotsgure_gcm.h that encrypt or decrypt a whole message."""
+
+    def message_of(self, first, additional_length, text_length):
+        """Gives the additional data, the encrypted text, and GHASH of both."""
+        additional, sealed = self.in_blocks(self.additional_bytes, additional_length), self.in_blocks(self.sealed, text_length)
+        hashing = Hashing(self, ZEROS, first.hashing.made)
+        hashing.add_groups(in_groups(padded(additional)) + in_groups(padded(sealed) + [block_of_lengths(additional_length, text_length)]))
+        return Buffer("additional", additional), sealed, hashing
+
+    def seal(self, additional_length, text_length, nonce=(), way="", name="gcm_seal", first=None, **more):
+        """Encrypts `text_length` bytes in place and writes the tag (7.1). .. A nonce may have any length from one byte on. DONE. With _to:
+        The same from one buffer to another of the same length"""
+        first = first or pre_counter_of(self, *nonce)
+        additional, sealed, hashing = self.message_of(first, additional_length, text_length)
+        text = self.in_blocks(self.text, text_length)
+
+        def steps():
+            yield from first.hashing.steps()
+            if text:
+                yield "output" if way else "text", first.crypted(text), sealed
+            yield from hashing.steps()
+        tag = self.aes.xor(hashing.value, first.stream(0))
+        texts = self.data_arguments(way, "text", text, sealed, text_length)
+        return Call(name + way, [self.schedule(), *first.arguments, additional, additional_length, *texts,
+                                 Buffer("tag", self.undefined(16), tag)], DONE, steps=steps, keystream=first.streams(text_length),
+                    plain=text, **more)
+
+    def seal_next(self, additional_length, text_length, counter=None):
+        """The same under the counter's next nonce, which it writes to `nonce`; the counter then moves on by one. .. DONE"""
+        first, assumes = next_pre_counter(self, counter)
+        return self.seal(additional_length, text_length, name="gcm_seal_next", first=first, assumes=assumes)
+
+    def open(self, additional_length, text_length, nonce=(), way=""):
+        """Decrypts `text_length` bytes in place if the tag is right (7.2). A refused text is unchanged when the call returns ..
+        REFUSED; else DONE. With _to: The same from one buffer to another of the same length .. After REFUSED the output is all zeros"""
+        first = pre_counter_of(self, *nonce)
+        additional, sealed, hashing = self.message_of(first, additional_length, text_length)
+        tag, right = self.in_block(self.tag, 0), self.aes.xor(hashing.value, first.stream(0))
+
+        def steps():
+            yield from first.hashing.steps()
+            yield from hashing.steps()
+        text = first.crypted(sealed)
+        texts = self.data_arguments(way, "text", sealed, text, text_length)
+        return Call("gcm_open" + way, [self.schedule(), *first.arguments, additional, additional_length, *texts, Buffer("tag", tag), 16],
+                    DONE, steps=steps, reveals=self.aes.xor(tag, right), refused=REFUSED, refused_after={"output": [0] * text_length},
+                    keystream=first.streams(text_length), plain=text)
+
+    # Messages of every length (lengths.py).
+    def any_seal(self, additional, text, way="", nonce=None, name="gcm_seal", first=None, **more):
+        sizes, text, stream, sealed = self.any_whole(additional, text)
+
+        def steps(m, phase):
+            return ("whole", "output" if way else "text", (sealed,)) if phase == 0 else self.any_hash(m, phase - 1, sizes)
+        texts = self.streams_of(way, "text", sizes[1], sizes[1], text, [self.aes.xor(text, stream), sealed], lambda m, number: [0] * 16)
+        tag = Buffer("tag", self.undefined(16), lambda m: self.any_tag(m, sizes))
+        return self.call_of_any_message(name + way, sizes, any_nonce(self, nonce, first), stream, [*texts, tag], steps, text, **more)
+
+    def any_seal_next(self, additional, text):
+        first, assumes = next_pre_counter(self)
+        return self.any_seal(additional, text, name="gcm_seal_next", first=first, assumes=assumes)
+
+    def any_open(self, additional, text, way="", nonce=None):
+        sizes, _, stream, sealed = self.any_whole(additional, text)
+        text = self.aes.xor(sealed, stream)
+        tag = self.made_once("any tag", lambda: [self.domain.fresh("tag byte %d" % i, DATA) for i in range(16)])
+        texts = [*self.streams_of(way, "text", sizes[1], sizes[1], sealed, text), Buffer("tag", tag), 16]
+
+        def steps(m, phase):
+            return ("refused", "output", (sealed, ZEROS, True)) if way and phase == 2 else self.any_hash(m, phase, sizes)
+        return self.call_of_any_message("gcm_open" + way, sizes, any_nonce(self, nonce), stream, texts, steps, text,
+                                        reveals=lambda m: self.aes.xor(tag, self.any_tag(m, sizes)), refused=REFUSED)
+
+    def any_whole(self, additional, text):
+        """Gives the sizes, and the patterns of a text, of the keystream and of the encrypted text."""
+        sizes = unknown("a") * 48 + additional, unknown("n") * 768 + text
+        return sizes, *(self.pattern(b) for b in (self.text, any_pre_counter(self).stream, self.sealed))
+
+    def any_tag(self, m, sizes):
+        """Gives the right tag."""
+        return self.aes.xor(self.any_sum(m, sizes), any_pre_counter(self).cipher)
+
+    def any_facts(self, sizes):
+        """Gives the facts of both sizes. They may be as large as a buffer, and as the standard allows."""
+        return {unknown("a"), PTRDIFF_MAX - sizes[0], MOST_ADDITIONAL - sizes[0], unknown("n"), MOST - sizes[1]}
+
+    def call_of_any_message(self, name, sizes, nonce, stream, texts, steps, plain, **more):
+        """Gives a call on a whole message of every length. `steps` are those after the steps of its nonce."""
+        additional = Stream("additional", sizes[0], self.pattern(self.additional_bytes))
+        return Call(name, [self.schedule(), *nonce.arguments, additional, sizes[0], *texts], DONE, counter=ANY_J_0,
+                    steps=lambda m: nonce.steps(m) if m.phase < nonce.phases else steps(m, m.phase - nonce.phases),
+                    keystream=self.in_all_blocks(stream), plain=self.in_all_blocks(plain), facts=self.any_facts(sizes) | nonce.facts,
+                    **more)

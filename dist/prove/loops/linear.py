@@ -1,0 +1,160 @@
+"""Computes with unknown public numbers, such as lengths, and decides what follows from facts about them. Such a number is a constant plus
+multiples of unknown integers."""
+import bisect
+import functools
+import math
+from collections import namedtuple
+
+from symbols.bits import PUBLIC, Unproved
+
+WORD = (1 << 64) - 1
+
+
+def refuse(*_):
+    """Refuses an operation that has no meaning for unknown numbers."""
+    raise Unproved("this can't be done with a number that isn't known")
+
+
+class Linear(namedtuple("Linear", "terms constant")):
+    """An integer, of which a machine has the lowest 64 bits. `terms` is ((unknown, coefficient), ..), sorted and not empty, and an unknown
+    is a string. Operations that this class doesn't define fail."""
+    __slots__ = ()
+
+    def __add__(self, other):
+        terms = dict(self.terms)
+        for name, k in other.terms if isinstance(other, Linear) else ():
+            terms[name] = terms.get(name, 0) + k
+        return linear(terms, self.constant + (other.constant if isinstance(other, Linear) else other))
+
+    def __mul__(self, k):
+        return linear({name: c * k for name, c in self.terms}, self.constant * k)
+
+    def __neg__(self):
+        return self * -1
+
+    def __sub__(self, other):
+        return self + -other
+
+    def __rsub__(self, other):
+        return -self + other
+
+    def divided(self, k):
+        """Gives the quotient by a constant, and the remainder. Fails if the remainder isn't known."""
+        if any(c % k for _, c in self.terms):
+            refuse()
+        return linear({name: c // k for name, c in self.terms}, self.constant // k), self.constant % k
+
+    def byte(self, domain, k):
+        """Gives the bits of byte k. A power of two may divide all coefficients: then the lowest bits are known, and the others are bits of
+        the quotient, which may be any. `domain.sizes` says how many bits some numbers have. Bits above these are 0."""
+        power = step_of(self)
+        if power == 1:
+            byte = domain.fresh("byte %d of %s" % (k, self), PUBLIC)
+            domain.number_of_cell[domain.cell_of(byte)[0]] = self, k
+            return tuple(bit if 8 * k + j < domain.sizes.get(self, 64) else 0 for j, bit in enumerate(domain.bits(byte)))
+        known, (rest, low) = power.bit_length() - 1, self.divided(power)
+
+        def bit(j):
+            return low >> j & 1 if j < known else domain.bits(domain.opaque((rest, (j - known) // 8)))[(j - known) % 8]
+        return tuple(map(bit, range(8 * k, 8 * k + 8)))
+
+    def __str__(self):
+        return " + ".join(["%d %s" % (c, name) for name, c in self.terms] + [str(self.constant)])
+
+    __radd__, __rmul__ = __add__, __mul__
+    __lt__ = __gt__ = __le__ = __ge__ = __mod__ = __and__ = __rand__ = __floordiv__ = __rshift__ = __len__ = refuse
+
+
+def linear(terms, constant):
+    """Gives the number with these terms: a Linear, or an int if no term is left."""
+    terms = tuple(sorted((name, k) for name, k in terms.items() if k))
+    return Linear(terms, constant) if terms else constant
+
+
+def unknown(name):
+    """Gives the unknown number with this name."""
+    return Linear(((name, 1),), 0)
+
+
+def wrapped(x, most=WORD):
+    """Gives a number modulo `most` + 1, where `most` is the highest word of the machine. Its constants are as near to 0 as they can be."""
+    half = most + 1 >> 1
+
+    def near(k):
+        return (k + half & most) - half
+    return linear({name: near(k) for name, k in x.terms}, near(x.constant)) if isinstance(x, Linear) else near(x)
+
+
+def is_number(*values):
+    for v in values:  # (not by `all`, which is slower; see is_int)
+        if not isinstance(v, (int, Linear)):
+            return False
+    return True
+
+
+def terms(x):
+    """Gives {unknown: coefficient} of a number."""
+    return dict(x.terms) if isinstance(x, Linear) else {}
+
+
+def step_of(x):
+    """Gives the highest power of two that divides all coefficients. Modulo this power the number is known."""
+    power = math.gcd(*(c for _, c in x.terms))
+    return power & -power
+
+
+def replaced(x, name, by):
+    """Gives a number, or a tuple of anything, in which a number replaces an unknown."""
+    if isinstance(x, Linear):
+        k = terms(x).get(name, 0)
+        return x + (by - unknown(name)) * k if k else x
+    if isinstance(x, tuple) and any(isinstance(y, tuple) for y in x):
+        new = [replaced(y, name, by) for y in x]
+        return x if new == list(x) else x._make(new) if hasattr(x, "_make") else tuple(new)
+    return x
+
+
+def tightened(x):
+    """Gives the number with the least coefficients that is 0 or more for the same integers as x."""
+    if not isinstance(x, Linear):
+        return x
+    k = math.gcd(*(c for _, c in x.terms))
+    return linear({name: c // k for name, c in x.terms}, x.constant // k)
+
+
+@functools.lru_cache(1 << 16)
+def refuted(facts):
+    """Whether no integers make all these numbers >= 0. It eliminates one unknown after the other (Fourier-Motzkin). Each sum follows from
+    the facts, so True is always right. False may mean that it didn't find the contradiction."""
+    facts = {tightened(f) for f in facts}
+    while True:
+        if any(f < 0 for f in facts if not isinstance(f, Linear)):
+            return True
+        facts = {f for f in facts if isinstance(f, Linear)}
+        if not facts:
+            return False
+        name = min(name for f in facts for name in terms(f))
+        up = [f for f in facts if terms(f).get(name, 0) > 0]
+        down = [f for f in facts if terms(f).get(name, 0) < 0]
+        sums = {tightened(a * -terms(b)[name] + b * terms(a)[name]) for a in up for b in down}
+        facts = {f for f in facts if name not in terms(f)} | sums
+
+
+def fulfilled(facts):
+    """Whether it finds integers that make all these numbers >= 0. For one unknown after the other it tries the lowest value from 0 on that
+    isn't refuted. False may mean that it didn't find them."""
+    while not any(f < 0 for f in facts if not isinstance(f, Linear)):
+        facts = frozenset(f for f in facts if isinstance(f, Linear))
+        if not facts:
+            return True
+        name = min(name for f in facts for name in terms(f))
+        if refuted(facts):
+            return False
+        lowest = bisect.bisect_left(range(1 << 62), True, key=lambda value: not refuted(facts | {value - unknown(name)}))
+        facts = frozenset(replaced(f, name, lowest) for f in facts)
+    return False
+
+
+def implied(facts, x):
+    """Whether x >= 0 follows from these facts."""
+    return refuted(facts | {-x - 1})

@@ -1,0 +1,139 @@
+"""Keeps the memory of a machine: buffers of a known size, and parts of buffers of any size."""
+import copy
+import functools
+
+from machines.operands import Content, is_int
+from symbols.bits import Unproved
+
+
+class Region:
+    """A buffer: its bytes, whether a call may write them, and how it is aligned."""
+
+    def __init__(self, content, writable=True, align=1):
+        self.content, self.writable, self.align = list(content), writable, align
+
+    def copy(self):
+        other = copy.copy(self)
+        other.content = list(self.content)
+        return other
+
+
+class Window(Region):
+    """A buffer whose size isn't known. It consists of blocks.
+
+        content      the bytes from `origin` on, as far as they were accessed
+        initial      the pattern of a block before the call; blocks after `content` have it
+        want         the pattern that a block has to have, or a function that gives it for a machine and the number of the block in the
+                     buffer. Blocks before `origin` have it, and so have those from `end` on
+        unit         the bytes of a block
+        head         how many bytes a region of its own has, which lies before all blocks
+        backwards    whether blocks are counted from the last one to the first one
+
+    The patterns are those of the block with number LEAD."""
+
+    def __init__(self, size, initial, want, head=0, backwards=False):
+        super().__init__([], want is not None)
+        self.size, self.end, self.initial, self.want, self.origin = size, size, initial, want, 0
+        self.unit, self.head, self.backwards = len(initial), head, backwards
+        self.turn = 0  # how often it began again
+        self.undoes = False  # whether its blocks become again what they were
+        self.waits = False  # whether its patterns are of a later domain: a call that expands a key begins in another one
+
+    def bytes_before(self, m):
+        """Gives how far `content` begins after the block with number LEAD."""
+        at = self.origin - self.unit * m.first_block
+        if not is_int(at):
+            raise Unproved("a block whose number isn't known")
+        return at
+
+    def extend(self, m, count):
+        """Extends `content` to this number of bytes."""
+        for i in range(self.bytes_before(m) + len(self.content), self.bytes_before(m) + count):
+            self.content.append(m.domain.moved(self.initial[i % self.unit], i // self.unit))
+
+    @property
+    def whole(self):
+        """The size with the head."""
+        return self.head + self.size
+
+    def turned(self, offset, size):
+        """Gives the offset of an access, counted in the order of the blocks."""
+        if self.backwards:
+            within = offset % self.unit if is_int(offset) else offset.divided(self.unit)[1]
+            if within + size > self.unit:
+                raise Unproved("accesses two blocks at once that are processed backwards")
+            offset = self.size - self.unit - offset + 2 * within
+        return offset
+
+    def reached(self, m, offset, size):
+        """Gives the place of an access in `content`."""
+        at = offset - self.origin
+        if not is_int(at) or at < 0:
+            raise Unproved("accesses a buffer at %s, where %s is next" % (offset, self.origin))
+        self.extend(m, at + size)
+        return at
+
+    def wanted(self, m):
+        """Gives what the first block of `content` has to be. A byte is None if this isn't known."""
+        want, unit = self.want, self.unit
+        if callable(want):
+            want = want(m, self.origin // unit if is_int(self.origin) else self.origin.divided(unit)[0])
+        return [x if x is None else m.domain.moved(x, self.bytes_before(m) // unit) for x in want]
+
+    def settle(self, m):
+        """Drops the first blocks of `content` if they are what they have to be. A block that is as it was stays."""
+        unit = self.unit
+        while len(self.content) >= unit:
+            have, before = self.content[:unit], [m.domain.moved(x, self.bytes_before(m) // unit) for x in self.initial]
+            if have == before or have != self.wanted(m):
+                return
+            self.origin, self.content = self.origin + unit, self.content[unit:]
+
+    def is_untouched(self):
+        """Whether no block was accessed."""
+        return self.origin == 0 and not self.content and self.end == self.size
+
+    def initial_at(self, m, base, offset, size):
+        """Gives bytes as they were before the call."""
+        number, unit = offset - self.unit * m.first_block, self.unit
+        if not is_int(number):
+            return [m.domain.opaque((Content(base, offset + k, "content %d" % self.turn), 0)) for k in range(size)]
+        return [m.domain.moved(self.initial[i % unit], i // unit) for i in range(number, number + size)]
+
+    def is_done(self, m):
+        """Whether all blocks are what they have to be."""
+        rest = self.end - self.origin
+        if not self.writable:
+            return True
+        if not is_int(rest) or rest != len(self.content):
+            return False
+        copy = self.copy()
+        try:
+            copy.finish(m, "")
+        except Unproved:
+            return False
+        return True
+
+    def begin_again(self, initial, want=None, undoes=False):
+        """Lets blocks that are done be read once more, as `initial`. Then they become what `want` says, or nothing more is written. With
+        `undoes` they only change in a call that is refused."""
+        self.initial, self.origin, self.content, self.turn = initial, 0, [], self.turn + 1
+        self.writable, self.undoes, self.want = want is not None, undoes, want
+
+    def fault(self, domain, name, byte):
+        """Gives the text of the fault that a block isn't what it has to be."""
+        return "the block at %s of %s isn't what it has to be: it begins with %s" % (self.origin, name, domain.describe(byte))
+
+    def finish(self, m, name):
+        """Compares all blocks up to the end with what they have to be."""
+        if not self.writable:
+            return
+        rest, unit = self.end - self.origin, self.unit
+        if not is_int(rest) or rest < 0:
+            raise Unproved("%s has %s bytes and is only done up to %s" % (name, self.size, self.origin))
+        self.extend(m, rest)
+        for at in range(0, rest, unit):
+            have, want = self.content[:min(unit, rest - at)], self.wanted(m)
+            if have != want[:len(have)]:
+                raise Unproved(functools.partial(self.fault, m.domain, name, have[0]))
+            self.origin, self.content = self.origin + unit, self.content[unit:]

@@ -1,0 +1,44 @@
+"""Notes how deep a call goes on the stack, and which of its bytes others may have overwritten."""
+import copy
+
+from symbols.bits import Unproved
+
+PAGE = 4096  # the smallest page of memory
+
+
+class StackUse:
+    """The use of the stack by a call. `top` is the stack pointer at the call, and `lowest` the lowest place that was accessed. `stale` has
+    the places whose bytes others may have overwritten."""
+
+    def __init__(self, top):
+        self.top = self.lowest = top
+        self.stale = set()
+
+    def copied(self):
+        other = copy.copy(self)
+        other.stale = set(self.stale)
+        return other
+
+    def depth(self):
+        """Gives how many bytes of the stack a call used."""
+        return self.top - self.lowest
+
+    def reach(self, offset, size, write, end):
+        """Refuses an access outside of what a function may use, and notes how deep it is. The lowest place that may be used is `end`."""
+        if write and offset + size > self.top:
+            raise Unproved("writes above its stack frame")
+        if offset < end:
+            raise Unproved("accesses the stack below the red zone")
+        if offset < self.lowest - PAGE:  # a page there may not exist, or belong to something else
+            raise Unproved("accesses the stack %d bytes below all that was accessed" % (self.lowest - offset))
+        self.lowest = min(self.lowest, offset)
+
+    def mark_stale(self, begin, end):
+        """Notes that others may overwrite this part from now on."""
+        self.stale.update(range(begin, end))
+
+    def is_stale(self, offset, size):
+        return not self.stale.isdisjoint(range(offset, offset + size))
+
+    def mark_written(self, offset, size):
+        self.stale.difference_update(range(offset, offset + size))

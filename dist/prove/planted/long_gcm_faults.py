@@ -1,0 +1,105 @@
+"""Lists faults in the library `gcm` that only show at long lengths, or at certain ones. A statement of every length refuses each of them,
+and calls of lengths up to 64 blocks are proved in spite of it."""
+from planted.fault import (CALL_TO_ENCRYPT, ENTRY, FINISH, GCTR, HASH_ON, HASH_PIECE, IS_SHORT_TAG, MEMSET, OPEN, PUT_TAG, SEAL, SIV_OPEN,
+                           STANDS_STILL, Fault, call, exported, fewer, function, low, second)
+
+# In GHASH: the end of the loop over groups of three blocks. One register points to the next group, another counts those that are left.
+THREES = r"\taddq\t\$48, %(?P<at>r\w+)\n\tdecq\t%(?P<left>r\w+)\n"
+LEFT_OUT = (r"\g<0>\tcmpq\t$65536, %\g<left>\n\tjne\t77f\n\taddq\t$48, %\g<at>\n\tdecq\t%\g<left>\n"
+            r"77:\n\ttestq\t%\g<left>, %\g<left>\n")
+# In a message in pieces: the functions that make and compare its tag.
+TAG_SO_FAR, IS_TAG = (function("gcm::mode::BorrowedGcm::%s_so_far" % name) for name in ("put_tag", "is_tag"))
+WIPE_MESSAGE = call("gcm::message_state::MessageZeroize::zeroize")
+# In POLYVAL: the loops over three blocks at once, first of additional data and then of a text. In AES-GCM-SIV's `open`: where a refused
+# text is encrypted again. The groups are the end of this part, and where the text's length is stored.
+POLYVAL, SIV_COUNTERS = second(function("gcm_siv::message::put_tag")), second(CALL_TO_ENCRYPT)
+TEXT_THREES = r"\taddq\t\$48, [\s\S]*?" + THREES
+SIV_AGAIN = r"(test[bl]\t%(\w+), %\2\n\tje\t(\S+)\n)(?=[\s\S]*?\tmovq\t(\d+\(%rsp\)), %rcx\n)"
+FEWER_ZEROS = MEMSET, r"\tcmpq\t$1048576, %rdx\n\tjbe\t77f\n\tmovl\t$1048576, %edx\n77:\n\g<0>"
+# The comparison of a text's length with the longest one that is allowed.
+LONGEST = r"(\tmovabsq\t\$68719476704, .*\n\tcmpq\t.*\n)\tseta\t", r"\1\tsetae\t"
+
+LONG_GCM_FAULTS = {
+    "x86_64/gcm": [
+        Fault("bits 32 to 39 of a text's length left out of the tag", PUT_TAG, found=r"shrq\t\$29, %(r\w+)\n",
+              becomes=lambda found: "xorl\t%%%s, %%%s\n" % (low(found[1]), low(found[1])), case="any_seal 13 33"),
+        Fault("three blocks left out of the hash of a text after 2^16", PUT_TAG, found=THREES, becomes=LEFT_OUT, case="any_open 13 33"),
+        Fault("three blocks left out of the hash of additional data after 2^16", HASH_ON, found=THREES, becomes=LEFT_OUT,
+              case="any_seal 13 33"),
+        Fault("a counter that stands still from block 2^20 on", CALL_TO_ENCRYPT, *STANDS_STILL, case="any_seal 13 33"),
+        Fault("a branch on the hash of a text after 2^16 groups", PUT_TAG, found=THREES,
+              becomes=r"\tcmpq\t$65536, %\g<left>\n\tjne\t77f\n\ttestb\t$1, (%rsp)\n\tje\t77f\n77:\n\g<0>", case="any_seal 13 33"),
+        Fault("a text of 2^36 - 32 bytes refused", SEAL, *LONGEST, case="any_seal 31 224"),
+        Fault("a text of 2^36 - 32 bytes refused in opening", OPEN, *LONGEST, case="any_open 31 224"),
+        Fault("a text of 2^36 - 32 bytes refused from one buffer to another", exported("gcm_seal_to"), *LONGEST,
+              case="any_seal 31 224 _to"),
+        Fault("additional data of 2^61 - 1 bytes refused", SEAL, found=r"(\tmovq\t%r\w+, %(r\w+)\n)(\tshrq\t\$61, %\2\n)",
+              becomes=r"\1\tincq\t%\2\n\3", case="any_seal 31 224"),
+        Fault("a nonce of 2^61 - 1 bytes refused", SEAL, found=ENTRY,
+              becomes=r"\1\tmovabsq\t$2305843009213693951, %rax\n\tcmpq\t%rax, %rdx\n\tjne\t77f\n\tmovl\t$3, %eax\n\tretq\n77:\n",
+              case="any_seal 31 224 31"),
+        Fault("bytes of additional data left out after 2^20 where their length leaves 14 by 16", SEAL, found=ENTRY,
+              becomes=r"\1" + fewer("r8", 14), case="any_seal 14 391"),
+        Fault("a byte of a tag of 4 bytes not compared without a text", IS_SHORT_TAG, found=ENTRY,
+              becomes=r"\1\tcmpq\t$4, %rcx\n\tjne\t77f\n\tcmpq\t$0, 8(%rsi)\n\tjne\t77f\n\tdecq\t%rcx\n77:\n", case="any_accept 1 5 0 4"),
+        Fault("a byte of a tag of 14 bytes not compared without a text, where 9 bytes of additional data came", IS_SHORT_TAG, found=ENTRY,
+              becomes=r"\1\tcmpq\t$14, %rcx\n\tjne\t77f\n\tcmpq\t$9, (%rsi)\n\tjne\t77f\n\tcmpq\t$0, 8(%rsi)\n\tjne\t77f\n\tdecq\t%rcx\n"
+                      r"77:\n",
+              case="at_ends any_accept"),
+        Fault("three blocks left out of the hash of a piece after 2^16", HASH_ON, found=THREES, becomes=LEFT_OUT,
+              case="any_additional 3 46"),
+        Fault("an aligned load of additional data of any length", HASH_ON, found=r"movdqu\t(-32\(%rbp\)), ", becomes=r"movdqa\t\1, ",
+              case="any_additional 3 46"),
+        Fault("a piece's length in 32 bits", HASH_PIECE, found=ENTRY, becomes=r"\1\tmovl\t%r9d, %r9d\n", case="any_verify 3 46"),
+        Fault("zeros in 2^20 bytes of a refused output at most", exported("gcm_open_to"), *FEWER_ZEROS, case="any_open 13 33 _to"),
+        Fault("a count of 32 bits of a piece that is decrypted", exported("gcm_decrypt_unverified"), found=r"addq\t%(r\w+), 8\((%r\w+)\)",
+              becomes=lambda found: "addl\t%%%s, 8(%s)" % (low(found[1]), found[2]), case="any_decrypt_unverified 3 46"),
+        Fault("three blocks left out of the hash of a nonce after 2^16", HASH_ON, found=THREES, becomes=LEFT_OUT, case="any_begin 8"),
+        Fault("a carry out of the counter's 32 bits", CALL_TO_ENCRYPT, found=r"\tleal\t(.*), %e(\w+)\n\torq\t%\w+, %r\2\n",
+              becomes=r"\tleaq\t\1, %r\2\n", case="any_seal 13 33 8"),
+        Fault("a nonce's length in 32 bits", function("gcm::mode::BorrowedGcm::put_pre_counter"), found=r"\tmovq\t%(r\w+), (%xmm\d+)\n",
+              becomes=lambda found: "\tmovd\t%%%s, %s\n" % (low(found[1]), found[2]), case="any_begin 8"),
+        Fault("another length in the tag where 100 bytes of additional data came", TAG_SO_FAR, found=r"\tmovq\t\(%r\w+\), %(r\w+)\n",
+              becomes=r"\g<0>\tcmpq\t$100, %\1\n\tjne\t77f\n\tincq\t%\1\n77:\n", case="any_finish 1 4 0"),
+        Fault("a text's length of 32 bits in the tag of a message in pieces", TAG_SO_FAR, found=r"\tmovq\t8\((%r\w+)\), %(r\w+)\n",
+              becomes=lambda found: "\tmovl\t8(%s), %%%s\n" % (found[1], low(found[2])), case="any_finish 2 0 7"),
+        Fault("a message not wiped of which 2^32 bytes came", FINISH, found=r"\tmovq\t%(r\w+), %rdi\n" + WIPE_MESSAGE,
+              becomes=r"\tcmpl\t$0, 12(%\1)\n\tjne\t77f\n\g<0>77:\n", case="any_finish 2 0 7"),
+        Fault("any tag accepted of 32 bytes of additional data without a text", IS_TAG, found=ENTRY,
+              becomes=r"\1\tcmpq\t$32, (%rsi)\n\tjne\t77f\n\tcmpq\t$0, 8(%rsi)\n\tjne\t77f\n\tmovl\t$1, %eax\n\tretq\n77:\n",
+              case="any_accept 1 0 0"),
+        Fault("another block of keystream where 100 bytes of text came", GCTR, found=r"\tshrq\t\$4, %(rdx)\n",
+              becomes=r"\g<0>\tcmpq\t$7, %\1\n\tjne\t77f\n\tincq\t%\1\n77:\n", case="any_then_piece encrypt 2 5 4 1"),
+        Fault("a count of 32 bits of additional data", exported("gcm_additional"), found=r"addq\t%(r\w+), \((%r\w+)\)",
+              becomes=lambda found: "addl\t%%%s, (%s)" % (low(found[1]), found[2]), case="any_then_additional 13 13"),
+        Fault("a count of 32 bits of what was decrypted", exported("gcm_decrypt"), found=r"addq\t%(r\w+), 16\((%r\w+)\)",
+              becomes=lambda found: "addl\t%%%s, 16(%s)" % (low(found[1]), found[2]), case="any_then_decrypt 3 11 20"),
+        Fault("a byte of a short tag not compared after 2^32 bytes", IS_SHORT_TAG, found=ENTRY,
+              becomes=r"\1\tcmpl\t$0, 12(%rsi)\n\tje\t77f\n\tdecq\t%rcx\n77:\n", case="any_accept 3 0 7 12"),
+    ],
+    "aarch64/gcm": [
+        Fault("a text's length of 32 bits in the tag of a message in pieces", TAG_SO_FAR, found=r"\tldp\tx\d+, x(\d+), \[x\d+\]\n",
+              becomes=r"\g<0>\tmov\tw\1, w\1\n", case="any_accept 3 0 7"),
+    ],
+    "x86_64/siv": [
+        Fault("a block number of 16 bits", SIV_COUNTERS, found=r"shrq\t\$4, %(r\w+)\n",
+              becomes=lambda found: "shrq\t$4, %%%s\n\tmovzwl\t%%%s, %%%s\n" % (found[1], low(found[1], "w"), low(found[1])),
+              case="any_seal 33 77"),
+        Fault("a counter that stands still from block 2^20 on", SIV_COUNTERS, *STANDS_STILL, case="any_open 13 33 _to"),
+        Fault("three blocks left out of POLYVAL of a text after 2^16", POLYVAL, found=TEXT_THREES, becomes=LEFT_OUT,
+              case="any_open 13 33 _to"),
+        Fault("three blocks left out of POLYVAL of additional data after 2^16", POLYVAL, found=THREES, becomes=LEFT_OUT,
+              case="any_seal 33 77"),
+        Fault("bits 32 to 39 of a text's length left out of the tag", POLYVAL, found=r"shrq\t\$29, %(r\w+)\n",
+              becomes=lambda found: "xorl\t%%%s, %%%s\n" % (low(found[1]), low(found[1])), case="any_seal 33 77"),
+        Fault("additional data of 2^36 bytes refused", exported("gcm_siv_seal"), found=r"\tseta\t", becomes=r"\tsetae\t",
+              case="any_seal 16 256"),
+        Fault("a text of 2^36 bytes refused", exported("gcm_siv_seal"), found=r"(\tseta\t[\s\S]*?)\tseta\t", becomes=r"\1\tsetae\t",
+              case="any_seal 16 256"),
+        Fault("a text of 2^36 bytes refused in opening", exported("gcm_siv_open"), found=r"(\tseta\t[\s\S]*?)\tseta\t",
+              becomes=r"\1\tsetae\t", case="any_open 16 256"),
+        Fault("a refused text of more than 2^20 bytes not encrypted again", second(SIV_OPEN), found=SIV_AGAIN,
+              becomes=r"\1\tcmpq\t$1048576, \4\n\tja\t\3\n", case="any_open 13 225"),
+        Fault("zeros in 2^20 bytes of a refused output at most", exported("gcm_siv_open_to"), *FEWER_ZEROS, case="any_open 13 33 _to"),
+    ],
+}

@@ -1,0 +1,273 @@
+"""Proves one call: it is given some bytes, and has to leave others. left_behind.py says what else may be left of it.
+
+A statement is a Call, written like the call in C. Its arguments are numbers and Buffers. Each Buffer says what it has to hold when the call
+returns. A Buffer that says nothing may only be read. So "writes nothing but what it says" is part of each statement. machine.Machine says
+what a machine `m` keeps."""
+import functools
+
+from loops import lengths
+from loops.linear import implied, is_number, refuted, terms, unknown
+from machines.machine import Allowed
+from machines.native import Native
+from machines.operands import HEAD, Pointer, Question, Verdict, lanes
+from machines.regions import Region, Window
+from statements.left_behind import cells_of_bit, no_secret_in_buffers, nothing_secret, what_is_left
+from statements.steps import step_by_step
+from symbols.bits import ONES, Pause, Unproved
+
+STACK = 16384  # FOTSGURE_AES_STACK and FOTSGURE_GCM_STACK
+# How many sums of products are kept from one call to the next. Each needs some KB, so together they need some hundred MB.
+MOST_SUMS_OF_PRODUCTS = 80000
+ANY = "any"  # what a Buffer has to hold that isn't compared byte by byte
+
+
+class Buffer:
+    """Describes an argument that points to bytes: what they are, and what they have to be after the call."""
+
+    head = None
+
+    def __init__(self, name, content, after=None, secret=(), align=1):
+        """Makes a Buffer. `secret` has the kinds of left_behind.MAY_NOT_COME that may come there, as what it holds is as secret as the key.
+        `align` is the alignment of a struct."""
+        self.name, self.content, self.after, self.secret, self.align = name, content, after, secret, align
+
+    def region(self, machine):
+        return Region(self.content, self.after is not None, self.align if machine.strict else 1)
+
+
+class Stream(Buffer):
+    """Describes a buffer of any length. `size` is its length, a number that isn't known. `content` and `after` are patterns: the block with
+    number LEAD before the call, and what it has to be after it. `choose` is for blocks that may have several patterns, and `after` is then
+    a list of these. choose(machine, number) says for each byte of the block with that number which pattern it has. It says None for a byte
+    if that isn't known. `head` has the content and the `after` of bytes before the blocks. With `backwards` the last block counts as the
+    first one (regions.Window)."""
+
+    def __init__(self, name, size, content, after=None, choose=None, head=None, backwards=False):
+        super().__init__(name, content, after)
+        self.size, self.choose, self.backwards = size, choose, backwards
+        self.head = Buffer(name + HEAD, *head) if head else None
+        self.patterns = after if choose else [after or []]
+
+    def region(self, machine):
+        head = len(self.head.content) if self.head else 0
+        return Window(self.size, self.content, self.want if self.choose else self.after, head, self.backwards)
+
+    def want(self, m, number):
+        """Gives the block with this number, as it has to be after the call. A byte is None if its pattern isn't known."""
+        return [None if k is None else self.after[k][i] for i, k in enumerate(self.choose(m, number))]
+
+
+class Call:
+    """States one call.
+
+        name, arguments         as in C, without fotsgure_
+        status, size            what it returns (None: anything), and in how many bytes
+        steps                   for a call in which each step depends on the last one: see steps.py
+        reveals                 bytes that are all zero exactly if a wrapped key or a tag is right
+        refused, refused_after  what it returns if they aren't, and by names what Buffers then hold; the others hold what they held before
+        undone                  a refused call may write to a Buffer that has to stay as it was, since it undoes its writes
+        assumes                 bytes of public data that are not all zero
+        later                   for a call that expands a key: turns bytes of the key's own domain into those of any round keys (aes.py)
+        counter                 a word of unknown value (keyed.CounterWord)
+        keystream, other_blocks what is added to the data; other blocks that the cipher gives
+        plain                   what is secret of the data and of the results
+        may_stay                {a kind of secret: how many bytes of it may stay on the stack}, if more than in other calls
+        paths                   calls that share it run the same instructions whenever they return the same
+        facts                   what is known of the unknown arguments: numbers that are 0 or more (linear.py)
+        any_length              whether `steps` is a function of the machine, as with Streams; then it asks only what branches ask"""
+
+    def __init__(self, name, arguments, status, size=4, steps=None, reveals=None, refused=None, refused_after=None, assumes=None,
+                 later=None, counter=None, keystream=(), plain=(), may_stay=None, paths=None, facts=(),
+                 undone=False, other_blocks=(), any_length=False):
+        self.name, self.arguments, self.status, self.size, self.steps = name, arguments, status, size, steps
+        self.reveals, self.refused, self.refused_after = reveals, refused, refused_after or {}
+        self.assumes, self.later, self.counter = assumes, later, counter
+        self.keystream, self.plain, self.may_stay, self.paths = keystream, plain, may_stay or {}, paths
+        self.facts, self.undone, self.other_blocks, self.named = frozenset(facts), undone, other_blocks, {}
+        self.buffers = [b for a in arguments if isinstance(a, Buffer) for b in (a, a.head) if b]
+        self.streams = [b for b in self.buffers if isinstance(b, Stream)]
+        self.any_length = any_length or bool(self.streams)
+
+    def written(self, m):
+        """Gives each byte that was written to a buffer, with the Buffer. Bytes that were overwritten since count too. In a loop of any
+        length a byte that differs from pass to pass counts as part of the key. So structs are left out there."""
+        judged = [b for b in self.buffers if b.after is not ANY and not (b.secret and self.streams)]
+        return [(b, x) for b in judged for x in m.ever_written.get(b.name, ())]
+
+
+def prove_call(domain, program, call, seed=None):
+    """Proves a call for all answers to the questions that its branches ask. They ask how far buffers are apart, and whether a wrapped key
+    or a tag is right. With a seed, the call also runs on the processor, with one key and data. Gives a machine after the call."""
+    if len(domain.products) > MOST_SUMS_OF_PRODUCTS:
+        domain.forget_products()
+    m, known = machine_before(domain, program, call), lengths.GeneralStates()
+    watches = [step_by_step(call.steps if call.any_length else call.steps())] if call.steps else []
+    if call.any_length:
+        watches.append(functools.partial(lengths.watch, known))
+    if call.paths is not None:
+        watches.append(lambda m: m.trace.append(m.last))
+    if seed is None:
+        return run_to_all_ends(m, call, watches, known)
+    m.native = Native(m, seed, call.counter)
+    try:
+        run(m, call, [m.native.watch] + watches)
+        m.native.finish()
+    finally:
+        m.native.processor.close()
+    check(m, call)
+    return m
+
+
+def machine_before(domain, program, call):
+    """Makes a machine at the first instruction of a call."""
+    regions = {b.name: b.region(program.machine) for b in call.buffers}
+    regions["stack"] = Region([domain.undefined] * (STACK - program.machine.word * len(program.machine.pushed)), align=16)
+    arguments = [Pointer(a.name, 0) if isinstance(a, Buffer) else a for a in call.arguments]
+    m = program.machine(domain, program, regions, program.exports["fotsgure_" + call.name], arguments)
+    m.allowed = Allowed(call.reveals is not None, call.assumes, call.any_length)
+    m.counter, m.facts = call.counter, call.facts
+    m.numbers_by_frame = (m.stack.top, tuple(numbers_of(m, call))),
+    for window in (r for r in regions.values() if isinstance(r, Window)):
+        window.waits = call.later is not None
+    streams = call.streams if call.later is None else []  # (else their bytes are of another domain)
+    cells = [c for b in streams for c in {c for x in b.content for c in domain.cells(x)}]
+    if len(cells) > len({*cells}):
+        raise Unproved("two buffers share bytes")
+    if refuted(call.facts):
+        raise Unproved("no arguments meet its facts")
+    names = {unknown(name) for fact in call.facts for name in terms(fact)}
+    if not all(implied(call.facts, x) for n in names & domain.sizes.keys() for x in (n, (1 << domain.sizes[n]) - 1 - n)):
+        raise Unproved("its numbers have more bits than their bytes")
+    return m
+
+
+def numbers_of(m, call):
+    """Gives the numbers that a call is given: its arguments, and words of structs."""
+    structs = [b.content for b in call.buffers if b.align == 8]
+    yield from {v: None for v in (*call.arguments, *(m.from_bytes(word) for some in structs for word in lanes(some, m.word)))
+                if is_number(v)}
+
+
+def run_to_all_ends(m, call, watches, known):
+    """Runs a call with each answer to each question, and checks each end."""
+    waiting, ends = [m], []
+    while waiting:
+        m = waiting.pop()
+        m.domain.factor_of = {}
+        try:
+            run(m, call, watches)
+        except Question as question:
+            waiting += [m.answered(question.args[0], answer) for answer in (1, 0)]
+        except lengths.Leads as leads:
+            no_secret_in_buffers(m, call)
+            waiting += leads.args[0]
+        except lengths.Wrong as wrong:
+            general, guesses = wrong.args
+            m.forget_nearest(general.name)
+            m.forget_results(general.name)
+            waiting, ends = ([x for x in some if general.name not in x.generals] for some in (waiting, ends))
+            waiting += [*known.forget(general), lengths.general_state(known, *general.made_of, general.wrong | guesses)]
+        else:
+            check(m, call)
+            nothing_secret(m, call)
+            ends.append(m)
+    if call.any_length:
+        lengths.check_ends(ends, call)
+    return ends[-1]
+
+
+def run(m, call, watches):
+    """Runs a call to its end. A call that expands a key pauses once, and goes on in the domain of round keys."""
+    try:
+        m.run(watches)
+    except Pause:
+        if not call.later:
+            raise
+        call.later(m)
+        m.run(watches)
+    status = m.general[m.result]
+    if isinstance(status, Verdict):
+        flag = m.zero_flag(status.differences)
+        if status.wrong is not None or m.answers.get(flag):  # (made without a branch: then the caller asks)
+            m.settle_verdicts(status.differences, m.decide(flag))
+
+
+def check(m, call):
+    """Compares what the call returned and wrote with its statement."""
+    right = is_right(m, call)
+    status = call.status if right else call.refused
+    if status is not None and m.returned(call.size) != status:
+        raise Unproved("returns %s and not %s" % (m.returned(call.size), status))
+    if call.paths is not None:  # for each answer to how far buffers are apart
+        answers = {q: answer for q, answer in m.answers.items() if q[0] not in ("zero", "bit")}
+        if call.paths.setdefault((status, *sorted(answers.items())), m.trace) != m.trace:
+            raise Unproved("runs other instructions than another call that returns %s" % status)
+    m.results, m.unsaid = [], []
+    for buffer in call.buffers:
+        want = buffer.after if right else call.refused_after.get(buffer.name, buffer.content)
+        stays, want = want == buffer.content, want(m) if callable(want) else want
+        if isinstance(buffer, Stream):
+            check_stream(m, buffer, want, right)
+        elif status and buffer.name in m.ever_written and stays and not call.undone:
+            raise Unproved("writes to %s, which is to stay as it is" % buffer.name)
+        else:
+            check_buffer(m, buffer, want)
+    m.left = what_is_left(m, call)
+
+
+def is_right(m, call):
+    """Whether a wrapped key or a tag is right. A call that compares one may ask nothing else of secrets."""
+    if call.reveals is None:
+        return True
+    asked = m.asked_of_secrets()  # (a branch on a nonce alone reveals nothing)
+    reveals = call.reveals(m) if callable(call.reveals) else call.reveals
+    if len(asked) != 1 or asked_of(m, asked[0]) != asked_of(m, m.zero_flag(reveals)):
+        raise Unproved("reveals something else than whether the key or the tag is right")
+    return m.answers[asked[0]]
+
+
+def check_stream(m, stream, want, right):
+    """Compares the last blocks of a Stream, or shows that it is as it was."""
+    window = m.regions[stream.name]
+    if want and right != window.undoes:
+        window.finish(m, stream.name)
+    elif not window.is_untouched():
+        raise Unproved("%s isn't as it was" % stream.name)
+
+
+def check_buffer(m, buffer, want):
+    """Compares a Buffer with what it has to hold. Notes the bytes that the caller gets: those that the statement gives, and others, which
+    may be anything."""
+    if want is ANY and m.answers:  # set_key looks at the content that one machine has
+        raise Unproved("%s may have other bytes if buffers are otherwise apart" % buffer.name)
+    if buffer.after is not None and want is not ANY:
+        content, want = m.regions[buffer.name].content, m.known_bytes(want)
+        compare(m.domain, content, want, buffer.name)
+        m.unsaid += [x for x, y in zip(content, want) if y is None and x not in m.known_bytes(buffer.content)]
+        if not buffer.secret:
+            m.results += [b for b in want if b is not None]
+
+
+def asked_of(m, question):
+    """Says what a question asks of bytes that are to be zero. A byte that depends on several cells is given as {the byte: None}. The bytes
+    that depend on one cell alone are given as {the cell: a truth table}. It is 1 at the values of the cell at which one of them isn't
+    zero."""
+    d, out = m.domain, {}
+    for b in question[1:]:
+        cells = {place for x in d.bits(b) for place in cells_of_bit(m, x)} if d.symbolic(b) else ()
+        if len(cells) == 1:
+            place, = cells
+            out[place] = functools.reduce(int.__or__, (d.forms[x >> 9][0][1] ^ ONES * (x & 1) if x > 1 else ONES * x for x in d.bits(b)),
+                                          out.get(place, 0))
+        else:
+            out[b] = None
+    return out
+
+
+def compare(domain, have, want, what):
+    """Refuses bytes that aren't what they have to be. Where `want` has None, a byte may be anything."""
+    if len(have) != len(want):
+        raise Unproved("%s has %d bytes and not %d" % (what, len(have), len(want)))
+    for i, (x, y) in enumerate(zip(have, want)):
+        if y is not None and not domain.is_same(x, y):
+            raise Unproved("byte %d of %s is %s and not %s" % (i, what, domain.describe(x), domain.describe(y)))
