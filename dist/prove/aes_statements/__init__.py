@@ -1,0 +1,1 @@
+"""The statements for the calls of fotsgure_aes.h."""

@@ -1,0 +1,1 @@
+"""What cases cover, and the record of what they don't."""

@@ -1,0 +1,1 @@
+"""Unknown numbers, and calls of every length."""

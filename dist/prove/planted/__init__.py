@@ -1,0 +1,1 @@
+"""The faults that controls.py plants."""

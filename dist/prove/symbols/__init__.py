@@ -1,0 +1,1 @@
+"""Symbolic bits, and the operations on them."""
