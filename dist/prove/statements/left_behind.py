@@ -6,7 +6,8 @@ KINDS = "key", "inner", "difference", "plain", "step", "keystream", "result", "d
 # How many bytes of a kind any call may leave on the stack. A call that adds keystream may leave eight blocks of it. The other kinds are
 # copies of blocks of the result and of tags.
 MAY_STAY = {"keystream": 128, "result": 32, "data": 16}
-# How many bytes of text a copy between buffers that overlap may leave on the stack. It may have copied them before they were right.
+# How many bytes of text a copy between buffers that overlap may leave on the stack. Where the first buffer is written to meanwhile, these
+# may be any bytes of what was computed there.
 REGISTER_OF_A_COPY, OF_A_COPY = 8, ("plain", "step")
 IN_BUFFERS, IN_A_MESSAGE = "the caller's buffers, perhaps for a while", "a message"
 MAY_NOT_COME = "key", "inner"  # to buffers
