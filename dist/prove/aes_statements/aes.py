@@ -14,7 +14,7 @@ from statements.keyed import (BATCH, DONE, KEY_LENGTH, KEYSTREAM_END, NEVER, NO_
 from statements.standards import number
 from symbols.bits import DATA, LOST, PUBLIC, Unproved
 
-LEFT_OF_CBC = {"data": 16 * BATCH}  # bytes of encrypted blocks that may stay after CBC decryption
+LEFT_OF_CBC = {"data": 2 * 16 * BATCH}  # bytes of encrypted blocks, of two batches, that may stay after CBC decryption
 
 
 class KeyedAes(SingleRounds, CmacCcm, KeyWrap, Keyed):
