@@ -1,7 +1,7 @@
 # What the checks of callers share: they build programs over the libraries that are installed below $prefix, by $CC. $RUN runs these if the
 # processor is another one. Each check gets a key, and NIST's vectors if they are installed.
 # shellcheck shell=bash disable=SC2034,SC2154 # others read and set some of these
-source "${BASH_SOURCE[0]%/*}/../tools/try.sh"
+source "${BASH_SOURCE[0]%/*}/../tools/checks.sh"
 prefix=${prefix:-} cc=${CC:-cc}
 
 # Runs a program that $CC made.
@@ -21,9 +21,9 @@ statically() { link=("$prefix/lib/lib$1.a"); } # LIBRARY
 # A command fails with this status and these words on the standard error, and gives nothing out.
 says() { # STATUS WORDS COMMAND ..
     local status=0
-    "${@:3}" > "$work/answer" 2> "$work/said" || status=$?
-    [[ $status -eq $1 && ! -s $work/answer ]] && grep -e "$2" "$work/said" && return
-    echo "${*:3} ends with $status:" && cat "$work/said" && return 1
+    "${@:3}" > "$work/answer" 2> "$work/errors" || status=$?
+    [[ $status -eq $1 && ! -s $work/answer ]] && grep -e "$2" "$work/errors" && return
+    echo "${*:3} ends with $status:" && cat "$work/errors" && return 1
 }
 into_a_full_device() { "$@" > /dev/full; } # COMMAND ..
 # Each failure of a program that seals a message has words of its own.
@@ -34,5 +34,6 @@ message_fails() { # COMMAND ..
 }
 head -c 32 /dev/urandom > "$work/key"
 # NIST's vectors of GCM, CBC and key wrap, if they are installed.
-folder=$(python3 -c 'import cryptography_vectors as v; print(v.__path__[0])' 2> /dev/null) || folder=/usr/lib/python3/dist-packages/cryptography_vectors
-readarray -t vectors < <(ls "$folder"/ciphers/AES/GCM/gcm*.rsp "$folder"/ciphers/AES/CBC/*.rsp "$folder"/keywrap/kwtestvectors/KW{,P}_A?_???.txt 2> /dev/null)
+vectors_folder=$(python3 -c 'import cryptography_vectors as v; print(v.__path__[0])' 2> /dev/null) ||
+    vectors_folder=/usr/lib/python3/dist-packages/cryptography_vectors
+readarray -t vectors < <(ls "$vectors_folder"/ciphers/AES/{GCM/gcm*,CBC/*}.rsp "$vectors_folder"/keywrap/kwtestvectors/KW{,P}_A?_???.txt 2> /dev/null)

@@ -2,37 +2,37 @@
 #   awk -f manual.awk include/fotsgure_gcm.h > fotsgure_gcm.3
 # A comment begins a line; what follows it up to an empty line is what it is on.
 
-function escaped(text) {
-    gsub(/\\/, "\\e", text)
-    gsub(/-/, "\\-", text)
-    return text ~ /^[.']/ ? "\\&" text : text
+function escaped(line) {
+    gsub(/\\/, "\\e", line)
+    gsub(/-/, "\\-", line)
+    return line ~ /^[.']/ ? "\\&" line : line
 }
 # Prints a comment: an item of a list, an example that is indented further, the end of a paragraph, or a line of it.
-function print_comment(lines, count,    i, text) {
+function print_comment(lines, count,    i, line) {
     for (i = 1; i <= count; i++) {
-        text = lines[i]
-        if (text ~ /^ - /) {
+        line = lines[i]
+        if (line ~ /^ - /) {
             is_item = 1
-            print ".IP \\(bu 2\n" escaped(substr(text, 4))
-        } else if (text ~ /^  / && !is_item) {
-            print ".br\n" escaped(text)
-        } else if (text == "") {
+            print ".IP \\(bu 2\n" escaped(substr(line, 4))
+        } else if (line ~ /^  / && !is_item) {
+            print ".br\n" escaped(line)
+        } else if (line == "") {
             is_item = 0
             print ".PP"
         } else {
-            sub(/^ */, "", text)
-            print escaped(text)
+            sub(/^ */, "", line)
+            print escaped(line)
         }
     }
     is_item = 0
 }
 # Prints a declaration without what only compilers read, and of an inline function no body.
-function print_code(lines, count,    i, text) {
+function print_code(lines, count,    i, line) {
     print ".PP\n.nf\n.RS"
     for (i = 1; i <= count && lines[i] != "{"; i++) {
-        text = lines[i]
-        gsub(/FOTSGURE_[A-Z]+_(CHECK|ALONE) |static inline | FOTSGURE_[A-Z]+_NOEXCEPT/, "", text)
-        print escaped(text)
+        line = lines[i]
+        gsub(/FOTSGURE_[A-Z]+_(CHECK|ALONE) |static inline | FOTSGURE_[A-Z]+_NOEXCEPT/, "", line)
+        print escaped(line)
     }
     print ".RE\n.fi"
 }

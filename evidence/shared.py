@@ -82,9 +82,9 @@ def table(heads, *rows):
 
 def compile_program(source, name, archive, *flags):
     """A program of one C file and an archive."""
-    made = ROOM / f"{source.parent.name}-{source.stem}-{name}"
-    run(["cc", "-std=gnu11", "-O2", "-Wall", "-Wextra", "-Wl,-z,now", *flags, "-o", made, source, archive], source.name)
-    return made
+    program = ROOM / f"{source.parent.name}-{source.stem}-{name}"
+    run(["cc", "-std=gnu11", "-O2", "-Wall", "-Wextra", "-Wl,-z,now", *flags, "-o", program, source, archive], source.name)
+    return program
 
 
 def under_memcheck(program):
@@ -102,18 +102,18 @@ def under_memcheck(program):
     return lines[:-1], log.read_text(errors="replace")
 
 
-def parser(text, *parts, flags=()):
+def parser(description, *parts, flags=()):
     """A parser of the arguments of a command: the parts that it leaves out, and flags that some commands have."""
     ROOM.mkdir(parents=True, exist_ok=True)
-    made = argparse.ArgumentParser(sys.argv[0], description=text, formatter_class=argparse.RawDescriptionHelpFormatter)
+    parser = argparse.ArgumentParser(sys.argv[0], description=description, formatter_class=argparse.RawDescriptionHelpFormatter)
     # (Its own status for a wrong word has another meaning here.)
-    made.error = lambda why: stop(f"{why}; --help lists the arguments")
-    made.set_defaults(without=[])
+    parser.error = lambda why: stop(f"{why}; --help lists the arguments")
+    parser.set_defaults(without=[])
     if parts:
-        made.add_argument("--without", nargs="+", choices=parts)
+        parser.add_argument("--without", nargs="+", choices=parts)
     for flag in flags:
-        made.add_argument(f"--{flag}", action="store_true")
-    return made
+        parser.add_argument(f"--{flag}", action="store_true")
+    return parser
 
 
 def begin(parser, needed, *versions):
@@ -126,7 +126,7 @@ def begin(parser, needed, *versions):
     return options, Found()
 
 
-def finish(found, options, text):
+def finish(found, options, summary):
     """Says what was found and left out, and ends with the status that this makes."""
     for fault in found.wrong[:40]:
         say(f"FOUND: {fault}")
@@ -138,6 +138,7 @@ def finish(found, options, text):
     elif found.wrong:
         status, verdict = WRONG, f"NOT as it should be: {len(found.wrong)} findings"
     else:
-        status, verdict = (PARTIAL, f"as it should be, with parts left out: {text}") if left_out else (RIGHT, f"as it should be: {text}")
+        status, with_parts = (PARTIAL, ", with parts left out") if left_out else (RIGHT, "")
+        verdict = f"as it should be{with_parts}: {summary}"
     say(f"VERDICT: {verdict}")
     sys.exit(status)

@@ -24,8 +24,8 @@ rt = types.SimpleNamespace(**runpy.run_path(COMMAND, run_name="rt")) if os.path.
 KEEPS = hasattr(rt, "Kept")
 
 
-def begin(top):
-    """Makes a folder that has the crates the current one, and readies the module for it."""
+def enter(top):
+    """Changes to the folder `top`, which has the crates, and prepares the module."""
     if not rt:
         sys.exit("There is no rt, the command of the Rattle toolchain, on the PATH: it proves and compiles the crates")
     os.chdir(top)
@@ -36,7 +36,7 @@ def begin(top):
 
 def workspace(room, add=lambda tree: None):
     """The crates of a copy of the repository, lowest first, to which `add` may add some."""
-    begin(TOP)
+    enter(TOP)
     copy = f"{room}/copy"
     shutil.copytree("crates", f"{copy}/crates", ignore=shutil.ignore_patterns("out"))
     for name in ("crates.txt", "HANDLES"):
@@ -78,8 +78,8 @@ def check_crate(crate, kept, texts=None, flags=()):
 
 def copy_kept_work(crate, kept):
     """Makes a folder of what checks of a crate kept here, or in another copy of the repository."""
-    found = rt.work_for(crate) if KEEPS else f"{TOP}/crates/{crate.name}/out/incremental"
-    shutil.copytree(found, kept) if found and os.path.isdir(found) else kept.mkdir()
+    earlier = rt.work_for(crate) if KEEPS else f"{TOP}/crates/{crate.name}/out/incremental"
+    shutil.copytree(earlier, kept) if earlier and os.path.isdir(earlier) else kept.mkdir()
 
 
 def build_words(crate, *flags):
@@ -101,7 +101,7 @@ def prove(tree, *names):
     """Proves crates of a tree and those below them from nothing, and leaves in out/rlib of each what crates above it cite: its statements
     and code without its proofs, as `rt verdict` makes them for its own run. `rt` writes no stamp there, since statements fit nothing but
     the rlibs that they were built over. The tree gets all of them at once. Prints each crate's verdict."""
-    begin(tree)
+    enter(tree)
     crates, wanted = {crate.name: crate for crate in rt.rtlib.crates_below(f"{os.getcwd()}/crates")}, {}
     for name in names:
         crate = crates.get(name) or sys.exit(f"crates.txt names no {name}")
@@ -110,10 +110,10 @@ def prove(tree, *names):
         with tempfile.TemporaryFile("w+", errors="replace") as crate.out:
             status = crate.build_rlib(["--jobs", os.environ.get("RT_JOBS", "1")], anew=True)
             crate.out.seek(0)
-            said = crate.out.read()
-        verdicts = [line for line in said.splitlines() if line.startswith("logic=proved ")]
+            output = crate.out.read()
+        verdicts = [line for line in output.splitlines() if line.startswith("logic=proved ")]
         if status or not verdicts:
-            sys.exit(f"{said[-3000:]}\n{crate.name} was not proved")
+            sys.exit(f"{output[-3000:]}\n{crate.name} was not proved")
         stamp(crate)
         print(f"{crate.name}: {verdicts[-1]}", flush=True)
 
@@ -121,7 +121,7 @@ def prove(tree, *names):
 def serve(since):
     """Stamps the libraries that the gate left in this repository, as `prove` does, if the kit's gate keeps nothing; none if a source is
     newer than the file `since`."""
-    begin(TOP)
+    enter(TOP)
     for crate in () if KEEPS else rt.rtlib.crates_below(f"{TOP}/crates"):
         if any(os.path.getmtime(it) > os.path.getmtime(since) for it in rt.rtlib.files_of(crate.folder)):
             sys.exit(f"{crate.name} changed while the gate ran: run it again")

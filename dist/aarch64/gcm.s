@@ -8476,7 +8476,7 @@ gcm.gcm_c.siv.open_in.1: // @gcm.gcm_c.siv.open_in.1
 	stp	q0, q0, [sp, #192]
 	stp	q0, q0, [sp, #224]
 	str	q0, [sp, #256]
-	bl	gcm.gcm_c.siv.prepare.1
+	bl	gcm.gcm_c.siv.derive_and_prepare.1
 	ldr	w8, [sp, #32]
 	mov	x0, sp
 	add	x1, sp, #288
@@ -8511,10 +8511,10 @@ gcm.gcm_c.siv.open_in.1: // @gcm.gcm_c.siv.open_in.1
 .Lgcm_func_end38:
 	.size	gcm.gcm_c.siv.open_in.1, .Lgcm_func_end38-gcm.gcm_c.siv.open_in.1
                                         // -- End function
-	.section	.text.gcm.gcm_c.siv.prepare.1,"ax",@progbits
-	.p2align	2                               // -- Begin function gcm_c::siv::prepare::<#a6bcae6e23f869e4>
-	.type	gcm.gcm_c.siv.prepare.1,@function
-gcm.gcm_c.siv.prepare.1: // @gcm.gcm_c.siv.prepare.1
+	.section	.text.gcm.gcm_c.siv.derive_and_prepare.1,"ax",@progbits
+	.p2align	2                               // -- Begin function gcm_c::siv::derive_and_prepare::<#a6bcae6e23f869e4>
+	.type	gcm.gcm_c.siv.derive_and_prepare.1,@function
+gcm.gcm_c.siv.derive_and_prepare.1: // @gcm.gcm_c.siv.derive_and_prepare.1
 // %bb.0:                               // %start
 	sub	sp, sp, #288
 	movi	v1.2d, #0000000000000000
@@ -8595,7 +8595,7 @@ gcm.gcm_c.siv.prepare.1: // @gcm.gcm_c.siv.prepare.1
 	add	sp, sp, #288
 	ret
 .Lgcm_func_end39:
-	.size	gcm.gcm_c.siv.prepare.1, .Lgcm_func_end39-gcm.gcm_c.siv.prepare.1
+	.size	gcm.gcm_c.siv.derive_and_prepare.1, .Lgcm_func_end39-gcm.gcm_c.siv.derive_and_prepare.1
                                         // -- End function
 	.section	.text.gcm.gcm_siv.keys.derive,"ax",@progbits
 	.p2align	2                               // -- Begin function gcm_siv::keys::derive::<#ed3b81e0963a9ab3>
@@ -10687,7 +10687,7 @@ gcm.gcm_c.siv.open_in.2: // @gcm.gcm_c.siv.open_in.2
 	stp	q0, q0, [sp, #192]
 	stp	q0, q0, [sp, #224]
 	str	q0, [sp, #256]
-	bl	gcm.gcm_c.siv.prepare.2
+	bl	gcm.gcm_c.siv.derive_and_prepare.2
 	ldr	w8, [sp, #32]
 	mov	x0, sp
 	add	x1, sp, #288
@@ -10722,10 +10722,10 @@ gcm.gcm_c.siv.open_in.2: // @gcm.gcm_c.siv.open_in.2
 .Lgcm_func_end50:
 	.size	gcm.gcm_c.siv.open_in.2, .Lgcm_func_end50-gcm.gcm_c.siv.open_in.2
                                         // -- End function
-	.section	.text.gcm.gcm_c.siv.prepare.2,"ax",@progbits
-	.p2align	2                               // -- Begin function gcm_c::siv::prepare::<#6ee9233b1430bb0c>
-	.type	gcm.gcm_c.siv.prepare.2,@function
-gcm.gcm_c.siv.prepare.2: // @gcm.gcm_c.siv.prepare.2
+	.section	.text.gcm.gcm_c.siv.derive_and_prepare.2,"ax",@progbits
+	.p2align	2                               // -- Begin function gcm_c::siv::derive_and_prepare::<#6ee9233b1430bb0c>
+	.type	gcm.gcm_c.siv.derive_and_prepare.2,@function
+gcm.gcm_c.siv.derive_and_prepare.2: // @gcm.gcm_c.siv.derive_and_prepare.2
 // %bb.0:                               // %start
 	sub	sp, sp, #320
 	movi	v1.2d, #0000000000000000
@@ -10832,7 +10832,7 @@ gcm.gcm_c.siv.prepare.2: // @gcm.gcm_c.siv.prepare.2
 	add	sp, sp, #320
 	ret
 .Lgcm_func_end51:
-	.size	gcm.gcm_c.siv.prepare.2, .Lgcm_func_end51-gcm.gcm_c.siv.prepare.2
+	.size	gcm.gcm_c.siv.derive_and_prepare.2, .Lgcm_func_end51-gcm.gcm_c.siv.derive_and_prepare.2
                                         // -- End function
 	.section	.text.gcm.gcm_siv.message.open.2,"ax",@progbits
 	.p2align	2                               // -- Begin function gcm_siv::message::open::<#95f67159a2618c6e>
@@ -11653,7 +11653,7 @@ gcm.gcm_c.siv.seal_in.1: // @gcm.gcm_c.siv.seal_in.1
 	stp	q0, q0, [sp, #208]
 	stp	q0, q0, [sp, #240]
 	str	q0, [sp, #272]
-	bl	gcm.gcm_c.siv.prepare.1
+	bl	gcm.gcm_c.siv.derive_and_prepare.1
 	ldr	w8, [sp, #48]
 	add	x0, sp, #32
 	mov	x1, sp
@@ -11779,7 +11779,7 @@ gcm.gcm_c.siv.seal_in.2: // @gcm.gcm_c.siv.seal_in.2
 	stp	q0, q0, [sp, #208]
 	stp	q0, q0, [sp, #240]
 	str	q0, [sp, #272]
-	bl	gcm.gcm_c.siv.prepare.2
+	bl	gcm.gcm_c.siv.derive_and_prepare.2
 	ldr	w8, [sp, #48]
 	add	x0, sp, #32
 	mov	x1, sp
@@ -16422,5 +16422,5 @@ gcm.fotsgure_gcm_accept_short:              // @gcm.fotsgure_gcm_accept_short
 	.long	9, 116, 1
 	.asciz	"Fotsgure"
 	.p2align	2, 0x0
-	.asciz	"fotsgure_gcm 0.4.0, aarch64/gcm.s, sources SHA-256 4d3afa730b73b53378a2cfbbd8bddf85d4a77d01807ce624eb12665628472578"
+	.asciz	"fotsgure_gcm 0.4.0, aarch64/gcm.s, sources SHA-256 3be67e763479005e9ae1720ec4e223afc9b4024a85a1e7a2fe02eb3a79a28337"
 	.p2align	2, 0x0

@@ -7808,7 +7808,7 @@ gcm.gcm_c.siv.open_in: @ @gcm.gcm_c.siv.open_in
 	mov	r2, r6
 	mov	r3, r9
 	str	r10, [sp, #52]
-	bl	gcm.gcm_c.siv.prepare
+	bl	gcm.gcm_c.siv.derive_and_prepare
 	ldr	r1, [sp, #52]
 	mov	r0, #56
 	mov	r2, r7
@@ -7854,11 +7854,11 @@ gcm.gcm_c.siv.open_in: @ @gcm.gcm_c.siv.open_in
 	.cantunwind
 	.fnend
                                         @ -- End function
-	.section	.text.gcm.gcm_c.siv.prepare,"ax",%progbits
-	.p2align	2                               @ -- Begin function gcm_c::siv::prepare::<#785e9dd6e032eaf4>
-	.type	gcm.gcm_c.siv.prepare,%function
+	.section	.text.gcm.gcm_c.siv.derive_and_prepare,"ax",%progbits
+	.p2align	2                               @ -- Begin function gcm_c::siv::derive_and_prepare::<#785e9dd6e032eaf4>
+	.type	gcm.gcm_c.siv.derive_and_prepare,%function
 	.code	32
-gcm.gcm_c.siv.prepare: @ @gcm.gcm_c.siv.prepare
+gcm.gcm_c.siv.derive_and_prepare: @ @gcm.gcm_c.siv.derive_and_prepare
 	.fnstart
 @ %bb.0:                                @ %start
 	.save	{r4, r5, r6, r7, r8, r9, r11, lr}
@@ -7971,7 +7971,7 @@ gcm.gcm_c.siv.prepare: @ @gcm.gcm_c.siv.prepare
 	add	sp, sp, #112
 	pop	{r4, r5, r6, r7, r8, r9, r11, pc}
 .Lgcm_func_end29:
-	.size	gcm.gcm_c.siv.prepare, .Lgcm_func_end29-gcm.gcm_c.siv.prepare
+	.size	gcm.gcm_c.siv.derive_and_prepare, .Lgcm_func_end29-gcm.gcm_c.siv.derive_and_prepare
 	.cantunwind
 	.fnend
                                         @ -- End function
@@ -9294,7 +9294,7 @@ gcm.gcm_c.siv.seal_in: @ @gcm.gcm_c.siv.seal_in
 	mov	r2, r10
 	mov	r3, r8
 	str	r11, [sp, #72]
-	bl	gcm.gcm_c.siv.prepare
+	bl	gcm.gcm_c.siv.derive_and_prepare
 	ldr	r1, [sp, #72]
 	mov	r0, #56
 	mov	r2, r8
@@ -11925,5 +11925,5 @@ gcm.fotsgure_gcm_siv_wipe:                  @ @gcm.fotsgure_gcm_siv_wipe
 	.long	9, 112, 1
 	.asciz	"Fotsgure"
 	.p2align	2, 0x0
-	.asciz	"fotsgure_gcm 0.4.0, arm/gcm.s, sources SHA-256 4d3afa730b73b53378a2cfbbd8bddf85d4a77d01807ce624eb12665628472578"
+	.asciz	"fotsgure_gcm 0.4.0, arm/gcm.s, sources SHA-256 3be67e763479005e9ae1720ec4e223afc9b4024a85a1e7a2fe02eb3a79a28337"
 	.p2align	2, 0x0

@@ -8026,7 +8026,7 @@ gcm_small.gcm_c.siv.open_in: # @gcm_small.gcm_c.siv.open_in
 	addi	a3, sp, 500
 	mv	a0, s0
 	mv	a1, s1
-	call	gcm_small.gcm_c.siv.prepare
+	call	gcm_small.gcm_c.siv.derive_and_prepare
 	lw	a0, 16(sp)
 	srli	a1, a0, 31
 	slli	a0, a0, 1
@@ -8074,10 +8074,10 @@ gcm_small.gcm_c.siv.open_in: # @gcm_small.gcm_c.siv.open_in
 .Lgcm_small_func_end60:
 	.size	gcm_small.gcm_c.siv.open_in, .Lgcm_small_func_end60-gcm_small.gcm_c.siv.open_in
                                         # -- End function
-	.section	.text.gcm_small.gcm_c.siv.prepare,"ax",@progbits
-	.p2align	1                               # -- Begin function gcm_c::siv::prepare::<#6c5a95c66ef7471a>
-	.type	gcm_small.gcm_c.siv.prepare,@function
-gcm_small.gcm_c.siv.prepare: # @gcm_small.gcm_c.siv.prepare
+	.section	.text.gcm_small.gcm_c.siv.derive_and_prepare,"ax",@progbits
+	.p2align	1                               # -- Begin function gcm_c::siv::derive_and_prepare::<#6c5a95c66ef7471a>
+	.type	gcm_small.gcm_c.siv.derive_and_prepare,@function
+gcm_small.gcm_c.siv.derive_and_prepare: # @gcm_small.gcm_c.siv.derive_and_prepare
 # %bb.0:                                # %start
 	addi	sp, sp, -144
 	sw	ra, 140(sp)                     # 4-byte Folded Spill
@@ -8253,7 +8253,7 @@ gcm_small.gcm_c.siv.prepare: # @gcm_small.gcm_c.siv.prepare
 	addi	sp, sp, 144
 	ret
 .Lgcm_small_func_end61:
-	.size	gcm_small.gcm_c.siv.prepare, .Lgcm_small_func_end61-gcm_small.gcm_c.siv.prepare
+	.size	gcm_small.gcm_c.siv.derive_and_prepare, .Lgcm_small_func_end61-gcm_small.gcm_c.siv.derive_and_prepare
                                         # -- End function
 	.section	.text.gcm_small.gcm_siv.message.open,"ax",@progbits
 	.p2align	1                               # -- Begin function gcm_siv::message::open::<#fe07397204778e73>
@@ -9748,7 +9748,7 @@ gcm_small.gcm_c.siv.seal_in: # @gcm_small.gcm_c.siv.seal_in
 	addi	a3, sp, 516
 	mv	a0, s0
 	mv	a1, s1
-	call	gcm_small.gcm_c.siv.prepare
+	call	gcm_small.gcm_c.siv.derive_and_prepare
 	lw	a0, 32(sp)
 	srli	a1, a0, 31
 	slli	a0, a0, 1
@@ -13469,5 +13469,5 @@ gcm_small.fotsgure_gcm_siv_wipe:                  # @gcm_small.fotsgure_gcm_siv_
 	.long	9, 122, 1
 	.asciz	"Fotsgure"
 	.p2align	2, 0x0
-	.asciz	"fotsgure_gcm 0.4.0, riscv32/gcm_small.s, sources SHA-256 4d3afa730b73b53378a2cfbbd8bddf85d4a77d01807ce624eb12665628472578"
+	.asciz	"fotsgure_gcm 0.4.0, riscv32/gcm_small.s, sources SHA-256 3be67e763479005e9ae1720ec4e223afc9b4024a85a1e7a2fe02eb3a79a28337"
 	.p2align	2, 0x0

@@ -11213,7 +11213,7 @@ gcm.gcm_c.siv.open_in.1: # @gcm.gcm_c.siv.open_in.1
 	addi	a3, sp, 296
 	mv	a0, s0
 	mv	a1, s1
-	call	gcm.gcm_c.siv.prepare.1
+	call	gcm.gcm_c.siv.derive_and_prepare.1
 	lwu	a0, 52(sp)
 	srli	a0, a0, 2
 	addi	a0, a0, 7
@@ -11253,10 +11253,10 @@ gcm.gcm_c.siv.open_in.1: # @gcm.gcm_c.siv.open_in.1
 .Lgcm_func_end38:
 	.size	gcm.gcm_c.siv.open_in.1, .Lgcm_func_end38-gcm.gcm_c.siv.open_in.1
                                         # -- End function
-	.section	.text.gcm.gcm_c.siv.prepare.1,"ax",@progbits
-	.p2align	1                               # -- Begin function gcm_c::siv::prepare::<#a6bcae6e23f869e4>
-	.type	gcm.gcm_c.siv.prepare.1,@function
-gcm.gcm_c.siv.prepare.1: # @gcm.gcm_c.siv.prepare.1
+	.section	.text.gcm.gcm_c.siv.derive_and_prepare.1,"ax",@progbits
+	.p2align	1                               # -- Begin function gcm_c::siv::derive_and_prepare::<#a6bcae6e23f869e4>
+	.type	gcm.gcm_c.siv.derive_and_prepare.1,@function
+gcm.gcm_c.siv.derive_and_prepare.1: # @gcm.gcm_c.siv.derive_and_prepare.1
 # %bb.0:                                # %start
 	addi	sp, sp, -288
 	sd	ra, 280(sp)                     # 8-byte Folded Spill
@@ -11368,7 +11368,7 @@ gcm.gcm_c.siv.prepare.1: # @gcm.gcm_c.siv.prepare.1
 	addi	sp, sp, 288
 	ret
 .Lgcm_func_end39:
-	.size	gcm.gcm_c.siv.prepare.1, .Lgcm_func_end39-gcm.gcm_c.siv.prepare.1
+	.size	gcm.gcm_c.siv.derive_and_prepare.1, .Lgcm_func_end39-gcm.gcm_c.siv.derive_and_prepare.1
                                         # -- End function
 	.section	.text.gcm.gcm_siv.keys.derive,"ax",@progbits
 	.p2align	1                               # -- Begin function gcm_siv::keys::derive::<#ed3b81e0963a9ab3>
@@ -14895,7 +14895,7 @@ gcm.gcm_c.siv.open_in.2: # @gcm.gcm_c.siv.open_in.2
 	addi	a3, sp, 296
 	mv	a0, s0
 	mv	a1, s1
-	call	gcm.gcm_c.siv.prepare.2
+	call	gcm.gcm_c.siv.derive_and_prepare.2
 	lwu	a0, 52(sp)
 	srli	a0, a0, 2
 	addi	a0, a0, 7
@@ -14936,10 +14936,10 @@ gcm.gcm_c.siv.open_in.2: # @gcm.gcm_c.siv.open_in.2
 .Lgcm_func_end50:
 	.size	gcm.gcm_c.siv.open_in.2, .Lgcm_func_end50-gcm.gcm_c.siv.open_in.2
                                         # -- End function
-	.section	.text.gcm.gcm_c.siv.prepare.2,"ax",@progbits
-	.p2align	1                               # -- Begin function gcm_c::siv::prepare::<#6ee9233b1430bb0c>
-	.type	gcm.gcm_c.siv.prepare.2,@function
-gcm.gcm_c.siv.prepare.2: # @gcm.gcm_c.siv.prepare.2
+	.section	.text.gcm.gcm_c.siv.derive_and_prepare.2,"ax",@progbits
+	.p2align	1                               # -- Begin function gcm_c::siv::derive_and_prepare::<#6ee9233b1430bb0c>
+	.type	gcm.gcm_c.siv.derive_and_prepare.2,@function
+gcm.gcm_c.siv.derive_and_prepare.2: # @gcm.gcm_c.siv.derive_and_prepare.2
 # %bb.0:                                # %start
 	addi	sp, sp, -304
 	sd	ra, 296(sp)                     # 8-byte Folded Spill
@@ -15081,7 +15081,7 @@ gcm.gcm_c.siv.prepare.2: # @gcm.gcm_c.siv.prepare.2
 	addi	sp, sp, 304
 	ret
 .Lgcm_func_end51:
-	.size	gcm.gcm_c.siv.prepare.2, .Lgcm_func_end51-gcm.gcm_c.siv.prepare.2
+	.size	gcm.gcm_c.siv.derive_and_prepare.2, .Lgcm_func_end51-gcm.gcm_c.siv.derive_and_prepare.2
                                         # -- End function
 	.section	.text.gcm.gcm_siv.message.open.2,"ax",@progbits
 	.p2align	1                               # -- Begin function gcm_siv::message::open::<#95f67159a2618c6e>
@@ -16203,7 +16203,7 @@ gcm.gcm_c.siv.seal_in.1: # @gcm.gcm_c.siv.seal_in.1
 	addi	a3, sp, 312
 	mv	a0, s0
 	mv	a1, s1
-	call	gcm.gcm_c.siv.prepare.1
+	call	gcm.gcm_c.siv.derive_and_prepare.1
 	lwu	a0, 68(sp)
 	srli	a0, a0, 2
 	addi	a0, a0, 7
@@ -16341,7 +16341,7 @@ gcm.gcm_c.siv.seal_in.2: # @gcm.gcm_c.siv.seal_in.2
 	addi	a3, sp, 312
 	mv	a0, s0
 	mv	a1, s1
-	call	gcm.gcm_c.siv.prepare.2
+	call	gcm.gcm_c.siv.derive_and_prepare.2
 	lwu	a0, 68(sp)
 	srli	a0, a0, 2
 	addi	a0, a0, 7
@@ -20153,5 +20153,5 @@ gcm.fotsgure_gcm_accept_short:              # @gcm.fotsgure_gcm_accept_short
 	.long	9, 116, 1
 	.asciz	"Fotsgure"
 	.p2align	2, 0x0
-	.asciz	"fotsgure_gcm 0.4.0, riscv64/gcm.s, sources SHA-256 4d3afa730b73b53378a2cfbbd8bddf85d4a77d01807ce624eb12665628472578"
+	.asciz	"fotsgure_gcm 0.4.0, riscv64/gcm.s, sources SHA-256 3be67e763479005e9ae1720ec4e223afc9b4024a85a1e7a2fe02eb3a79a28337"
 	.p2align	2, 0x0

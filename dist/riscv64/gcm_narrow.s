@@ -9404,7 +9404,7 @@ gcm_narrow.gcm_c.siv.open_in: # @gcm_narrow.gcm_c.siv.open_in
 	addi	a3, sp, 1000
 	mv	a0, s0
 	mv	a1, s1
-	call	gcm_narrow.gcm_c.siv.prepare
+	call	gcm_narrow.gcm_c.siv.derive_and_prepare
 	ld	a0, 32(sp)
 	slli	a0, a0, 1
 	addi	a0, a0, 56
@@ -9442,10 +9442,10 @@ gcm_narrow.gcm_c.siv.open_in: # @gcm_narrow.gcm_c.siv.open_in
 .Lgcm_narrow_func_end27:
 	.size	gcm_narrow.gcm_c.siv.open_in, .Lgcm_narrow_func_end27-gcm_narrow.gcm_c.siv.open_in
                                         # -- End function
-	.section	.text.gcm_narrow.gcm_c.siv.prepare,"ax",@progbits
-	.p2align	1                               # -- Begin function gcm_c::siv::prepare::<#6c5a95c66ef7471a>
-	.type	gcm_narrow.gcm_c.siv.prepare,@function
-gcm_narrow.gcm_c.siv.prepare: # @gcm_narrow.gcm_c.siv.prepare
+	.section	.text.gcm_narrow.gcm_c.siv.derive_and_prepare,"ax",@progbits
+	.p2align	1                               # -- Begin function gcm_c::siv::derive_and_prepare::<#6c5a95c66ef7471a>
+	.type	gcm_narrow.gcm_c.siv.derive_and_prepare,@function
+gcm_narrow.gcm_c.siv.derive_and_prepare: # @gcm_narrow.gcm_c.siv.derive_and_prepare
 # %bb.0:                                # %start
 	addi	sp, sp, -160
 	sd	ra, 152(sp)                     # 8-byte Folded Spill
@@ -9620,7 +9620,7 @@ gcm_narrow.gcm_c.siv.prepare: # @gcm_narrow.gcm_c.siv.prepare
 	addi	sp, sp, 160
 	ret
 .Lgcm_narrow_func_end28:
-	.size	gcm_narrow.gcm_c.siv.prepare, .Lgcm_narrow_func_end28-gcm_narrow.gcm_c.siv.prepare
+	.size	gcm_narrow.gcm_c.siv.derive_and_prepare, .Lgcm_narrow_func_end28-gcm_narrow.gcm_c.siv.derive_and_prepare
                                         # -- End function
 	.section	.text.gcm_narrow.gcm_siv.message.open,"ax",@progbits
 	.p2align	1                               # -- Begin function gcm_siv::message::open::<#f78d54da9e39c0a2>
@@ -11631,7 +11631,7 @@ gcm_narrow.gcm_c.siv.seal_in: # @gcm_narrow.gcm_c.siv.seal_in
 	addi	a3, sp, 1016
 	mv	a0, s0
 	mv	a1, s1
-	call	gcm_narrow.gcm_c.siv.prepare
+	call	gcm_narrow.gcm_c.siv.derive_and_prepare
 	ld	a0, 48(sp)
 	slli	a0, a0, 1
 	addi	a0, a0, 56
@@ -15494,5 +15494,5 @@ gcm_narrow.fotsgure_gcm_accept_short:              # @gcm_narrow.fotsgure_gcm_ac
 	.long	9, 123, 1
 	.asciz	"Fotsgure"
 	.p2align	2, 0x0
-	.asciz	"fotsgure_gcm 0.4.0, riscv64/gcm_narrow.s, sources SHA-256 4d3afa730b73b53378a2cfbbd8bddf85d4a77d01807ce624eb12665628472578"
+	.asciz	"fotsgure_gcm 0.4.0, riscv64/gcm_narrow.s, sources SHA-256 3be67e763479005e9ae1720ec4e223afc9b4024a85a1e7a2fe02eb3a79a28337"
 	.p2align	2, 0x0

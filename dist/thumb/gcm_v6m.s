@@ -12350,7 +12350,7 @@ gcm_v6m.gcm_c.siv.open_in: @ @gcm_v6m.gcm_c.siv.open_in
 	mov	r1, r6
 	mov	r2, r7
 	mov	r6, r3
-	bl	gcm_v6m.gcm_c.siv.prepare
+	bl	gcm_v6m.gcm_c.siv.derive_and_prepare
 	str	r4, [sp, #44]
 	str	r5, [sp, #40]
 	ldr	r0, [sp, #56]
@@ -12395,12 +12395,12 @@ gcm_v6m.gcm_c.siv.open_in: @ @gcm_v6m.gcm_c.siv.open_in
 	.cantunwind
 	.fnend
                                         @ -- End function
-	.section	.text.gcm_v6m.gcm_c.siv.prepare,"ax",%progbits
-	.p2align	1                               @ -- Begin function gcm_c::siv::prepare::<#6c5a95c66ef7471a>
-	.type	gcm_v6m.gcm_c.siv.prepare,%function
+	.section	.text.gcm_v6m.gcm_c.siv.derive_and_prepare,"ax",%progbits
+	.p2align	1                               @ -- Begin function gcm_c::siv::derive_and_prepare::<#6c5a95c66ef7471a>
+	.type	gcm_v6m.gcm_c.siv.derive_and_prepare,%function
 	.code	16
 	.thumb_func
-gcm_v6m.gcm_c.siv.prepare: @ @gcm_v6m.gcm_c.siv.prepare
+gcm_v6m.gcm_c.siv.derive_and_prepare: @ @gcm_v6m.gcm_c.siv.derive_and_prepare
 	.fnstart
 @ %bb.0:                                @ %start
 	.save	{r4, r5, r6, r7, lr}
@@ -12579,7 +12579,7 @@ gcm_v6m.gcm_c.siv.prepare: @ @gcm_v6m.gcm_c.siv.prepare
 	add	sp, #132
 	pop	{r4, r5, r6, r7, pc}
 .Lgcm_v6m_func_end30:
-	.size	gcm_v6m.gcm_c.siv.prepare, .Lgcm_v6m_func_end30-gcm_v6m.gcm_c.siv.prepare
+	.size	gcm_v6m.gcm_c.siv.derive_and_prepare, .Lgcm_v6m_func_end30-gcm_v6m.gcm_c.siv.derive_and_prepare
 	.cantunwind
 	.fnend
                                         @ -- End function
@@ -14635,7 +14635,7 @@ gcm_v6m.gcm_c.siv.seal_in: @ @gcm_v6m.gcm_c.siv.seal_in
 	mov	r1, r4
 	mov	r2, r6
 	mov	r4, r3
-	bl	gcm_v6m.gcm_c.siv.prepare
+	bl	gcm_v6m.gcm_c.siv.derive_and_prepare
 	str	r5, [sp, #52]
 	str	r7, [sp, #48]
 	ldr	r0, [sp, #80]
@@ -18799,5 +18799,5 @@ gcm_v6m.fotsgure_gcm_siv_wipe:                  @ @gcm_v6m.fotsgure_gcm_siv_wipe
 	.long	9, 118, 1
 	.asciz	"Fotsgure"
 	.p2align	2, 0x0
-	.asciz	"fotsgure_gcm 0.4.0, thumb/gcm_v6m.s, sources SHA-256 4d3afa730b73b53378a2cfbbd8bddf85d4a77d01807ce624eb12665628472578"
+	.asciz	"fotsgure_gcm 0.4.0, thumb/gcm_v6m.s, sources SHA-256 3be67e763479005e9ae1720ec4e223afc9b4024a85a1e7a2fe02eb3a79a28337"
 	.p2align	2, 0x0

@@ -4925,7 +4925,7 @@ gcm_v7m_small.gcm_c.siv.open_in: @ @gcm_v7m_small.gcm_c.siv.open_in
 	mov	r2, r7
 	mov	r3, r9
 	str.w	r10, [sp, #48]
-	bl	gcm_v7m_small.gcm_c.siv.prepare
+	bl	gcm_v7m_small.gcm_c.siv.derive_and_prepare
 	ldr	r0, [sp, #48]
 	movs	r2, #56
 	lsrs	r1, r0, #31
@@ -4968,12 +4968,12 @@ gcm_v7m_small.gcm_c.siv.open_in: @ @gcm_v7m_small.gcm_c.siv.open_in
 	.cantunwind
 	.fnend
                                         @ -- End function
-	.section	.text.gcm_v7m_small.gcm_c.siv.prepare,"ax",%progbits
-	.p2align	2                               @ -- Begin function gcm_c::siv::prepare::<#785e9dd6e032eaf4>
-	.type	gcm_v7m_small.gcm_c.siv.prepare,%function
+	.section	.text.gcm_v7m_small.gcm_c.siv.derive_and_prepare,"ax",%progbits
+	.p2align	2                               @ -- Begin function gcm_c::siv::derive_and_prepare::<#785e9dd6e032eaf4>
+	.type	gcm_v7m_small.gcm_c.siv.derive_and_prepare,%function
 	.code	16
 	.thumb_func
-gcm_v7m_small.gcm_c.siv.prepare: @ @gcm_v7m_small.gcm_c.siv.prepare
+gcm_v7m_small.gcm_c.siv.derive_and_prepare: @ @gcm_v7m_small.gcm_c.siv.derive_and_prepare
 	.fnstart
 @ %bb.0:                                @ %start
 	.save	{r4, r5, r6, r7, r8, r9, r10, r11, lr}
@@ -5076,7 +5076,7 @@ gcm_v7m_small.gcm_c.siv.prepare: @ @gcm_v7m_small.gcm_c.siv.prepare
 	add	sp, #116
 	pop.w	{r4, r5, r6, r7, r8, r9, r10, r11, pc}
 .Lgcm_v7m_small_func_end60:
-	.size	gcm_v7m_small.gcm_c.siv.prepare, .Lgcm_v7m_small_func_end60-gcm_v7m_small.gcm_c.siv.prepare
+	.size	gcm_v7m_small.gcm_c.siv.derive_and_prepare, .Lgcm_v7m_small_func_end60-gcm_v7m_small.gcm_c.siv.derive_and_prepare
 	.cantunwind
 	.fnend
                                         @ -- End function
@@ -6001,7 +6001,7 @@ gcm_v7m_small.gcm_c.siv.seal_in: @ @gcm_v7m_small.gcm_c.siv.seal_in
 	mov	r2, r10
 	mov	r3, r9
 	str.w	r11, [sp, #64]
-	bl	gcm_v7m_small.gcm_c.siv.prepare
+	bl	gcm_v7m_small.gcm_c.siv.derive_and_prepare
 	ldr	r0, [sp, #64]
 	movs	r2, #56
 	lsrs	r1, r0, #31
@@ -8976,5 +8976,5 @@ gcm_v7m_small.fotsgure_gcm_siv_wipe:                  @ @gcm_v7m_small.fotsgure_
 	.long	9, 124, 1
 	.asciz	"Fotsgure"
 	.p2align	2, 0x0
-	.asciz	"fotsgure_gcm 0.4.0, thumb/gcm_v7m_small.s, sources SHA-256 4d3afa730b73b53378a2cfbbd8bddf85d4a77d01807ce624eb12665628472578"
+	.asciz	"fotsgure_gcm 0.4.0, thumb/gcm_v7m_small.s, sources SHA-256 3be67e763479005e9ae1720ec4e223afc9b4024a85a1e7a2fe02eb3a79a28337"
 	.p2align	2, 0x0

@@ -12,7 +12,7 @@
 	.functype	aes_narrow__blocks__process_all_batches____1a21aa7f601e7603_ (i32, i64, i32, i64) -> ()
 	.functype	aes_soft__soft__blocks__filled_up__process_filled_up____1a21aa7f601e7603_ (i32, i64, i32, i64) -> ()
 	.functype	aes_soft__soft__ciphers__planes__process_outlined____18f5f0e5023a24e4_ (i32, i32, i64, i32) -> ()
-	.functype	aes_planes__soft__word__word32__U32Word__turn_planes (i32, i32, i32, i32) -> ()
+	.functype	aes_planes__soft__word__word32__U32Word__rotate_planes (i32, i32, i32, i32) -> ()
 	.functype	aes_planes__soft__word__word32__U32Word__rotate_rows_and_columns (i32, i32, i32) -> (i32)
 	.functype	aes_cipher__zeroize__stack__wipe_stack____1024_ () -> ()
 	.functype	aes_narrow__borrowed_words__call_to_encrypt____b6a72634b88802f3_ (i32, i64, i32) -> ()
@@ -6720,7 +6720,7 @@ aes_soft__soft__ciphers__planes__process_outlined____18f5f0e5023a24e4_: # @aes_s
 	local.get	4
 	i32.const	1
 	i32.const	1
-	call	aes_planes__soft__word__word32__U32Word__turn_planes
+	call	aes_planes__soft__word__word32__U32Word__rotate_planes
 	local.get	4
 	local.get	11
 	local.get	4
@@ -6825,7 +6825,7 @@ aes_soft__soft__ciphers__planes__process_outlined____18f5f0e5023a24e4_: # @aes_s
 	i32.add 
 	i32.const	2
 	i32.const	2
-	call	aes_planes__soft__word__word32__U32Word__turn_planes
+	call	aes_planes__soft__word__word32__U32Word__rotate_planes
 	local.get	4
 	local.get	8
 	local.get	22
@@ -7286,7 +7286,7 @@ aes_soft__soft__ciphers__planes__process_outlined____18f5f0e5023a24e4_: # @aes_s
 	local.get	4
 	i32.const	1
 	i32.const	2
-	call	aes_planes__soft__word__word32__U32Word__turn_planes
+	call	aes_planes__soft__word__word32__U32Word__rotate_planes
 	local.get	4
 	local.get	10
 	local.get	4
@@ -7391,7 +7391,7 @@ aes_soft__soft__ciphers__planes__process_outlined____18f5f0e5023a24e4_: # @aes_s
 	i32.add 
 	i32.const	2
 	i32.const	0
-	call	aes_planes__soft__word__word32__U32Word__turn_planes
+	call	aes_planes__soft__word__word32__U32Word__rotate_planes
 	local.get	4
 	local.get	8
 	local.get	22
@@ -7852,7 +7852,7 @@ aes_soft__soft__ciphers__planes__process_outlined____18f5f0e5023a24e4_: # @aes_s
 	local.get	4
 	i32.const	1
 	i32.const	3
-	call	aes_planes__soft__word__word32__U32Word__turn_planes
+	call	aes_planes__soft__word__word32__U32Word__rotate_planes
 	local.get	4
 	local.get	10
 	local.get	4
@@ -7957,7 +7957,7 @@ aes_soft__soft__ciphers__planes__process_outlined____18f5f0e5023a24e4_: # @aes_s
 	i32.add 
 	i32.const	2
 	i32.const	2
-	call	aes_planes__soft__word__word32__U32Word__turn_planes
+	call	aes_planes__soft__word__word32__U32Word__rotate_planes
 	local.get	4
 	local.get	8
 	local.get	22
@@ -8418,7 +8418,7 @@ aes_soft__soft__ciphers__planes__process_outlined____18f5f0e5023a24e4_: # @aes_s
 	local.get	4
 	i32.const	1
 	i32.const	0
-	call	aes_planes__soft__word__word32__U32Word__turn_planes
+	call	aes_planes__soft__word__word32__U32Word__rotate_planes
 	local.get	4
 	local.get	10
 	local.get	4
@@ -8523,7 +8523,7 @@ aes_soft__soft__ciphers__planes__process_outlined____18f5f0e5023a24e4_: # @aes_s
 	i32.add 
 	i32.const	2
 	i32.const	0
-	call	aes_planes__soft__word__word32__U32Word__turn_planes
+	call	aes_planes__soft__word__word32__U32Word__rotate_planes
 	local.get	4
 	local.get	8
 	local.get	22
@@ -9051,7 +9051,7 @@ aes_soft__soft__ciphers__planes__process_outlined____18f5f0e5023a24e4_: # @aes_s
 	local.get	4
 	i32.const	1
 	i32.const	1
-	call	aes_planes__soft__word__word32__U32Word__turn_planes
+	call	aes_planes__soft__word__word32__U32Word__rotate_planes
 	local.get	4
 	local.get	10
 	local.get	4
@@ -9156,7 +9156,7 @@ aes_soft__soft__ciphers__planes__process_outlined____18f5f0e5023a24e4_: # @aes_s
 	i32.add 
 	i32.const	2
 	i32.const	2
-	call	aes_planes__soft__word__word32__U32Word__turn_planes
+	call	aes_planes__soft__word__word32__U32Word__rotate_planes
 	local.get	4
 	local.get	7
 	local.get	19
@@ -9629,7 +9629,7 @@ aes_soft__soft__ciphers__planes__process_outlined____18f5f0e5023a24e4_: # @aes_s
 	local.get	4
 	i32.const	1
 	i32.const	2
-	call	aes_planes__soft__word__word32__U32Word__turn_planes
+	call	aes_planes__soft__word__word32__U32Word__rotate_planes
 	local.get	4
 	local.get	4
 	i32.load	36
@@ -9734,7 +9734,7 @@ aes_soft__soft__ciphers__planes__process_outlined____18f5f0e5023a24e4_: # @aes_s
 	i32.add 
 	i32.const	2
 	i32.const	0
-	call	aes_planes__soft__word__word32__U32Word__turn_planes
+	call	aes_planes__soft__word__word32__U32Word__rotate_planes
 	local.get	4
 	local.get	9
 	local.get	19
@@ -10185,7 +10185,7 @@ aes_soft__soft__ciphers__planes__process_outlined____18f5f0e5023a24e4_: # @aes_s
 	local.get	4
 	i32.const	1
 	i32.const	3
-	call	aes_planes__soft__word__word32__U32Word__turn_planes
+	call	aes_planes__soft__word__word32__U32Word__rotate_planes
 	local.get	4
 	local.get	9
 	local.get	4
@@ -10290,7 +10290,7 @@ aes_soft__soft__ciphers__planes__process_outlined____18f5f0e5023a24e4_: # @aes_s
 	i32.add 
 	i32.const	2
 	i32.const	2
-	call	aes_planes__soft__word__word32__U32Word__turn_planes
+	call	aes_planes__soft__word__word32__U32Word__rotate_planes
 	local.get	4
 	local.get	7
 	local.get	19
@@ -11075,10 +11075,10 @@ aes_soft__soft__ciphers__planes__process_outlined____18f5f0e5023a24e4_: # @aes_s
                                         # fallthrough-return
 	end_function
                                         # -- End function
-	.section	.text.aes_planes__soft__word__word32__U32Word__turn_planes,"",@
-	.type	aes_planes__soft__word__word32__U32Word__turn_planes,@function # -- Begin function aes_planes__soft__word__word32__U32Word__turn_planes
-aes_planes__soft__word__word32__U32Word__turn_planes: # @aes_planes__soft__word__word32__U32Word__turn_planes
-	.functype	aes_planes__soft__word__word32__U32Word__turn_planes (i32, i32, i32, i32) -> ()
+	.section	.text.aes_planes__soft__word__word32__U32Word__rotate_planes,"",@
+	.type	aes_planes__soft__word__word32__U32Word__rotate_planes,@function # -- Begin function aes_planes__soft__word__word32__U32Word__rotate_planes
+aes_planes__soft__word__word32__U32Word__rotate_planes: # @aes_planes__soft__word__word32__U32Word__rotate_planes
+	.functype	aes_planes__soft__word__word32__U32Word__rotate_planes (i32, i32, i32, i32) -> ()
 	.local  	i32, i32, i32, i32, i32, i32, i32
 # %bb.0:                                # %start
 	local.get	1
@@ -16758,7 +16758,7 @@ aes_soft__soft__ciphers__planes__process_outlined____4da0d9798c91611c_: # @aes_s
 	local.get	4
 	i32.const	1
 	i32.const	3
-	call	aes_planes__soft__word__word32__U32Word__turn_planes
+	call	aes_planes__soft__word__word32__U32Word__rotate_planes
 	local.get	4
 	local.get	4
 	i32.load	52
@@ -16920,7 +16920,7 @@ aes_soft__soft__ciphers__planes__process_outlined____4da0d9798c91611c_: # @aes_s
 	i32.add 
 	i32.const	2
 	i32.const	2
-	call	aes_planes__soft__word__word32__U32Word__turn_planes
+	call	aes_planes__soft__word__word32__U32Word__rotate_planes
 	local.get	4
 	local.get	19
 	local.get	4
@@ -17411,7 +17411,7 @@ aes_soft__soft__ciphers__planes__process_outlined____4da0d9798c91611c_: # @aes_s
 	local.get	4
 	i32.const	1
 	i32.const	2
-	call	aes_planes__soft__word__word32__U32Word__turn_planes
+	call	aes_planes__soft__word__word32__U32Word__rotate_planes
 	local.get	4
 	local.get	4
 	i32.load	52
@@ -17573,7 +17573,7 @@ aes_soft__soft__ciphers__planes__process_outlined____4da0d9798c91611c_: # @aes_s
 	i32.add 
 	i32.const	2
 	i32.const	0
-	call	aes_planes__soft__word__word32__U32Word__turn_planes
+	call	aes_planes__soft__word__word32__U32Word__rotate_planes
 	local.get	4
 	local.get	19
 	local.get	4
@@ -18167,7 +18167,7 @@ aes_soft__soft__ciphers__planes__process_outlined____4da0d9798c91611c_: # @aes_s
 	local.get	4
 	i32.const	1
 	i32.const	1
-	call	aes_planes__soft__word__word32__U32Word__turn_planes
+	call	aes_planes__soft__word__word32__U32Word__rotate_planes
 	local.get	4
 	local.get	4
 	i32.load	52
@@ -18329,7 +18329,7 @@ aes_soft__soft__ciphers__planes__process_outlined____4da0d9798c91611c_: # @aes_s
 	i32.add 
 	i32.const	2
 	i32.const	2
-	call	aes_planes__soft__word__word32__U32Word__turn_planes
+	call	aes_planes__soft__word__word32__U32Word__rotate_planes
 	local.get	4
 	local.get	19
 	local.get	4
@@ -18849,7 +18849,7 @@ aes_soft__soft__ciphers__planes__process_outlined____4da0d9798c91611c_: # @aes_s
 	local.get	4
 	i32.const	1
 	i32.const	0
-	call	aes_planes__soft__word__word32__U32Word__turn_planes
+	call	aes_planes__soft__word__word32__U32Word__rotate_planes
 	local.get	4
 	local.get	4
 	i32.load	52
@@ -19011,7 +19011,7 @@ aes_soft__soft__ciphers__planes__process_outlined____4da0d9798c91611c_: # @aes_s
 	i32.add 
 	i32.const	2
 	i32.const	0
-	call	aes_planes__soft__word__word32__U32Word__turn_planes
+	call	aes_planes__soft__word__word32__U32Word__rotate_planes
 	local.get	4
 	local.get	20
 	local.get	4
@@ -19512,7 +19512,7 @@ aes_soft__soft__ciphers__planes__process_outlined____4da0d9798c91611c_: # @aes_s
 	local.get	4
 	i32.const	1
 	i32.const	3
-	call	aes_planes__soft__word__word32__U32Word__turn_planes
+	call	aes_planes__soft__word__word32__U32Word__rotate_planes
 	local.get	4
 	local.get	4
 	i32.load	52
@@ -19674,7 +19674,7 @@ aes_soft__soft__ciphers__planes__process_outlined____4da0d9798c91611c_: # @aes_s
 	i32.add 
 	i32.const	2
 	i32.const	2
-	call	aes_planes__soft__word__word32__U32Word__turn_planes
+	call	aes_planes__soft__word__word32__U32Word__rotate_planes
 	local.get	4
 	local.get	20
 	local.get	4
@@ -20175,7 +20175,7 @@ aes_soft__soft__ciphers__planes__process_outlined____4da0d9798c91611c_: # @aes_s
 	local.get	4
 	i32.const	1
 	i32.const	2
-	call	aes_planes__soft__word__word32__U32Word__turn_planes
+	call	aes_planes__soft__word__word32__U32Word__rotate_planes
 	local.get	4
 	local.get	4
 	i32.load	52
@@ -20337,7 +20337,7 @@ aes_soft__soft__ciphers__planes__process_outlined____4da0d9798c91611c_: # @aes_s
 	i32.add 
 	i32.const	2
 	i32.const	0
-	call	aes_planes__soft__word__word32__U32Word__turn_planes
+	call	aes_planes__soft__word__word32__U32Word__rotate_planes
 	local.get	4
 	local.get	20
 	local.get	4
@@ -20836,7 +20836,7 @@ aes_soft__soft__ciphers__planes__process_outlined____4da0d9798c91611c_: # @aes_s
 	local.get	4
 	i32.const	1
 	i32.const	1
-	call	aes_planes__soft__word__word32__U32Word__turn_planes
+	call	aes_planes__soft__word__word32__U32Word__rotate_planes
 	local.get	4
 	local.get	4
 	i32.load	52
@@ -20998,7 +20998,7 @@ aes_soft__soft__ciphers__planes__process_outlined____4da0d9798c91611c_: # @aes_s
 	i32.add 
 	i32.const	2
 	i32.const	2
-	call	aes_planes__soft__word__word32__U32Word__turn_planes
+	call	aes_planes__soft__word__word32__U32Word__rotate_planes
 	local.get	4
 	local.get	20
 	local.get	4
@@ -23089,7 +23089,7 @@ aes_c__single_rounds__inverse_mixed:    # @aes_c__single_rounds__inverse_mixed
 	local.get	1
 	i32.const	1
 	i32.const	0
-	call	aes_planes__soft__word__word32__U32Word__turn_planes
+	call	aes_planes__soft__word__word32__U32Word__rotate_planes
 	local.get	1
 	local.get	1
 	i32.load	20
@@ -23270,7 +23270,7 @@ aes_c__single_rounds__inverse_mixed:    # @aes_c__single_rounds__inverse_mixed
 	i32.add 
 	i32.const	2
 	i32.const	0
-	call	aes_planes__soft__word__word32__U32Word__turn_planes
+	call	aes_planes__soft__word__word32__U32Word__rotate_planes
 	local.get	1
 	local.get	17
 	local.get	1
@@ -24037,7 +24037,7 @@ aes_c__single_rounds__inverse_round:    # @aes_c__single_rounds__inverse_round
 	local.get	2
 	i32.const	1
 	i32.const	0
-	call	aes_planes__soft__word__word32__U32Word__turn_planes
+	call	aes_planes__soft__word__word32__U32Word__rotate_planes
 	local.get	2
 	local.get	3
 	local.get	2
@@ -24199,7 +24199,7 @@ aes_c__single_rounds__inverse_round:    # @aes_c__single_rounds__inverse_round
 	i32.add 
 	i32.const	2
 	i32.const	0
-	call	aes_planes__soft__word__word32__U32Word__turn_planes
+	call	aes_planes__soft__word__word32__U32Word__rotate_planes
 	local.get	2
 	local.get	9
 	local.get	2
@@ -25315,7 +25315,7 @@ aes_c__single_rounds__inverse_rounds:   # @aes_c__single_rounds__inverse_rounds
 	local.get	2
 	i32.const	1
 	i32.const	0
-	call	aes_planes__soft__word__word32__U32Word__turn_planes
+	call	aes_planes__soft__word__word32__U32Word__rotate_planes
 	local.get	2
 	local.get	22
 	local.get	2
@@ -25477,7 +25477,7 @@ aes_c__single_rounds__inverse_rounds:   # @aes_c__single_rounds__inverse_rounds
 	i32.add 
 	i32.const	2
 	i32.const	0
-	call	aes_planes__soft__word__word32__U32Word__turn_planes
+	call	aes_planes__soft__word__word32__U32Word__rotate_planes
 	local.get	2
 	local.get	28
 	local.get	2
@@ -26081,7 +26081,7 @@ aes_c__single_rounds__mixed:            # @aes_c__single_rounds__mixed
 	local.get	1
 	i32.const	1
 	i32.const	0
-	call	aes_planes__soft__word__word32__U32Word__turn_planes
+	call	aes_planes__soft__word__word32__U32Word__rotate_planes
 	local.get	1
 	local.get	1
 	i32.load	4
@@ -26203,7 +26203,7 @@ aes_c__single_rounds__mixed:            # @aes_c__single_rounds__mixed
 	i32.add 
 	i32.const	2
 	i32.const	0
-	call	aes_planes__soft__word__word32__U32Word__turn_planes
+	call	aes_planes__soft__word__word32__U32Word__rotate_planes
 	local.get	1
 	local.get	9
 	local.get	17
@@ -27041,7 +27041,7 @@ aes_c__single_rounds__round:            # @aes_c__single_rounds__round
 	local.get	2
 	i32.const	1
 	i32.const	0
-	call	aes_planes__soft__word__word32__U32Word__turn_planes
+	call	aes_planes__soft__word__word32__U32Word__rotate_planes
 	local.get	2
 	local.get	15
 	local.get	2
@@ -27146,7 +27146,7 @@ aes_c__single_rounds__round:            # @aes_c__single_rounds__round
 	i32.add 
 	i32.const	2
 	i32.const	0
-	call	aes_planes__soft__word__word32__U32Word__turn_planes
+	call	aes_planes__soft__word__word32__U32Word__rotate_planes
 	local.get	2
 	local.get	7
 	local.get	22
@@ -28245,7 +28245,7 @@ aes_c__single_rounds__rounds:           # @aes_c__single_rounds__rounds
 	local.get	2
 	i32.const	1
 	i32.const	0
-	call	aes_planes__soft__word__word32__U32Word__turn_planes
+	call	aes_planes__soft__word__word32__U32Word__rotate_planes
 	local.get	2
 	local.get	17
 	local.get	2
@@ -28350,7 +28350,7 @@ aes_c__single_rounds__rounds:           # @aes_c__single_rounds__rounds
 	i32.add 
 	i32.const	2
 	i32.const	0
-	call	aes_planes__soft__word__word32__U32Word__turn_planes
+	call	aes_planes__soft__word__word32__U32Word__rotate_planes
 	local.get	2
 	local.get	20
 	local.get	28

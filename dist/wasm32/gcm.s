@@ -50,7 +50,7 @@
 	.functype	gcm_c__whole_to__copy (i32, i64, i32) -> ()
 	.functype	gcm_c__siv__fotsgure_gcm_siv_open (i32, i32, i32, i64, i32, i64, i32) -> (i32)
 	.functype	gcm_c__siv__open_in____a6bcae6e23f869e4_ (i32, i32, i32, i64, i32, i64, i32) -> (i32)
-	.functype	gcm_c__siv__prepare____a6bcae6e23f869e4_ (i32, i32, i32, i32) -> ()
+	.functype	gcm_c__siv__derive_and_prepare____a6bcae6e23f869e4_ (i32, i32, i32, i32) -> ()
 	.functype	gcm_siv__keys__derive____ed3b81e0963a9ab3_ (i32, i64, i32, i32) -> ()
 	.functype	gcm_siv__keys__first_halves (i32, i32, i32) -> ()
 	.functype	gcm_c__siv__set_encryption_key (i32, i64, i32) -> ()
@@ -67,7 +67,7 @@
 	.functype	aes_ctr__add_in_batches__add_next____29d31c8e510779ff_ (i32, i32, i64, i64, i32, i64) -> (i64)
 	.functype	aes_cipher__zeroize__stack__wipe_stack____2816_ () -> ()
 	.functype	gcm_c__siv__open_in____6ee9233b1430bb0c_ (i32, i32, i32, i64, i32, i64, i32) -> (i32)
-	.functype	gcm_c__siv__prepare____6ee9233b1430bb0c_ (i32, i32, i32, i32) -> ()
+	.functype	gcm_c__siv__derive_and_prepare____6ee9233b1430bb0c_ (i32, i32, i32, i32) -> ()
 	.functype	gcm_siv__message__open____95f67159a2618c6e_ (i32, i32, i32, i32, i64, i32, i64, i32) -> (i32)
 	.functype	gcm_siv__message__put_tag____95f67159a2618c6e_ (i32, i32, i32, i32, i64, i32, i64, i32) -> ()
 	.functype	gcm_c__siv__fotsgure_gcm_siv_seal (i32, i32, i32, i64, i32, i64, i32) -> (i32)
@@ -13419,7 +13419,7 @@ gcm_c__siv__open_in____a6bcae6e23f869e4_: # @gcm_c__siv__open_in____a6bcae6e23f8
 	local.get	7
 	i32.const	288
 	i32.add 
-	call	gcm_c__siv__prepare____a6bcae6e23f869e4_
+	call	gcm_c__siv__derive_and_prepare____a6bcae6e23f869e4_
 	local.get	7
 	i32.const	0
 	i32.store	28
@@ -13481,10 +13481,10 @@ gcm_c__siv__open_in____a6bcae6e23f869e4_: # @gcm_c__siv__open_in____a6bcae6e23f8
                                         # fallthrough-return
 	end_function
                                         # -- End function
-	.section	.text.gcm_c__siv__prepare____a6bcae6e23f869e4_,"",@
-	.type	gcm_c__siv__prepare____a6bcae6e23f869e4_,@function # -- Begin function gcm_c__siv__prepare____a6bcae6e23f869e4_
-gcm_c__siv__prepare____a6bcae6e23f869e4_: # @gcm_c__siv__prepare____a6bcae6e23f869e4_
-	.functype	gcm_c__siv__prepare____a6bcae6e23f869e4_ (i32, i32, i32, i32) -> ()
+	.section	.text.gcm_c__siv__derive_and_prepare____a6bcae6e23f869e4_,"",@
+	.type	gcm_c__siv__derive_and_prepare____a6bcae6e23f869e4_,@function # -- Begin function gcm_c__siv__derive_and_prepare____a6bcae6e23f869e4_
+gcm_c__siv__derive_and_prepare____a6bcae6e23f869e4_: # @gcm_c__siv__derive_and_prepare____a6bcae6e23f869e4_
+	.functype	gcm_c__siv__derive_and_prepare____a6bcae6e23f869e4_ (i32, i32, i32, i32) -> ()
 	.local  	i32, i64, i64, i64
 # %bb.0:                                # %start
 	global.get	__stack_pointer
@@ -17666,7 +17666,7 @@ gcm_c__siv__open_in____6ee9233b1430bb0c_: # @gcm_c__siv__open_in____6ee9233b1430
 	local.get	7
 	i32.const	288
 	i32.add 
-	call	gcm_c__siv__prepare____6ee9233b1430bb0c_
+	call	gcm_c__siv__derive_and_prepare____6ee9233b1430bb0c_
 	local.get	7
 	i32.const	0
 	i32.store	28
@@ -17728,10 +17728,10 @@ gcm_c__siv__open_in____6ee9233b1430bb0c_: # @gcm_c__siv__open_in____6ee9233b1430
                                         # fallthrough-return
 	end_function
                                         # -- End function
-	.section	.text.gcm_c__siv__prepare____6ee9233b1430bb0c_,"",@
-	.type	gcm_c__siv__prepare____6ee9233b1430bb0c_,@function # -- Begin function gcm_c__siv__prepare____6ee9233b1430bb0c_
-gcm_c__siv__prepare____6ee9233b1430bb0c_: # @gcm_c__siv__prepare____6ee9233b1430bb0c_
-	.functype	gcm_c__siv__prepare____6ee9233b1430bb0c_ (i32, i32, i32, i32) -> ()
+	.section	.text.gcm_c__siv__derive_and_prepare____6ee9233b1430bb0c_,"",@
+	.type	gcm_c__siv__derive_and_prepare____6ee9233b1430bb0c_,@function # -- Begin function gcm_c__siv__derive_and_prepare____6ee9233b1430bb0c_
+gcm_c__siv__derive_and_prepare____6ee9233b1430bb0c_: # @gcm_c__siv__derive_and_prepare____6ee9233b1430bb0c_
+	.functype	gcm_c__siv__derive_and_prepare____6ee9233b1430bb0c_ (i32, i32, i32, i32) -> ()
 	.local  	i32, i64, i64, i64
 # %bb.0:                                # %start
 	global.get	__stack_pointer
@@ -19238,7 +19238,7 @@ gcm_c__siv__seal_in____a6bcae6e23f869e4_: # @gcm_c__siv__seal_in____a6bcae6e23f8
 	local.get	7
 	i32.const	304
 	i32.add 
-	call	gcm_c__siv__prepare____a6bcae6e23f869e4_
+	call	gcm_c__siv__derive_and_prepare____a6bcae6e23f869e4_
 	local.get	7
 	i32.const	0
 	i32.store	28
@@ -19451,7 +19451,7 @@ gcm_c__siv__seal_in____6ee9233b1430bb0c_: # @gcm_c__siv__seal_in____6ee9233b1430
 	local.get	7
 	i32.const	304
 	i32.add 
-	call	gcm_c__siv__prepare____6ee9233b1430bb0c_
+	call	gcm_c__siv__derive_and_prepare____6ee9233b1430bb0c_
 	local.get	7
 	i32.const	0
 	i32.store	28

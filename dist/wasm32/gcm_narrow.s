@@ -23,7 +23,7 @@
 	.functype	aes_narrow__blocks__process_all_batches____f6c900d3ac1e47b9_ (i32, i64, i32, i64) -> ()
 	.functype	aes_soft__soft__blocks__filled_up__process_filled_up____f6c900d3ac1e47b9_ (i32, i64, i32, i64) -> ()
 	.functype	aes_soft__soft__ciphers__planes__process_outlined____dc651273b304e77a_ (i32, i32, i64, i32) -> ()
-	.functype	aes_planes__soft__word__word32__U32Word__turn_planes (i32, i32, i32, i32) -> ()
+	.functype	aes_planes__soft__word__word32__U32Word__rotate_planes (i32, i32, i32, i32) -> ()
 	.functype	aes_planes__soft__word__word32__U32Word__rotate_rows_and_columns (i32, i32, i32) -> (i32)
 	.functype	aes_cipher__zeroize__stack__wipe_stack____1024_ () -> ()
 	.functype	gcm__mode__BorrowedGcm__hash_so_far____c01aad2b5fbc92b1_ (i32, i32, i32) -> ()
@@ -42,7 +42,7 @@
 	.functype	gcm_c__whole_to__copy (i32, i64, i32) -> ()
 	.functype	gcm_c__siv__fotsgure_gcm_siv_open (i32, i32, i32, i64, i32, i64, i32) -> (i32)
 	.functype	gcm_c__siv__open_in____6c5a95c66ef7471a_ (i32, i32, i32, i64, i32, i64, i32) -> (i32)
-	.functype	gcm_c__siv__prepare____6c5a95c66ef7471a_ (i32, i32, i32, i32) -> ()
+	.functype	gcm_c__siv__derive_and_prepare____6c5a95c66ef7471a_ (i32, i32, i32, i32) -> ()
 	.functype	gcm_siv__message__open____fe07397204778e73_ (i32, i32, i32, i32, i64, i32, i64, i32) -> (i32)
 	.functype	gcm_siv__message__put_tag____fe07397204778e73_ (i32, i32, i32, i32, i64, i32, i64, i32) -> ()
 	.functype	gcm__single_blocks__hash_singly____4042f4b97f1aa5e1_ (i32, i32, i64, i64, i32, i64) -> ()
@@ -7493,7 +7493,7 @@ aes_soft__soft__ciphers__planes__process_outlined____dc651273b304e77a_: # @aes_s
 	local.get	4
 	i32.const	1
 	i32.const	1
-	call	aes_planes__soft__word__word32__U32Word__turn_planes
+	call	aes_planes__soft__word__word32__U32Word__rotate_planes
 	local.get	4
 	local.get	11
 	local.get	4
@@ -7598,7 +7598,7 @@ aes_soft__soft__ciphers__planes__process_outlined____dc651273b304e77a_: # @aes_s
 	i32.add 
 	i32.const	2
 	i32.const	2
-	call	aes_planes__soft__word__word32__U32Word__turn_planes
+	call	aes_planes__soft__word__word32__U32Word__rotate_planes
 	local.get	4
 	local.get	8
 	local.get	22
@@ -8059,7 +8059,7 @@ aes_soft__soft__ciphers__planes__process_outlined____dc651273b304e77a_: # @aes_s
 	local.get	4
 	i32.const	1
 	i32.const	2
-	call	aes_planes__soft__word__word32__U32Word__turn_planes
+	call	aes_planes__soft__word__word32__U32Word__rotate_planes
 	local.get	4
 	local.get	10
 	local.get	4
@@ -8164,7 +8164,7 @@ aes_soft__soft__ciphers__planes__process_outlined____dc651273b304e77a_: # @aes_s
 	i32.add 
 	i32.const	2
 	i32.const	0
-	call	aes_planes__soft__word__word32__U32Word__turn_planes
+	call	aes_planes__soft__word__word32__U32Word__rotate_planes
 	local.get	4
 	local.get	8
 	local.get	22
@@ -8625,7 +8625,7 @@ aes_soft__soft__ciphers__planes__process_outlined____dc651273b304e77a_: # @aes_s
 	local.get	4
 	i32.const	1
 	i32.const	3
-	call	aes_planes__soft__word__word32__U32Word__turn_planes
+	call	aes_planes__soft__word__word32__U32Word__rotate_planes
 	local.get	4
 	local.get	10
 	local.get	4
@@ -8730,7 +8730,7 @@ aes_soft__soft__ciphers__planes__process_outlined____dc651273b304e77a_: # @aes_s
 	i32.add 
 	i32.const	2
 	i32.const	2
-	call	aes_planes__soft__word__word32__U32Word__turn_planes
+	call	aes_planes__soft__word__word32__U32Word__rotate_planes
 	local.get	4
 	local.get	8
 	local.get	22
@@ -9191,7 +9191,7 @@ aes_soft__soft__ciphers__planes__process_outlined____dc651273b304e77a_: # @aes_s
 	local.get	4
 	i32.const	1
 	i32.const	0
-	call	aes_planes__soft__word__word32__U32Word__turn_planes
+	call	aes_planes__soft__word__word32__U32Word__rotate_planes
 	local.get	4
 	local.get	10
 	local.get	4
@@ -9296,7 +9296,7 @@ aes_soft__soft__ciphers__planes__process_outlined____dc651273b304e77a_: # @aes_s
 	i32.add 
 	i32.const	2
 	i32.const	0
-	call	aes_planes__soft__word__word32__U32Word__turn_planes
+	call	aes_planes__soft__word__word32__U32Word__rotate_planes
 	local.get	4
 	local.get	8
 	local.get	22
@@ -9824,7 +9824,7 @@ aes_soft__soft__ciphers__planes__process_outlined____dc651273b304e77a_: # @aes_s
 	local.get	4
 	i32.const	1
 	i32.const	1
-	call	aes_planes__soft__word__word32__U32Word__turn_planes
+	call	aes_planes__soft__word__word32__U32Word__rotate_planes
 	local.get	4
 	local.get	10
 	local.get	4
@@ -9929,7 +9929,7 @@ aes_soft__soft__ciphers__planes__process_outlined____dc651273b304e77a_: # @aes_s
 	i32.add 
 	i32.const	2
 	i32.const	2
-	call	aes_planes__soft__word__word32__U32Word__turn_planes
+	call	aes_planes__soft__word__word32__U32Word__rotate_planes
 	local.get	4
 	local.get	7
 	local.get	19
@@ -10402,7 +10402,7 @@ aes_soft__soft__ciphers__planes__process_outlined____dc651273b304e77a_: # @aes_s
 	local.get	4
 	i32.const	1
 	i32.const	2
-	call	aes_planes__soft__word__word32__U32Word__turn_planes
+	call	aes_planes__soft__word__word32__U32Word__rotate_planes
 	local.get	4
 	local.get	4
 	i32.load	36
@@ -10507,7 +10507,7 @@ aes_soft__soft__ciphers__planes__process_outlined____dc651273b304e77a_: # @aes_s
 	i32.add 
 	i32.const	2
 	i32.const	0
-	call	aes_planes__soft__word__word32__U32Word__turn_planes
+	call	aes_planes__soft__word__word32__U32Word__rotate_planes
 	local.get	4
 	local.get	9
 	local.get	19
@@ -10958,7 +10958,7 @@ aes_soft__soft__ciphers__planes__process_outlined____dc651273b304e77a_: # @aes_s
 	local.get	4
 	i32.const	1
 	i32.const	3
-	call	aes_planes__soft__word__word32__U32Word__turn_planes
+	call	aes_planes__soft__word__word32__U32Word__rotate_planes
 	local.get	4
 	local.get	9
 	local.get	4
@@ -11063,7 +11063,7 @@ aes_soft__soft__ciphers__planes__process_outlined____dc651273b304e77a_: # @aes_s
 	i32.add 
 	i32.const	2
 	i32.const	2
-	call	aes_planes__soft__word__word32__U32Word__turn_planes
+	call	aes_planes__soft__word__word32__U32Word__rotate_planes
 	local.get	4
 	local.get	7
 	local.get	19
@@ -11848,10 +11848,10 @@ aes_soft__soft__ciphers__planes__process_outlined____dc651273b304e77a_: # @aes_s
                                         # fallthrough-return
 	end_function
                                         # -- End function
-	.section	.text.aes_planes__soft__word__word32__U32Word__turn_planes,"",@
-	.type	aes_planes__soft__word__word32__U32Word__turn_planes,@function # -- Begin function aes_planes__soft__word__word32__U32Word__turn_planes
-aes_planes__soft__word__word32__U32Word__turn_planes: # @aes_planes__soft__word__word32__U32Word__turn_planes
-	.functype	aes_planes__soft__word__word32__U32Word__turn_planes (i32, i32, i32, i32) -> ()
+	.section	.text.aes_planes__soft__word__word32__U32Word__rotate_planes,"",@
+	.type	aes_planes__soft__word__word32__U32Word__rotate_planes,@function # -- Begin function aes_planes__soft__word__word32__U32Word__rotate_planes
+aes_planes__soft__word__word32__U32Word__rotate_planes: # @aes_planes__soft__word__word32__U32Word__rotate_planes
+	.functype	aes_planes__soft__word__word32__U32Word__rotate_planes (i32, i32, i32, i32) -> ()
 	.local  	i32, i32, i32, i32, i32, i32, i32
 # %bb.0:                                # %start
 	local.get	1
@@ -15913,7 +15913,7 @@ gcm_c__siv__open_in____6c5a95c66ef7471a_: # @gcm_c__siv__open_in____6c5a95c66ef7
 	local.get	7
 	i32.const	512
 	i32.add 
-	call	gcm_c__siv__prepare____6c5a95c66ef7471a_
+	call	gcm_c__siv__derive_and_prepare____6c5a95c66ef7471a_
 	local.get	7
 	i32.const	0
 	i32.store	12
@@ -15961,10 +15961,10 @@ gcm_c__siv__open_in____6c5a95c66ef7471a_: # @gcm_c__siv__open_in____6c5a95c66ef7
                                         # fallthrough-return
 	end_function
                                         # -- End function
-	.section	.text.gcm_c__siv__prepare____6c5a95c66ef7471a_,"",@
-	.type	gcm_c__siv__prepare____6c5a95c66ef7471a_,@function # -- Begin function gcm_c__siv__prepare____6c5a95c66ef7471a_
-gcm_c__siv__prepare____6c5a95c66ef7471a_: # @gcm_c__siv__prepare____6c5a95c66ef7471a_
-	.functype	gcm_c__siv__prepare____6c5a95c66ef7471a_ (i32, i32, i32, i32) -> ()
+	.section	.text.gcm_c__siv__derive_and_prepare____6c5a95c66ef7471a_,"",@
+	.type	gcm_c__siv__derive_and_prepare____6c5a95c66ef7471a_,@function # -- Begin function gcm_c__siv__derive_and_prepare____6c5a95c66ef7471a_
+gcm_c__siv__derive_and_prepare____6c5a95c66ef7471a_: # @gcm_c__siv__derive_and_prepare____6c5a95c66ef7471a_
+	.functype	gcm_c__siv__derive_and_prepare____6c5a95c66ef7471a_ (i32, i32, i32, i32) -> ()
 	.local  	i32, i64, i64, i64, i64, i64, i32
 # %bb.0:                                # %start
 	global.get	__stack_pointer
@@ -18624,7 +18624,7 @@ gcm_c__siv__seal_in____6c5a95c66ef7471a_: # @gcm_c__siv__seal_in____6c5a95c66ef7
 	local.get	7
 	i32.const	528
 	i32.add 
-	call	gcm_c__siv__prepare____6c5a95c66ef7471a_
+	call	gcm_c__siv__derive_and_prepare____6c5a95c66ef7471a_
 	local.get	7
 	i32.const	0
 	i32.store	12

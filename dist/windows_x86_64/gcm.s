@@ -10791,7 +10791,7 @@ gcm_v2.gcm_c.siv.open_in.1: # @gcm_v2.gcm_c.siv.open_in.1
 	leaq	80(%rsp), %rdx
 	movq	%r12, %rsi
 	movq	%rbp, %rcx
-	callq	gcm_v2.gcm_c.siv.prepare.1
+	callq	gcm_v2.gcm_c.siv.derive_and_prepare.1
 	movl	80(%rsp), %eax
 	shrl	$2, %eax
 	addq	$7, %rax
@@ -10828,13 +10828,13 @@ gcm_v2.gcm_c.siv.open_in.1: # @gcm_v2.gcm_c.siv.open_in.1
 	retq
 	.seh_endproc
                                         # -- End function
-	.def	gcm_v2.gcm_c.siv.prepare.1;
+	.def	gcm_v2.gcm_c.siv.derive_and_prepare.1;
 	.scl	3;
 	.type	32;
 	.endef
-	.p2align	4                               # -- Begin function gcm_c::siv::prepare::<#a6bcae6e23f869e4>
-gcm_v2.gcm_c.siv.prepare.1: # @gcm_v2.gcm_c.siv.prepare.1
-.seh_proc gcm_v2.gcm_c.siv.prepare.1
+	.p2align	4                               # -- Begin function gcm_c::siv::derive_and_prepare::<#a6bcae6e23f869e4>
+gcm_v2.gcm_c.siv.derive_and_prepare.1: # @gcm_v2.gcm_c.siv.derive_and_prepare.1
+.seh_proc gcm_v2.gcm_c.siv.derive_and_prepare.1
 # %bb.0:                                # %start
 	pushq	%r15
 	.seh_pushreg %r15
@@ -13558,7 +13558,7 @@ gcm_v2.gcm_c.siv.open_in.2: # @gcm_v2.gcm_c.siv.open_in.2
 	leaq	80(%rsp), %rdx
 	movq	%r12, %rsi
 	movq	%rbp, %rcx
-	callq	gcm_v2.gcm_c.siv.prepare.2
+	callq	gcm_v2.gcm_c.siv.derive_and_prepare.2
 	movl	80(%rsp), %eax
 	shrl	$2, %eax
 	addq	$7, %rax
@@ -13595,13 +13595,13 @@ gcm_v2.gcm_c.siv.open_in.2: # @gcm_v2.gcm_c.siv.open_in.2
 	retq
 	.seh_endproc
                                         # -- End function
-	.def	gcm_v2.gcm_c.siv.prepare.2;
+	.def	gcm_v2.gcm_c.siv.derive_and_prepare.2;
 	.scl	3;
 	.type	32;
 	.endef
-	.p2align	4                               # -- Begin function gcm_c::siv::prepare::<#6ee9233b1430bb0c>
-gcm_v2.gcm_c.siv.prepare.2: # @gcm_v2.gcm_c.siv.prepare.2
-.seh_proc gcm_v2.gcm_c.siv.prepare.2
+	.p2align	4                               # -- Begin function gcm_c::siv::derive_and_prepare::<#6ee9233b1430bb0c>
+gcm_v2.gcm_c.siv.derive_and_prepare.2: # @gcm_v2.gcm_c.siv.derive_and_prepare.2
+.seh_proc gcm_v2.gcm_c.siv.derive_and_prepare.2
 # %bb.0:                                # %start
 	pushq	%rbp
 	.seh_pushreg %rbp
@@ -14585,7 +14585,7 @@ gcm_v2.gcm_c.siv.seal_in.1: # @gcm_v2.gcm_c.siv.seal_in.1
 	movq	%rsi, %rdi
 	movq	%r12, %rsi
 	movq	%rbp, %rcx
-	callq	gcm_v2.gcm_c.siv.prepare.1
+	callq	gcm_v2.gcm_c.siv.derive_and_prepare.1
 	movl	96(%rsp), %eax
 	shrl	$2, %eax
 	addq	$7, %rax
@@ -14739,7 +14739,7 @@ gcm_v2.gcm_c.siv.seal_in.2: # @gcm_v2.gcm_c.siv.seal_in.2
 	movq	%rsi, %rdi
 	movq	%r12, %rsi
 	movq	%rbp, %rcx
-	callq	gcm_v2.gcm_c.siv.prepare.2
+	callq	gcm_v2.gcm_c.siv.derive_and_prepare.2
 	movl	96(%rsp), %eax
 	shrl	$2, %eax
 	addq	$7, %rax
@@ -18918,4 +18918,4 @@ gcm_v2.fotsgure_gcm_accept_short:              # @gcm_v2.fotsgure_gcm_accept_sho
 
 
 	.section	.rdata,"dr"
-	.asciz	"fotsgure_gcm 0.4.0, windows_x86_64/gcm.s, sources SHA-256 4d3afa730b73b53378a2cfbbd8bddf85d4a77d01807ce624eb12665628472578"
+	.asciz	"fotsgure_gcm 0.4.0, windows_x86_64/gcm.s, sources SHA-256 3be67e763479005e9ae1720ec4e223afc9b4024a85a1e7a2fe02eb3a79a28337"

@@ -6936,7 +6936,7 @@ gcm_v1.gcm_c.siv.open_in: # @gcm_v1.gcm_c.siv.open_in
 	leaq	84(%rsp), %rdx
 	leaq	68(%rsp), %rbx
 	movq	%rbx, %rcx
-	callq	gcm_v1.gcm_c.siv.prepare
+	callq	gcm_v1.gcm_c.siv.derive_and_prepare
 	movl	84(%rsp), %eax
 	leaq	56(,%rax,2), %rax
 	movq	%r14, 48(%rsp)
@@ -6970,13 +6970,13 @@ gcm_v1.gcm_c.siv.open_in: # @gcm_v1.gcm_c.siv.open_in
 	retq
 	.seh_endproc
                                         # -- End function
-	.def	gcm_v1.gcm_c.siv.prepare;
+	.def	gcm_v1.gcm_c.siv.derive_and_prepare;
 	.scl	3;
 	.type	32;
 	.endef
-	.p2align	4                               # -- Begin function gcm_c::siv::prepare::<#6c5a95c66ef7471a>
-gcm_v1.gcm_c.siv.prepare: # @gcm_v1.gcm_c.siv.prepare
-.seh_proc gcm_v1.gcm_c.siv.prepare
+	.p2align	4                               # -- Begin function gcm_c::siv::derive_and_prepare::<#6c5a95c66ef7471a>
+gcm_v1.gcm_c.siv.derive_and_prepare: # @gcm_v1.gcm_c.siv.derive_and_prepare
+.seh_proc gcm_v1.gcm_c.siv.derive_and_prepare
 # %bb.0:                                # %start
 	pushq	%r15
 	.seh_pushreg %r15
@@ -8092,7 +8092,7 @@ gcm_v1.gcm_c.siv.seal_in: # @gcm_v1.gcm_c.siv.seal_in
 	movq	%rsi, %rdi
 	movq	%r12, %rsi
 	movq	%rbx, %rcx
-	callq	gcm_v1.gcm_c.siv.prepare
+	callq	gcm_v1.gcm_c.siv.derive_and_prepare
 	movl	100(%rsp), %eax
 	leaq	56(,%rax,2), %rax
 	movq	%r15, 48(%rsp)
@@ -12073,4 +12073,4 @@ gcm_v1.fotsgure_gcm_accept_short:              # @gcm_v1.fotsgure_gcm_accept_sho
 
 
 	.section	.rdata,"dr"
-	.asciz	"fotsgure_gcm 0.4.0, windows_x86_64/gcm_v1.s, sources SHA-256 4d3afa730b73b53378a2cfbbd8bddf85d4a77d01807ce624eb12665628472578"
+	.asciz	"fotsgure_gcm 0.4.0, windows_x86_64/gcm_v1.s, sources SHA-256 3be67e763479005e9ae1720ec4e223afc9b4024a85a1e7a2fe02eb3a79a28337"

@@ -10748,7 +10748,7 @@ gcm_v2.gcm_c.siv.open_in.1: # @gcm_v2.gcm_c.siv.open_in.1
 	movq	%r14, %rdi
 	movq	%r12, %rsi
 	movq	%rbp, %rcx
-	callq	gcm_v2.gcm_c.siv.prepare.1
+	callq	gcm_v2.gcm_c.siv.derive_and_prepare.1
 	movl	64(%rsp), %eax
 	shrl	$2, %eax
 	addq	$7, %rax
@@ -10786,10 +10786,10 @@ gcm_v2.gcm_c.siv.open_in.1: # @gcm_v2.gcm_c.siv.open_in.1
 .Lgcm_v2_func_end38:
 	.size	gcm_v2.gcm_c.siv.open_in.1, .Lgcm_v2_func_end38-gcm_v2.gcm_c.siv.open_in.1
                                         # -- End function
-	.section	.text.gcm_v2.gcm_c.siv.prepare.1,"ax",@progbits
-	.p2align	4                               # -- Begin function gcm_c::siv::prepare::<#a6bcae6e23f869e4>
-	.type	gcm_v2.gcm_c.siv.prepare.1,@function
-gcm_v2.gcm_c.siv.prepare.1: # @gcm_v2.gcm_c.siv.prepare.1
+	.section	.text.gcm_v2.gcm_c.siv.derive_and_prepare.1,"ax",@progbits
+	.p2align	4                               # -- Begin function gcm_c::siv::derive_and_prepare::<#a6bcae6e23f869e4>
+	.type	gcm_v2.gcm_c.siv.derive_and_prepare.1,@function
+gcm_v2.gcm_c.siv.derive_and_prepare.1: # @gcm_v2.gcm_c.siv.derive_and_prepare.1
 # %bb.0:                                # %start
 	pushq	%r15
 	pushq	%r14
@@ -10875,7 +10875,7 @@ gcm_v2.gcm_c.siv.prepare.1: # @gcm_v2.gcm_c.siv.prepare.1
 	popq	%r15
 	retq
 .Lgcm_v2_func_end39:
-	.size	gcm_v2.gcm_c.siv.prepare.1, .Lgcm_v2_func_end39-gcm_v2.gcm_c.siv.prepare.1
+	.size	gcm_v2.gcm_c.siv.derive_and_prepare.1, .Lgcm_v2_func_end39-gcm_v2.gcm_c.siv.derive_and_prepare.1
                                         # -- End function
 	.section	.text.gcm_v2.gcm_siv.keys.derive,"ax",@progbits
 	.p2align	4                               # -- Begin function gcm_siv::keys::derive::<#ed3b81e0963a9ab3>
@@ -13418,7 +13418,7 @@ gcm_v2.gcm_c.siv.open_in.2: # @gcm_v2.gcm_c.siv.open_in.2
 	movq	%r14, %rdi
 	movq	%r12, %rsi
 	movq	%rbp, %rcx
-	callq	gcm_v2.gcm_c.siv.prepare.2
+	callq	gcm_v2.gcm_c.siv.derive_and_prepare.2
 	movl	64(%rsp), %eax
 	shrl	$2, %eax
 	addq	$7, %rax
@@ -13456,10 +13456,10 @@ gcm_v2.gcm_c.siv.open_in.2: # @gcm_v2.gcm_c.siv.open_in.2
 .Lgcm_v2_func_end50:
 	.size	gcm_v2.gcm_c.siv.open_in.2, .Lgcm_v2_func_end50-gcm_v2.gcm_c.siv.open_in.2
                                         # -- End function
-	.section	.text.gcm_v2.gcm_c.siv.prepare.2,"ax",@progbits
-	.p2align	4                               # -- Begin function gcm_c::siv::prepare::<#6ee9233b1430bb0c>
-	.type	gcm_v2.gcm_c.siv.prepare.2,@function
-gcm_v2.gcm_c.siv.prepare.2: # @gcm_v2.gcm_c.siv.prepare.2
+	.section	.text.gcm_v2.gcm_c.siv.derive_and_prepare.2,"ax",@progbits
+	.p2align	4                               # -- Begin function gcm_c::siv::derive_and_prepare::<#6ee9233b1430bb0c>
+	.type	gcm_v2.gcm_c.siv.derive_and_prepare.2,@function
+gcm_v2.gcm_c.siv.derive_and_prepare.2: # @gcm_v2.gcm_c.siv.derive_and_prepare.2
 # %bb.0:                                # %start
 	pushq	%rbp
 	pushq	%r15
@@ -13575,7 +13575,7 @@ gcm_v2.gcm_c.siv.prepare.2: # @gcm_v2.gcm_c.siv.prepare.2
 	popq	%rbp
 	retq
 .Lgcm_v2_func_end51:
-	.size	gcm_v2.gcm_c.siv.prepare.2, .Lgcm_v2_func_end51-gcm_v2.gcm_c.siv.prepare.2
+	.size	gcm_v2.gcm_c.siv.derive_and_prepare.2, .Lgcm_v2_func_end51-gcm_v2.gcm_c.siv.derive_and_prepare.2
                                         # -- End function
 	.section	.text.gcm_v2.gcm_siv.message.open.2,"ax",@progbits
 	.p2align	4                               # -- Begin function gcm_siv::message::open::<#95f67159a2618c6e>
@@ -14418,7 +14418,7 @@ gcm_v2.gcm_c.siv.seal_in.1: # @gcm_v2.gcm_c.siv.seal_in.1
 	movq	%r14, %rdi
 	movq	%r12, %rsi
 	movq	%rbp, %rcx
-	callq	gcm_v2.gcm_c.siv.prepare.1
+	callq	gcm_v2.gcm_c.siv.derive_and_prepare.1
 	movl	80(%rsp), %eax
 	shrl	$2, %eax
 	addq	$7, %rax
@@ -14555,7 +14555,7 @@ gcm_v2.gcm_c.siv.seal_in.2: # @gcm_v2.gcm_c.siv.seal_in.2
 	movq	%r14, %rdi
 	movq	%r12, %rsi
 	movq	%rbp, %rcx
-	callq	gcm_v2.gcm_c.siv.prepare.2
+	callq	gcm_v2.gcm_c.siv.derive_and_prepare.2
 	movl	80(%rsp), %eax
 	shrl	$2, %eax
 	addq	$7, %rax
@@ -18138,5 +18138,5 @@ gcm_v2.fotsgure_gcm_accept_short:              # @gcm_v2.fotsgure_gcm_accept_sho
 	.long	9, 115, 1
 	.asciz	"Fotsgure"
 	.p2align	2, 0x0
-	.asciz	"fotsgure_gcm 0.4.0, x86_64/gcm.s, sources SHA-256 4d3afa730b73b53378a2cfbbd8bddf85d4a77d01807ce624eb12665628472578"
+	.asciz	"fotsgure_gcm 0.4.0, x86_64/gcm.s, sources SHA-256 3be67e763479005e9ae1720ec4e223afc9b4024a85a1e7a2fe02eb3a79a28337"
 	.p2align	2, 0x0

@@ -6894,7 +6894,7 @@ gcm_v1.gcm_c.siv.open_in: # @gcm_v1.gcm_c.siv.open_in
 	movq	%r14, %rdi
 	movq	%r13, %rsi
 	movq	%rbx, %rcx
-	callq	gcm_v1.gcm_c.siv.prepare
+	callq	gcm_v1.gcm_c.siv.derive_and_prepare
 	movl	68(%rsp), %eax
 	leaq	56(,%rax,2), %rax
 	movq	%r15, 32(%rsp)
@@ -6929,10 +6929,10 @@ gcm_v1.gcm_c.siv.open_in: # @gcm_v1.gcm_c.siv.open_in
 .Lgcm_v1_func_end27:
 	.size	gcm_v1.gcm_c.siv.open_in, .Lgcm_v1_func_end27-gcm_v1.gcm_c.siv.open_in
                                         # -- End function
-	.section	.text.gcm_v1.gcm_c.siv.prepare,"ax",@progbits
-	.p2align	4                               # -- Begin function gcm_c::siv::prepare::<#6c5a95c66ef7471a>
-	.type	gcm_v1.gcm_c.siv.prepare,@function
-gcm_v1.gcm_c.siv.prepare: # @gcm_v1.gcm_c.siv.prepare
+	.section	.text.gcm_v1.gcm_c.siv.derive_and_prepare,"ax",@progbits
+	.p2align	4                               # -- Begin function gcm_c::siv::derive_and_prepare::<#6c5a95c66ef7471a>
+	.type	gcm_v1.gcm_c.siv.derive_and_prepare,@function
+gcm_v1.gcm_c.siv.derive_and_prepare: # @gcm_v1.gcm_c.siv.derive_and_prepare
 # %bb.0:                                # %start
 	pushq	%r15
 	pushq	%r14
@@ -7044,7 +7044,7 @@ gcm_v1.gcm_c.siv.prepare: # @gcm_v1.gcm_c.siv.prepare
 	popq	%r15
 	retq
 .Lgcm_v1_func_end28:
-	.size	gcm_v1.gcm_c.siv.prepare, .Lgcm_v1_func_end28-gcm_v1.gcm_c.siv.prepare
+	.size	gcm_v1.gcm_c.siv.derive_and_prepare, .Lgcm_v1_func_end28-gcm_v1.gcm_c.siv.derive_and_prepare
                                         # -- End function
 	.section	.text.gcm_v1.gcm_siv.message.open,"ax",@progbits
 	.p2align	4                               # -- Begin function gcm_siv::message::open::<#fe07397204778e73>
@@ -7970,7 +7970,7 @@ gcm_v1.gcm_c.siv.seal_in: # @gcm_v1.gcm_c.siv.seal_in
 	movq	%r13, %rdi
 	movq	%r12, %rsi
 	movq	%rcx, %r13
-	callq	gcm_v1.gcm_c.siv.prepare
+	callq	gcm_v1.gcm_c.siv.derive_and_prepare
 	movl	84(%rsp), %eax
 	leaq	56(,%rax,2), %rax
 	movq	%r15, 32(%rsp)
@@ -11317,5 +11317,5 @@ gcm_v1.fotsgure_gcm_accept_short:              # @gcm_v1.fotsgure_gcm_accept_sho
 	.long	9, 118, 1
 	.asciz	"Fotsgure"
 	.p2align	2, 0x0
-	.asciz	"fotsgure_gcm 0.4.0, x86_64/gcm_v1.s, sources SHA-256 4d3afa730b73b53378a2cfbbd8bddf85d4a77d01807ce624eb12665628472578"
+	.asciz	"fotsgure_gcm 0.4.0, x86_64/gcm_v1.s, sources SHA-256 3be67e763479005e9ae1720ec4e223afc9b4024a85a1e7a2fe02eb3a79a28337"
 	.p2align	2, 0x0

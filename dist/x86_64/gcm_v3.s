@@ -10819,7 +10819,7 @@ gcm_v3.gcm_c.siv.open_in.1: # @gcm_v3.gcm_c.siv.open_in.1
 	movq	%r12, %rsi
 	movq	%rbp, %rcx
 	vzeroupper
-	callq	gcm_v3.gcm_c.siv.prepare.1
+	callq	gcm_v3.gcm_c.siv.derive_and_prepare.1
 	movl	64(%rsp), %eax
 	shrl	$2, %eax
 	addq	$7, %rax
@@ -10857,10 +10857,10 @@ gcm_v3.gcm_c.siv.open_in.1: # @gcm_v3.gcm_c.siv.open_in.1
 .Lgcm_v3_func_end38:
 	.size	gcm_v3.gcm_c.siv.open_in.1, .Lgcm_v3_func_end38-gcm_v3.gcm_c.siv.open_in.1
                                         # -- End function
-	.section	.text.gcm_v3.gcm_c.siv.prepare.1,"ax",@progbits
-	.p2align	4                               # -- Begin function gcm_c::siv::prepare::<#a6bcae6e23f869e4>
-	.type	gcm_v3.gcm_c.siv.prepare.1,@function
-gcm_v3.gcm_c.siv.prepare.1: # @gcm_v3.gcm_c.siv.prepare.1
+	.section	.text.gcm_v3.gcm_c.siv.derive_and_prepare.1,"ax",@progbits
+	.p2align	4                               # -- Begin function gcm_c::siv::derive_and_prepare::<#a6bcae6e23f869e4>
+	.type	gcm_v3.gcm_c.siv.derive_and_prepare.1,@function
+gcm_v3.gcm_c.siv.derive_and_prepare.1: # @gcm_v3.gcm_c.siv.derive_and_prepare.1
 # %bb.0:                                # %start
 	pushq	%r15
 	pushq	%r14
@@ -10942,7 +10942,7 @@ gcm_v3.gcm_c.siv.prepare.1: # @gcm_v3.gcm_c.siv.prepare.1
 	popq	%r15
 	retq
 .Lgcm_v3_func_end39:
-	.size	gcm_v3.gcm_c.siv.prepare.1, .Lgcm_v3_func_end39-gcm_v3.gcm_c.siv.prepare.1
+	.size	gcm_v3.gcm_c.siv.derive_and_prepare.1, .Lgcm_v3_func_end39-gcm_v3.gcm_c.siv.derive_and_prepare.1
                                         # -- End function
 	.section	.text.gcm_v3.gcm_siv.keys.derive,"ax",@progbits
 	.p2align	4                               # -- Begin function gcm_siv::keys::derive::<#9afc0f8057cec37b>
@@ -13615,7 +13615,7 @@ gcm_v3.gcm_c.siv.open_in.2: # @gcm_v3.gcm_c.siv.open_in.2
 	movq	%r12, %rsi
 	movq	%rbp, %rcx
 	vzeroupper
-	callq	gcm_v3.gcm_c.siv.prepare.2
+	callq	gcm_v3.gcm_c.siv.derive_and_prepare.2
 	movl	64(%rsp), %eax
 	shrl	$2, %eax
 	addq	$7, %rax
@@ -13653,10 +13653,10 @@ gcm_v3.gcm_c.siv.open_in.2: # @gcm_v3.gcm_c.siv.open_in.2
 .Lgcm_v3_func_end50:
 	.size	gcm_v3.gcm_c.siv.open_in.2, .Lgcm_v3_func_end50-gcm_v3.gcm_c.siv.open_in.2
                                         # -- End function
-	.section	.text.gcm_v3.gcm_c.siv.prepare.2,"ax",@progbits
-	.p2align	4                               # -- Begin function gcm_c::siv::prepare::<#6ee9233b1430bb0c>
-	.type	gcm_v3.gcm_c.siv.prepare.2,@function
-gcm_v3.gcm_c.siv.prepare.2: # @gcm_v3.gcm_c.siv.prepare.2
+	.section	.text.gcm_v3.gcm_c.siv.derive_and_prepare.2,"ax",@progbits
+	.p2align	4                               # -- Begin function gcm_c::siv::derive_and_prepare::<#6ee9233b1430bb0c>
+	.type	gcm_v3.gcm_c.siv.derive_and_prepare.2,@function
+gcm_v3.gcm_c.siv.derive_and_prepare.2: # @gcm_v3.gcm_c.siv.derive_and_prepare.2
 # %bb.0:                                # %start
 	pushq	%rbp
 	pushq	%r15
@@ -13769,7 +13769,7 @@ gcm_v3.gcm_c.siv.prepare.2: # @gcm_v3.gcm_c.siv.prepare.2
 	popq	%rbp
 	retq
 .Lgcm_v3_func_end51:
-	.size	gcm_v3.gcm_c.siv.prepare.2, .Lgcm_v3_func_end51-gcm_v3.gcm_c.siv.prepare.2
+	.size	gcm_v3.gcm_c.siv.derive_and_prepare.2, .Lgcm_v3_func_end51-gcm_v3.gcm_c.siv.derive_and_prepare.2
                                         # -- End function
 	.section	.text.gcm_v3.gcm_siv.message.open.2,"ax",@progbits
 	.p2align	4                               # -- Begin function gcm_siv::message::open::<#2fcebe8147d5dbb8>
@@ -14677,7 +14677,7 @@ gcm_v3.gcm_c.siv.seal_in.1: # @gcm_v3.gcm_c.siv.seal_in.1
 	movq	%r12, %rsi
 	movq	%rbp, %rcx
 	vzeroupper
-	callq	gcm_v3.gcm_c.siv.prepare.1
+	callq	gcm_v3.gcm_c.siv.derive_and_prepare.1
 	movl	80(%rsp), %eax
 	shrl	$2, %eax
 	addq	$7, %rax
@@ -14807,7 +14807,7 @@ gcm_v3.gcm_c.siv.seal_in.2: # @gcm_v3.gcm_c.siv.seal_in.2
 	movq	%r12, %rsi
 	movq	%rbp, %rcx
 	vzeroupper
-	callq	gcm_v3.gcm_c.siv.prepare.2
+	callq	gcm_v3.gcm_c.siv.derive_and_prepare.2
 	movl	80(%rsp), %eax
 	shrl	$2, %eax
 	addq	$7, %rax
@@ -18427,5 +18427,5 @@ gcm_v3.fotsgure_gcm_accept_short:              # @gcm_v3.fotsgure_gcm_accept_sho
 	.long	9, 118, 1
 	.asciz	"Fotsgure"
 	.p2align	2, 0x0
-	.asciz	"fotsgure_gcm 0.4.0, x86_64/gcm_v3.s, sources SHA-256 4d3afa730b73b53378a2cfbbd8bddf85d4a77d01807ce624eb12665628472578"
+	.asciz	"fotsgure_gcm 0.4.0, x86_64/gcm_v3.s, sources SHA-256 3be67e763479005e9ae1720ec4e223afc9b4024a85a1e7a2fe02eb3a79a28337"
 	.p2align	2, 0x0

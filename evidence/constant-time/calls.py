@@ -1,4 +1,4 @@
-"""Makes the text of calls.h: a C function that makes each call once, on secret keys, round keys, blocks and data (README.md). A slice has
+"""Makes calls.h: a C function that makes each call once, on secret keys, round keys, blocks and data (README.md). A slice has
 0 to 17 blocks: two batches of eight and a tail, and every length below."""
 import itertools
 
@@ -121,7 +121,7 @@ class Calls:
                           label=f"{what} {n} at {position}", returns=1)
 
     def modes(self):
-        """The other modes. A comparison of tags tells one answer: whether the tag was right."""
+        """The other modes. A comparison of tags gives one answer: whether the tag was right."""
         name = "ev_left_modes_128"
         for direction, n in itertools.product(DIRECTIONS, SLICES):
             self.call(f"{name}_slice_cbc_{direction['DONE']}", ("s", 16), blocks("b", n), label=str(n), wanted=wanted_of(n))
@@ -130,11 +130,11 @@ class Calls:
             kind, wanted = ("s", "empty") if mode == "cmac" else ("b", wanted_of(n))
             self.call(f"{name}_stream_{mode}_sealed", ("s", 16), bytes_of(kind, n), label=str(n), returns=1, wanted=wanted)
             for answer in ANSWERS:
-                self.call(f"{name}_stream_{mode}_{answer}", ("s", 16), bytes_of("s", n), label=str(n), returns=1, wanted="told")
+                self.call(f"{name}_stream_{mode}_{answer}", ("s", 16), bytes_of("s", n), label=str(n), returns=1, wanted="answered")
         for wrap, answer in itertools.product(WRAPS, ANSWERS):
             # Without padding a key has at least two semiblocks.
             for n in (3, 5, 7, 17)[wrap == "wrap" :]:
-                self.call(f"{name}_slice_{wrap}_{answer}", ("s", 16), ("s", 8 * n, n), label=str(n), returns=1, wanted="told")
+                self.call(f"{name}_slice_{wrap}_{answer}", ("s", 16), ("s", 8 * n, n), label=str(n), returns=1, wanted="answered")
         for n in TEXTS:
             self.call("ev_left_modes_256_stream_ctr_drbg", ("s", 32), bytes_of("o", n), label=str(n), returns=1, wanted=wanted_of(n))
 
@@ -159,5 +159,5 @@ class Calls:
             for crate, left in itertools.product(CRATES, TABLES["LEFT"]):
                 self.call(f"ev_left_{crate}_{size['SIZE']}_{left['WHAT']}", ("s", size["KEY"]), GIVEN[left["BLOCKS"]])
 
-    def text(self):
+    def content(self):
         return "\n".join([*self.declared.values(), "static void calls(void) {", *self.body, "}\n"])

@@ -43,12 +43,12 @@ static void begin(const char *name)
     reports_before = VALGRIND_COUNT_ERRORS;
 }
 
-/* The most buffers of a call, and how many branches it has for a tag that it compares: they tell its caller whether the tag is right. */
-enum { MOST = 8, TOLD = 1 };
+/* The most buffers of a call, and how many branches it has for a tag that it compares: they answer whether the tag is right. */
+enum { MOST_BUFFERS = 8, BRANCHES_OF_ANSWER = 1 };
 
 /* A buffer that a call is given. */
 struct buffer { uint8_t *at, *before; size_t bytes; char kind; };
-static struct buffer buffers[MOST];
+static struct buffer buffers[MOST_BUFFERS];
 static int held;
 
 /* kind: s a secret that is read, b a secret that is changed in place, o bytes that are written, p public bytes, z a
@@ -98,13 +98,14 @@ static void end(const char *name, const char *wanted, uint64_t answer, uint64_t 
         free(it->before);
     }
     held = 0;
-    int idle = answer != right || missed || unmoved, tells = strstr(name, "_opened") || strstr(name, "_refused");
-    const char *verdict = reports > (tells ? TOLD : 0) ? "LEAK" : idle ? "VACUOUS" : tells ? "told" : due ? "clean" : "empty";
+    int idle = answer != right || missed || unmoved, answers = strstr(name, "_opened") || strstr(name, "_refused");
+    const char *done = answers ? "answered" : due ? "clean" : "empty";
+    const char *verdict = reports > (answers ? BRANCHES_OF_ANSWER : 0) ? "LEAK" : idle ? "VACUOUS" : done;
     printf("%s\t%s\t%s\n", name, wanted, verdict);
 }
 
 /* What is planted: each has to be found, before the calls and after them. The third leaks only in the last of its bytes. The fourth
-   compares two halves one after the other, though it may tell one answer. */
+   compares two halves one after the other, though it may give one answer. */
 enum plant { ADDRESS, BRANCH, EARLY_EXIT, HALVES, NOTHING, HALF, REFUSAL };
 static const char *const planted_names[] = {"planted_address", "planted_branch", "planted_early_exit", "planted_halves_opened",
                                             "planted_nothing", "planted_half", "planted_refusal"};

@@ -73,20 +73,20 @@ def fill(text, filled):
 
 def expand(lines, filled):
     """The lines with each marked item repeated."""
-    made, at = [], 0
+    result, at = [], 0
     while at < len(lines):
         mark = re.fullmatch(r"\s*// each (.*):", lines[at])
         if not mark:
-            made.append(fill(lines[at], filled))
+            result.append(fill(lines[at], filled))
             at += 1
             continue
         end, choices = at + 1 + length_of_item(lines[at + 1:]), [filled]
         for name in mark[1].split(", "):
             choices = [choice | row for choice in choices for row in rows(name, choice)]
         for choice in choices:
-            made += [*expand(lines[at + 1:end], choice), *([""] if end - at > 2 else [])]
+            result += [*expand(lines[at + 1:end], choice), *([""] if end - at > 2 else [])]
         at = end
-    return made
+    return result
 
 
 def sources():

@@ -34,9 +34,9 @@ def archive(compiler):
     """The library by one compiler: as it was built before of the same sources, or proved and built now, in a copy of the repository, over
     the libraries that `rt ci` keeps on this machine, or else those that `rt lib` makes."""
     shared.need("rt", None)
-    made, total = shared.ROOM / f"lib{NAME}-{compiler}.a", sum_of_sources()
-    stamp = made.with_suffix(".stamp")
-    if not (made.exists() and stamp.exists() and stamp.read_text() == total):
+    library, total = shared.ROOM / f"lib{NAME}-{compiler}.a", sum_of_sources()
+    stamp = library.with_suffix(".stamp")
+    if not (library.exists() and stamp.exists() and stamp.read_text() == total):
         shared.say(f"proving and building {NAME} by {compiler}, over what is proved already")
         start = time.time()
         with tempfile.TemporaryDirectory() as room:
@@ -47,8 +47,8 @@ def archive(compiler):
             except SystemExit as why:
                 shared.stop(why)
             flags = ["--backend", compiler, "--toolchain", f"{toolchain.KIT}/toolchain", "--incremental", f"{shared.ROOM}/kept"]
-            shared.run(toolchain.build_words(crate, *flags, "-o", f"{made}"), f"the proof and the build of {NAME}", cwd=crate.folder)
+            shared.run(toolchain.build_words(crate, *flags, "-o", f"{library}"), f"the proof and the build of {NAME}", cwd=crate.folder)
             os.chdir(crates.TOP)
         stamp.write_text(total)
         shared.say(f"built in {time.time() - start:.0f} seconds")
-    return made
+    return library

@@ -18,10 +18,10 @@ DECLARED = "".join(f"\t.functype\t{it} (i32) -> (i32)\n" for it in ("report_bran
 def planted(machine, text):
     """Assembly whose exports leave in registers what its compiler left there, under other names."""
     registers = Registers(machine.folder, has_vectors=machine.suffix != "_narrow")
-    left = registers.as_compiled(text)
-    if left == text:
+    as_compiled = registers.as_compiled(text)
+    if as_compiled == text:
         shared.stop(f"the assembly for {machine.folder} doesn't empty registers as tools/dist_parts/registers.py says")
-    return re.sub(r"\bfotsgure_", "planted_fotsgure_", left)
+    return re.sub(r"\bfotsgure_", "planted_fotsgure_", as_compiled)
 
 
 def function_reporting(lines):

@@ -36,7 +36,7 @@ static struct run {
     uint8_t key[32], plain[ROOM], sealed[ROOM], given[ROOM], data[ROOM], stream[ROOM], nonce[16], additional[128], first[2][16];
     uint8_t tag[16], right_tag[16], eight[128], eight_keys[128];
     size_t size, count, bytes, extra, nonce_bytes, key_bytes;
-    uint64_t position, drawn; /* `drawn` is what the next byte of a key or a message follows from */
+    uint64_t position, state; /* `state` is what the next byte of a key or a message follows from */
     int status;
 } now;
 
@@ -248,8 +248,8 @@ static const size_t nonces[] = {12, 8, 16}, extras[] = {0, 13, 20, 100, 32};
 static void fill(uint8_t *at, size_t length, int run)
 {
     for (size_t i = 0; i < length; i++) {
-        now.drawn = now.drawn * 6364136223846793005u + 1442695040888963407u;
-        at[i] = run == 0 ? 0 : run == 1 ? 0xff : (uint8_t)(now.drawn >> 56);
+        now.state = now.state * 6364136223846793005u + 1442695040888963407u;
+        at[i] = run == 0 ? 0 : run == 1 ? 0xff : (uint8_t)(now.state >> 56);
     }
 }
 
@@ -349,9 +349,9 @@ static int nonce_of(int of_message)
 /* What a run is given, by the numbers of its key and of its message. */
 static void prepare(const struct call *call, int of_key, int of_message)
 {
-    now.drawn = (uint64_t)of_key * 0x9e3779b97f4a7c15u + 1;
+    now.state = (uint64_t)of_key * 0x9e3779b97f4a7c15u + 1;
     fill(now.key, sizeof now.key, of_key);
-    now.drawn = (uint64_t)of_message * 0x9e3779b97f4a7c15u + 7;
+    now.state = (uint64_t)of_message * 0x9e3779b97f4a7c15u + 7;
     fill(now.plain, now.bytes + MORE, of_message);
     fill(now.nonce, sizeof now.nonce, 2 * nonce_of(of_message));
     fill(now.additional, sizeof now.additional, of_message);

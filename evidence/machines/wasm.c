@@ -57,8 +57,8 @@ __attribute__((noinline)) int enter(void *top, int (*call)(void), void *register
     branches = order = places = 0;
     __asm__ volatile(".globaltype __stack_pointer, i32\nglobal.get __stack_pointer\nlocal.set %0" : "=r"(own));
     __asm__ volatile("local.get %0\nglobal.set __stack_pointer" : : "r"(top) : "memory");
-    int said = call();
+    int status = call();
     __asm__ volatile("local.get %0\nglobal.set __stack_pointer" : : "r"(own) : "memory");
     printf("seen\t%llu\t%016llx\t%016llx\n", branches, order, places);
-    return said;
+    return status;
 }

@@ -58,22 +58,10 @@ static void seal_siv(const struct message *m)
 /* Planted: twice the work, on other data first; and none. */
 static uint8_t other[16 * 4096];
 
-static void twice_key(enum direction to, const uint8_t *bytes, size_t n)
-{
-    set_key(to, bytes, n);
-    set_key(to, bytes, n);
-}
-
 static void twice_process(enum direction to, uint8_t *blocks, size_t count)
 {
     process(to, blocks, count);
     process(to, other, count);
-}
-
-static void twice_gcm_key(const uint8_t *bytes)
-{
-    gcm_key(bytes);
-    gcm_key(bytes);
 }
 
 static void twice_seal(const struct message *m)
@@ -103,8 +91,7 @@ void ADD(enum run run)
     failed |= (int)fotsgure_gcm_siv_set_key(&siv, siv_key, sizeof siv_key);
 #ifdef PLANTED
     add(&(struct engine){"this library", HOW, "hybrid", BLOCKS, .stream = stream, GCM, .seal_siv = seal_siv});
-    add(&(struct engine){"planted", "works twice", "planted", twice_key, twice_process, .gcm_key = twice_gcm_key,
-                         .seal = twice_seal});
+    add(&(struct engine){"planted", "works twice", "planted", set_key, twice_process, .gcm_key = gcm_key, .seal = twice_seal});
     add(&(struct engine){"planted", "leaves the blocks alone", "planted", .set_key = set_key, .process = no_process});
     add(&(struct engine){"planted", "leaves the text alone", "planted", .gcm_key = gcm_key, .seal = no_seal});
     (void)run;

@@ -5,6 +5,7 @@ from pathlib import Path
 
 import shared
 import tables
+from page_parts.reports import Report
 
 HERE = Path(__file__).resolve().parent
 # The panels: the call of each, and its number of blocks.
@@ -58,7 +59,7 @@ def cell(kind, time, most, ours):
     return time / most, (f"{time:,.0f}" if time >= 10 else f"{time:.1f}") + part
 
 
-def drawn(rows):
+def svg_of(rows):
     """The picture of the rows that are published, as text."""
     title, times = "AES encryption with a key of 16 bytes, by this library and those of Debian", times_of(rows)
     most = [max(filter(None, times_of_panel)) for times_of_panel in zip(*times.values())]
@@ -69,10 +70,10 @@ def drawn(rows):
         parts.append(f'<text x="{x}" y="42" class="bold">{escape(head)}</text>')
         parts.append(f'<text x="{x}" y="58" class="soft">nanoseconds{" a block" if n > 1 else ""}, less is faster</text>')
     for kind, (head, *_) in KINDS.items():
-        shown = sorted((it for it in times if it[0] == kind), key=lambda it: times[it][0] or 1e30)
-        y += ROW + GAP if shown else 0
-        parts += [f'<text x="0" y="{y}" class="soft">{escape(head)}</text>'] if shown else []
-        for engine in shown:
+        engines = sorted((it for it in times if it[0] == kind), key=lambda it: times[it][0] or 1e30)
+        y += ROW + GAP if engines else 0
+        parts += [f'<text x="0" y="{y}" class="soft">{escape(head)}</text>'] if engines else []
+        for engine in engines:
             y += ROW
             cells = [cell(kind, *scale) for scale in zip(times[engine], most, ours)]
             parts += row(OURS.get(engine[2], f"{engine[1]}, {engine[2]}"), kind, cells, y)
@@ -89,4 +90,4 @@ def drawn(rows):
 def report():
     """The files that are made from summary.csv, for tools/pages: the tables of docs/MEASUREMENTS.md, and the picture."""
     _, rows = tables.read(HERE / "summary.csv")
-    return f"{len(rows)} times", {shared.MEASUREMENTS: tables.page(rows), HERE / "results.svg": drawn(rows)}, []
+    return Report(f"{len(rows)} times", {shared.MEASUREMENTS: tables.page(rows), HERE / "results.svg": svg_of(rows)}, [])

@@ -48,12 +48,13 @@ def place(row):
 
 
 def write(path, where, rows):
+    """Writes the rows of a run, and where it was made."""
     with open(path, "w", newline="") as file:
         file.write(f"# {where}\n")
-        made = csv.DictWriter(file, HEAD, lineterminator="\n")
-        made.writeheader()
+        writer = csv.DictWriter(file, HEAD, lineterminator="\n")
+        writer.writeheader()
         for row in rows:
-            made.writerow({**row, **{k: f"{row[k]:.{n}f}" for k, n in DIGITS.items()}})
+            writer.writerow({**row, **{k: f"{row[k]:.{n}f}" for k, n in DIGITS.items()}})
 
 
 def read(path):
@@ -80,10 +81,10 @@ def ratio(number):
 def versions():
     """The peers with their versions, as Debian's packages name them."""
     names = {package: peer for peer, (package, *_) in PEERS.items()}
-    shown = ["dpkg-query", "-W", "-f", "${Package} ${source:Upstream-Version}\\n", *names]
-    lines = subprocess.run(shown, capture_output=True, text=True).stdout.splitlines()
-    found = [f"{names[package]} {version.split('+')[0]}" for package, version in map(str.split, lines)]
-    return " and ".join([", ".join(found[:-1]), found[-1]]) if len(found) > 1 else "".join(found)
+    query = ["dpkg-query", "-W", "-f", "${Package} ${source:Upstream-Version}\\n", *names]
+    lines = subprocess.run(query, capture_output=True, text=True).stdout.splitlines()
+    versions_of_peers = [f"{names[package]} {version.split('+')[0]}" for package, version in map(str.split, lines)]
+    return " and ".join(filter(None, [", ".join(versions_of_peers[:-1]), *versions_of_peers[-1:]]))
 
 
 def span(nanoseconds):
@@ -97,15 +98,16 @@ def span(nanoseconds):
 
 def table(rows, names, titles):
     """A table: this library's time, and the others' divided by it."""
-    found = {(r["run"], FOR_AVX2 if r["how"] == AVX2 else r["peer"], r["call"], r["amount"]): r["ticks"] for r in summary(rows)}
+    ticks_of_row = {(r["run"], FOR_AVX2 if r["how"] == AVX2 else r["peer"], r["call"], r["amount"]): r["ticks"] for r in summary(rows)}
     rate = sum(r["nanoseconds"] for r in rows) / sum(r["ticks"] for r in rows)
 
     def ticks(run, name, call, amount):
+        """The ticks of a call, or None."""
         # (A key of this library is one for both directions. Others set them one by one.)
         if call == BOTH_KEYS:
             ends = [ticks(run, name, f"key for {it}", 1) for it in ("encryption", "decryption")]
             return ends[0] if name in (OURS, FOR_AVX2) else ends[0] and sum(ends)
-        return found.get((run, name, call, amount))
+        return ticks_of_row.get((run, name, call, amount))
 
     lines = []
     for title, (*call, blocks) in titles.items():

@@ -18,12 +18,12 @@ RUNS = [
 COMPILE = ["cc", "-std=c11", "-D_GNU_SOURCE", "-O2", "-Wall", "-Wextra"]
 
 
-def parser(text, rounds, *parts, flags=()):
+def parser(description, rounds, *parts, flags=()):
     """A parser of the arguments of the commands that time engines."""
-    made = shared.parser(text, *parts, flags=flags)
-    made.add_argument("--rounds", type=int, default=rounds)
-    made.add_argument("--core", type=int, default=max(os.sched_getaffinity(0)))
-    return made
+    parser = shared.parser(description, *parts, flags=flags)
+    parser.add_argument("--rounds", type=int, default=rounds)
+    parser.add_argument("--core", type=int, default=max(os.sched_getaffinity(0)))
+    return parser
 
 
 def suffixes(options, found):
@@ -39,26 +39,26 @@ def engines_of(room, suffixes, dist=shared.TOP / "dist", at=""):
     first build of this tree get a prefix, so that several fit into one program. `at` tells the engines of a folder from others."""
     shared.need("cc", "gcc")
     shared.need("taskset", "util-linux")
-    made = {}
+    objects = {}
     for suffix in suffixes:
         name, parts = f"library{at}{suffix}", room / f"made{at}{suffix}"
-        told = [f'-DHOW="{f"{at} {BUILDS[suffix]}".strip()}"', f"-DADD=add_{name}"] if at or suffix else []
+        defines = [f'-DHOW="{f"{at} {BUILDS[suffix]}".strip()}"', f"-DADD=add_{name}"] if at or suffix else []
         sources = [HERE / "library.c", *(dist / f"x86_64/{it}{suffix}.s" for it in ("aes", "gcm"))]
         parts.mkdir(parents=True, exist_ok=True)
-        shared.run([*COMPILE, *told, f"-I{dist}/include", "-c", *sources], "library.c and assembly", cwd=parts)
-        made[name] = [parts / f"{it.stem}.o" for it in sources]
-        if told:
-            exports = [export for file in made[name][1:] for export in sorted(shared.exported(file))]
+        shared.run([*COMPILE, *defines, f"-I{dist}/include", "-c", *sources], "library.c and assembly", cwd=parts)
+        objects[name] = [parts / f"{it.stem}.o" for it in sources]
+        if defines:
+            exports = [export for file in objects[name][1:] for export in sorted(shared.exported(file))]
             (parts / "names").write_text("".join(f"{it} {name}_{it}\n" for it in exports))
-            for file in made[name]:
+            for file in objects[name]:
                 shared.run(["objcopy", f"--redefine-syms={parts / 'names'}", file], "objcopy")
-    return made
+    return objects
 
 
 def build(room, engines, links=(), flags=()):
     """The worker over engines, each a name and its objects."""
-    listed = "-DENGINES=" + " ".join(f"X({it})" for it in engines)
-    shared.run([*COMPILE, listed, *flags, "-c", "-o", room / "worker.o", HERE / "worker.c"], "worker.c")
+    names = "-DENGINES=" + " ".join(f"X({it})" for it in engines)
+    shared.run([*COMPILE, names, *flags, "-c", "-o", room / "worker.o", HERE / "worker.c"], "worker.c")
     parts = [file for objects in engines.values() for file in objects]
     link = "g++" if "botan" in engines else "cc"
     shared.run([link, "-o", room / "worker", room / "worker.o", *parts, *links], "the linking of the worker")
@@ -72,6 +72,7 @@ def start(worker, core, run, more=()):
 
 
 def ask(process, word):
+    """Writes a line with a word to the process, and returns the line that it answers."""
     with contextlib.suppress(BrokenPipeError):
         process.stdin.write(word + "\n")
         process.stdin.flush()

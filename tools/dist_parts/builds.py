@@ -53,9 +53,9 @@ exec {clang} "$@" {reserved} -fno-addrsig -S -o {text}
 """
 
 
-def llvm(tool, *words, **how):
+def llvm(tool, *words, **options):
     """Runs a tool of LLVM. The kit's clang has all of them."""
-    return run([tool, *words], f"dist: {tool}", executable=KIT_CLANG, **how)
+    return run([tool, *words], f"dist: {tool}", executable=KIT_CLANG, **options)
 
 
 def clang(*words):
@@ -92,7 +92,7 @@ def widen(folder):
 
 
 def without_shuffle(folder):
-    """Gives a copy of a crate the form of keys that uses no byte shuffle."""
+    """Gives a copy of a crate the form of keys that uses no byte shuffle: as words of bit planes, of 32 bits, or of 64 in W64."""
     (folder / "src/width.rt").write_text(WIDTH.format("planes", "aes_narrow::kept_word::KeptWord"))
     shutil.copyfile(FORMS_WITHOUT_SHUFFLE / folder.name / "form.rt.txt", folder / "src/form.rt")
     shutil.copyfile(FORMS_WITHOUT_SHUFFLE / folder.name / "Form.antt.txt", folder / "specs/Form.antt")
@@ -132,6 +132,7 @@ W64 = Variant("x86_64", "_w64", "x86-64", without_shuffle, (targets.RISCV64_NARR
 PRODUCTS = Variant("x86_64", "_products", "x86-64", by_products, TARGETS_BY_PRODUCTS, has_shuffle=False, is_published=False)
 ARM = Variant("aarch64")
 V1_OF_GCM = dataclasses.replace(V1, targets=tuple(it for it in TARGETS_WITHOUT_SHUFFLE if it not in TARGETS_BY_PRODUCTS))
+# The program keeps no secrets, so it is for the first x86-64 processors.
 VARIANTS = {
     "aes": (V2, V3, V1, W64, ARM),
     "gcm": (V2, V3, V1_OF_GCM, W64, PRODUCTS, ARM),
@@ -143,13 +144,13 @@ class Words64:
     """A copy of aes_narrow for words of 64 bits, proved, and what a command names instead of the crate's own library."""
 
     def __init__(self, crate, room):
-        folder, made = room / "crate", room / f"{crate.name}.rlib"
+        folder, library = room / "crate", room / f"{crate.name}.rlib"
         shutil.copytree(crate.folder, folder)
         change(folder, WORDS_OF_64)
         toolchain.copy_kept_work(crate, room / "kept")
-        words = toolchain.build_words(crate, "--incremental", f"{room}/kept", "-o", f"{made}")
+        words = toolchain.build_words(crate, "--incremental", f"{room}/kept", "-o", f"{library}")
         prove_and_build(words, f"{crate.name} for words of 64 bits", folder)
-        self.names = {f"{crate.name}={crate.rlib}": f"{crate.name}={made}"}
+        self.names = {f"{crate.name}={crate.rlib}": f"{crate.name}={library}"}
         self.names[f"dependency={os.path.dirname(crate.rlib)}"] = f"dependency={room}"
 
     def named_in(self, words):
@@ -170,15 +171,15 @@ class Build:
 
     def toolchain(self):
         """A folder of links to the kit's toolchain, with the clang above."""
-        made, there = self.room / "toolchain", toolchain.KIT / "toolchain"
-        (made / "bin").mkdir(parents=True)
+        here, there = self.room / "toolchain", toolchain.KIT / "toolchain"
+        (here / "bin").mkdir(parents=True)
         for path in [*there.iterdir(), *(there / "bin").iterdir()]:
             if path.name not in ("bin", "clang"):
-                (made / path.relative_to(there)).symlink_to(path)
+                (here / path.relative_to(there)).symlink_to(path)
         reserved = "-ffixed-x18" if self.variant.folder == "aarch64" else ""
-        (made / "bin/clang").write_text(CLANG.format(clang=KIT_CLANG, text=self.text, reserved=reserved))
-        (made / "bin/clang").chmod(0o755)
-        return made
+        (here / "bin/clang").write_text(CLANG.format(clang=KIT_CLANG, text=self.text, reserved=reserved))
+        (here / "bin/clang").chmod(0o755)
+        return here
 
     def run(self, crate, kept, words_64):
         """Proves and builds a copy of the crate, over what a folder keeps. Notes the verdict, and the assembly that is published."""
@@ -194,8 +195,8 @@ class Build:
         self.texts = {assembly: assembly.published(text) for assembly, text in self.assemblies()}
         for assembly, text in self.texts.items():
             if assembly.library != PROGRAM and bool(SHUFFLES.search(text)) != variant.has_shuffle:
-                said = "no" if variant.has_shuffle else "a"
-                sys.exit(f"dist: {assembly.name}.s has {said} byte shuffle, so that tables would be read at secret places")
+                has = "has no" if variant.has_shuffle else "has a"
+                sys.exit(f"dist: {assembly.name}.s {has} byte shuffle, so that tables would be read at secret places")
         return self
 
     def assemblies(self):
@@ -227,9 +228,9 @@ class Build:
         llvm("llvm-ar", "x", self.made, cwd=self.room)
         return len(members) == 1 and held_by(assembled) == held_by(self.room / members[0])
 
-    def comparisons(self, said):
-        """What was compared with dist/, whose BUILD has the lines `said`: whether it is the same, and what to say if not."""
-        yield self.line_of_made() in said, f"{self.name} is of another {self.kind} than these crates make"
+    def comparisons(self, recorded):
+        """What was compared with dist/, whose BUILD has the lines `recorded`: whether it is the same, and what to say if not."""
+        yield self.line_of_made() in recorded, f"{self.name} is of another {self.kind} than these crates make"
         for assembly, text in self.texts.items():
             yield assembly.path.read_text() == text, f"{assembly.name}.s isn't what the compiler writes"
         is_same = not self.variant.is_published or self.has_same_code()

@@ -92,6 +92,7 @@ def with_sizes(text):
     count = itertools.count()
 
     def cut(found):
+        """The lines of a call whose size is cut to 32 bits."""
         head, size, tail = found[1].replace("p0.i64", "p0.i32"), found[2], found[3]
         if size.isdigit():
             return f"{head}i32 {size}{tail}"

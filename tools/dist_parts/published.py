@@ -103,6 +103,7 @@ class Assembly:
         return [(by_address.format(name), by_table.format(name)) for name in LIBC for by_address, by_table in pairs]
 
     def bound_early(self, text):
+        """The assembly with calls of libc at addresses that the loader writes before the program runs."""
         for direct, by_table in self.calls_of_libc():
             text = re.sub(rf"^\t{direct}( *# TAILCALL)?$", "\t" + by_table, text, flags=re.M)
         if self.folder in CALLS and re.search(r"@PLT|^\t(?:bl?|call|tail)\tmem", text, re.M):

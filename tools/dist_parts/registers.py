@@ -43,13 +43,13 @@ def functions(lines):
 
 def endings(lines):
     """The functions that return to the caller of an export: the exports, and those that they jump to."""
-    found = {}
+    leaps = {}
     for inside, line in functions(lines):
         if leap := LEAP.match(line):
-            found.setdefault(inside, set()).add(leap[1])
+            leaps.setdefault(inside, set()).add(leap[1])
     ending = more = {it[1] for it in map(EXPORT.match, lines) if it}
     while more:
-        more = {to for register in more for to in found.get(register, ())} - ending
+        more = {to for name in more for to in leaps.get(name, ())} - ending
         ending = ending | more
     return ending
 
@@ -91,13 +91,13 @@ class Registers:
     def emptied(self, text):
         """The assembly of a library whose exports empty registers."""
         lines = text.split("\n")
-        ending, seen, out, after = endings(lines), set(), [], {}
+        ending, returning, out, after = endings(lines), set(), [], {}
         for inside, line in functions(lines):
             at = len(out)
             if inside in ending and LEFT_TO_LIBC.match(line):
                 raise SystemExit(f"dist: {inside} ends in a jump to libc")
             if inside in ending and (RETURN.match(line) or LEAP.match(line)):
-                seen.add(inside)
+                returning.add(inside)
             if self.folder == "thumb" and line.startswith(".Lfunc_end"):
                 for end, label in after.items():
                     out += [f"{label}:", *self.at_return(end), end]
@@ -110,8 +110,8 @@ class Registers:
                         at -= 1
                     out[at:at] = self.at_return(line)
             out.append(line)
-        if ending - seen:
-            raise SystemExit(f"dist: no return is seen in {', '.join(sorted(ending - seen))}")
+        if ending - returning:
+            raise SystemExit(f"dist: no return is seen in {', '.join(sorted(ending - returning))}")
         return "\n".join(out)
 
     def as_compiled(self, text):

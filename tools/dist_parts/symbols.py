@@ -15,7 +15,7 @@ GLOBAL = re.compile(r"^\t\.globl\t(fotsgure_\w+).*$", re.M)
 COMMENT = re.compile(r"(?:^|\s)(?:#|//|@) .*")
 # What a function is made for: values, which belong to its name, and types or a hash of them, which don't.
 ARGUMENTS, VALUE = re.compile(r"::<([^<>]*)>"), re.compile(r"(?:^|,)=(\w+)")
-SAID = "A Rust crate defines in_rust; for x86-64, a static library of both builds defines chosen, and choose_*.c calls these names."
+CONDITIONS = "A Rust crate defines in_rust; for x86-64, a static library of both builds defines chosen, and choose_*.c calls these names."
 # What assembly for Windows says of an export's name.
 DEFINITION = re.compile(r"^\t\.def\tfotsgure_\w+;\n(?:\t.*\n)*?\t\.endef\n", re.M)
 
@@ -28,13 +28,13 @@ def plain(name):
 
 def of_functions(text):
     """What the functions of an assembly file are called instead: {name: another one, without a prefix}."""
-    found = re.findall(r'^"([^"\n]+)":', text, re.M)
-    names = [plain(it) for it in found]
+    quoted = re.findall(r'^"([^"\n]+)":', text, re.M)
+    names = [plain(it) for it in quoted]
     numbered = [f"{it}.{names[:at].count(it) + 1}" if names.count(it) > 1 else it for at, it in enumerate(names)]
     for name in numbered:
         if numbered.count(name) > 1:
             raise SystemExit(f"dist: {name} would be the name of two functions")
-    return dict(zip(found, numbered))
+    return dict(zip(quoted, numbered))
 
 
 def macro(folder, prefix, suffix):
@@ -55,7 +55,7 @@ def macro(folder, prefix, suffix):
     if suffix and not is_windows:
         lines = [".ifdef\tchosen", *hidden(name), ".else", *shown("\\name"), ".endif"]
     lines = [f".macro\texport_{prefix} name", ".ifdef\tin_rust", *hidden(label), ".else", *lines, ".endif", ".endm"]
-    return f"/* {SAID} */\n" + "".join(f"\t{it}\n" for it in lines)
+    return f"/* {CONDITIONS} */\n" + "".join(f"\t{it}\n" for it in lines)
 
 
 def own(prefix, text):

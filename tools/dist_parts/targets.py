@@ -90,6 +90,7 @@ def with_signs(text):
 
 
 def for_windows(text):
+    """The module with functions as the ABI of Windows asks for them."""
     # (Clang reads `inline-asm` as the name of a function there, and without it calls ___chkstk_ms of the compiler's library.)
     text = text.replace(' "probe-stack"="inline-asm"', "")
     text = re.sub(r'^(attributes #\d+ = \{ .*?nounwind)(?= "stack-probe-size")', r"\1 noredzone uwtable", text, flags=re.M)

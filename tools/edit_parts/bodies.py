@@ -89,27 +89,27 @@ def edits_in(file):
     """The edits of a file, if there is one: each begins with a line 'edit: NAME', and an empty line ends it. Two of one name are a fault of
     the second."""
     texts = file.read_text(encoding="utf-8").rstrip("\n").split("\n\n") if file.exists() else []
-    found = [Edit(*re.fullmatch(r"(?:edit: (\S+)\n)?(.*)", it, re.S).groups()) for it in texts]
-    for at, edit in enumerate(found):
-        if not edit.name or edit.name in [it.name for it in found[:at]]:
+    edits = [Edit(*re.fullmatch(r"(?:edit: (\S+)\n)?(.*)", it, re.S).groups()) for it in texts]
+    for at, edit in enumerate(edits):
+        if not edit.name or edit.name in [it.name for it in edits[:at]]:
             edit.fault = "it has no line 'edit: NAME', or another edit's name"
-    return found
+    return edits
 
 
 class Edit:
-    """What a crate's file of edits says of one bug, and pairs of texts. Each 'old:' is in its file exactly once. A harmless edit has a
-    line 'same:' in place of 'bug:': both texts of each pair mean the same, so that no prover may refuse it. If an edit changes more than
+    """What a crate's file of edits says of one bug, and pairs of old and new code. Each 'old:' is in its file exactly once. A harmless edit
+    has a line 'same:' in place of 'bug:': both of each pair compute the same, so that no prover may refuse it. If an edit changes more than
     bodies, a line 'at: src/FILE FUNCTION' names the function that has to refuse it."""
 
     def __init__(self, name, text):
         self.name, self.text, self.pairs, self.fault, self.is_harmless = name, text, [], None, False
-        said = [line.partition(":")[::2] for line in self.text.splitlines()]
-        if not re.fullmatch(r"(bug|same)( at)?( file( old new)+)+", " ".join(key for key, _ in said)):
+        fields = [line.partition(":")[::2] for line in self.text.splitlines()]
+        if not re.fullmatch(r"(bug|same)( at)?( file( old new)+)+", " ".join(key for key, _ in fields)):
             self.fault = "its lines aren't 'bug:' or 'same:', 'at:' or none, 'file:' and pairs of 'old:' and 'new:'"
             return
-        self.is_harmless = said[0][0] == "same"
-        self.at = said[1][1].split() if said[1][0] == "at" else None
-        for key, text in said:
+        self.is_harmless = fields[0][0] == "same"
+        self.at = fields[1][1].split() if fields[1][0] == "at" else None
+        for key, text in fields:
             if key == "file":
                 path = text.strip()
             elif key == "old":
@@ -120,17 +120,17 @@ class Edit:
     def planted(self, folder, texts, changes=None):
         """The given texts of files of a crate's folder with this edit made too, or None if an 'old:' isn't in its file exactly once.
         What it changes is added to `changes`: a file, its text, and the pair."""
-        made = dict(texts)
+        changed = dict(texts)
         for path, old, new in self.pairs:
-            if path not in made:
+            if path not in changed:
                 with open(f"{folder}/{path}", encoding="utf-8") as it:
-                    made[path] = it.read()
-            if made[path].count(old) != 1 or old == new:
+                    changed[path] = it.read()
+            if changed[path].count(old) != 1 or old == new:
                 return None
             if changes is not None:
-                changes.append((path, made[path], old, new))
-            made[path] = made[path].replace(old, new)
-        return made
+                changes.append((path, changed[path], old, new))
+            changed[path] = changed[path].replace(old, new)
+        return changed
 
     def place(self, folder):
         """Notes the functions that have to refuse it in a crate's folder, and whether it changes nothing but their bodies, or why it

@@ -1,6 +1,6 @@
 """Judges what the prover says of a wrong body: whether it refused it at a value of a function.
 
-evidence/PLANTED_BODIES.md says what counts. A refusal for an unknown reason doesn't.
+evidence/WRONG_BODIES.md says what counts. A refusal for an unknown reason doesn't.
 """
 import re
 
@@ -28,17 +28,17 @@ REFUSED = "refused, as it must be"
 FAILED, BAD = ("NOT REFUSED", "NOT TRIED"), "BAD EDIT"
 
 
-def why_no_value(said):
+def why_no_value(message):
     """Why a refusal says nothing of a contract, or None."""
-    if NAME_ALONE in said or PROOF.match(said) and MISSING.search(said):
+    if NAME_ALONE in message or PROOF.match(message) and MISSING.search(message):
         return "is refused for a missing name, and not at a value"
-    if BOUND.search(said):
+    if BOUND.search(message):
         return "is refused at the bound of a slice, and not at a value"
-    if CYCLE.search(said):
+    if CYCLE.search(message):
         return "is refused since a law or a definition cites itself, and not at a value"
-    if not said or NOT_COVERED.search(said):
+    if not message or NOT_COVERED.search(message):
         return "is refused at no value, as where the prover does not cover the edited function"
-    if not (GOAL.match(said) or PROOF.match(said)):
+    if not (GOAL.match(message) or PROOF.match(message)):
         return "is refused for an unknown reason"
     return None
 
@@ -46,11 +46,11 @@ def why_no_value(said):
 def faults_of_log(lines, edits):
     """The edits in must-fail that a log doesn't show to be refused at a value, and whether the gate counted each as passed. An edit that
     the log doesn't name is a fault too, since then the toolchain has changed its words."""
-    told = {found[1]: found[2] for found in map(EDIT.match, lines) if found}
-    if edits and not told:
+    verdicts = {found[1]: found[2] for found in map(EDIT.match, lines) if found}
+    if edits and not verdicts:
         yield "every edit has no line in the log", False
         return
-    for edit, text in told.items():
+    for edit, text in verdicts.items():
         why = why_no_value(text.removeprefix(REFUSED)) if text.startswith(REFUSED) else None
         if why:
             yield f"{edit} {why}: {text}", True
@@ -59,8 +59,8 @@ def faults_of_log(lines, edits):
         elif not text.startswith((REFUSED, *FAILED)):
             yield f"{edit} has an unknown verdict in the log: {text}", False
     # Of a crate that isn't proved no edit is tried, and the gate fails.
-    tried = {edit.split("/")[0] for edit in told}
-    yield from ((f"{edit} has no line in the log", False) for edit in sorted(edits - told.keys()) if edit.split("/")[0] in tried)
+    tried = {edit.split("/")[0] for edit in verdicts}
+    yield from ((f"{edit} has no line in the log", False) for edit in sorted(edits - verdicts.keys()) if edit.split("/")[0] in tried)
 
 
 def judged_log(lines):

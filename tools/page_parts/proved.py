@@ -6,6 +6,8 @@ from crates import TOP
 from gcm_statements.pre_counter import ANY_J_0_NONCE
 from machines.riscv import Riscv32, Riscv64
 
+from .reports import Report
+
 PAGE = TOP / "dist/prove/CASES.md"
 HEAD = """# The cases of the second proof
 
@@ -38,8 +40,8 @@ COLUMNS = cases.Row._fields[2:]
 NONE = "-"
 
 
-def text_of_value(value):
-    """Gives the text of an argument, or None for one that the page leaves out."""
+def value_in_words(value):
+    """Gives an argument in words, or None for one that the page leaves out."""
     if value in ("", (), cases.NO_CARRY):
         return None
     if value == ANY_J_0_NONCE:
@@ -51,16 +53,16 @@ def text_of_value(value):
     if isinstance(value, int) and value >= 1 << 20:
         power = (value + (1 << 20)).bit_length() - 1
         by = value - (1 << power)
-        return f"2^{power}" + (f" {'+' if by > 0 else '-'} {text_of_value(abs(by))}" if by else "")
+        return f"2^{power}" + (f" {'+' if by > 0 else '-'} {value_in_words(abs(by))}" if by else "")
     return f"`{value}`" if type(value) is str else str(value)
 
 
-def text_of_entry(entry):
-    return ", ".join(filter(None, map(text_of_value, entry))) or "yes"
+def entry_in_words(entry):
+    return ", ".join(filter(None, map(value_in_words, entry))) or "yes"
 
 
 class Run(str):
-    """The text of numbers that count up."""
+    """Numbers that count up, in words."""
 
 
 def runs(entries, place):
@@ -79,20 +81,20 @@ def runs(entries, place):
             yield from ((*before, it, *after) for it in ([Run(f"{run[0]} to {run[-1]}")] if len(run) > 2 else run))
 
 
-def text_of_list(values):
+def list_in_words(values):
     entries = [value if isinstance(value, tuple) else (value,) for value in values]
     for place in range(max(map(len, entries), default=0)):
         entries = [*runs(entries, place)]
-    return "; ".join(map(text_of_entry, entries)) or NONE
+    return "; ".join(map(entry_in_words, entries)) or NONE
 
 
-def text_of_row(row):
-    return f"| `{row.name}` | {row.what or NONE} | " + " | ".join(text_of_list(getattr(row, column)) for column in COLUMNS) + " |"
+def line_of_row(row):
+    return f"| `{row.name}` | {row.what or NONE} | " + " | ".join(list_in_words(getattr(row, column)) for column in COLUMNS) + " |"
 
 
 def table(rows):
     head = "| statement | its arguments | each | most | first | remainders | 24, 32 | lengths 24, 32 | all |"
-    return "\n".join([head, "|---" * 9 + "|", *map(text_of_row, rows)])
+    return "\n".join([head, "|---" * 9 + "|", *map(line_of_row, rows)])
 
 
 def left_out_of(library, rows, machine):
@@ -101,10 +103,11 @@ def left_out_of(library, rows, machine):
     for row in rows:
         left_out = [values for values in [*row.each, *row.most] if values not in kept[id(row)]]
         if left_out:
-            yield f"| {8 * machine.word} | {TITLES[library]} | `{row.name}` | {text_of_list(left_out)} |"
+            yield f"| {8 * machine.word} | {TITLES[library]} | `{row.name}` | {list_in_words(left_out)} |"
 
 
 def report():
+    """Makes the page of cases."""
     parts = [HEAD, "## All libraries\n", table(cases.common_rows("aes", "as in the header"))]
     for library, (_, rows) in cases.LIBRARIES.items():
         parts += [f"\n## {TITLES[library]}\n", table(rows)]
@@ -112,5 +115,5 @@ def report():
     left_out = [line for one in tables for line in left_out_of(*one)]
     of_short_words = [row for rows in cases.OF_SHORT_WORDS.values() for row in rows]
     parts += [RISCV, table(of_short_words), "\n| bits | header | statement | left out |\n|---|---|---|---|", *left_out]
-    text = "\n".join(parts) + "\n"
-    return f"{sum(len(rows) for _, rows in cases.LIBRARIES.values())} statements", {PAGE: text}, []
+    content = "\n".join(parts) + "\n"
+    return Report(f"{sum(len(rows) for _, rows in cases.LIBRARIES.values())} statements", {PAGE: content}, [])

@@ -7,6 +7,8 @@ import textwrap
 
 from crates import TOP
 
+from .reports import Report
+
 PAGE = TOP / "docs/TYPES.md"
 SOURCES = TOP / "crates/aes_cipher/src"
 # The files of the calls. The page has all calls of those in the folder cipher. It leaves out the calls of `decrypt`, each of which says of
@@ -29,17 +31,17 @@ def plain(signature):
 
 def calls_of(path):
     """Each public function of a file by its name: signature, description, errors and clauses."""
-    text, found = (SOURCES / path).read_text(encoding="utf-8"), {}
-    for call in CALL.finditer(text):
+    content, calls = (SOURCES / path).read_text(encoding="utf-8"), {}
+    for call in CALL.finditer(content):
         about, head, name = call.groups()
-        owner = re.findall(r"^(?:pub trait|impl).*", text[:call.start()], re.M)[-1]
+        owner = re.findall(r"^(?:pub trait|impl).*", content[:call.start()], re.M)[-1]
         if not head.startswith("pub ") and ("StoredKeys" in owner or owner.startswith("impl")):
             continue
         signature, *clauses = re.split(r" ensures ", " ".join(head.split()))
         clauses = [" ".join(clause[clause.index("{") + 1:clause.rindex("}")].split()) for clause in clauses]
         description, _, errors = re.sub(r"^ *///", "", about, flags=re.M).partition("# Errors")
-        found[name] = (plain(signature), " ".join(description.split()), " ".join(errors.split()), clauses)
-    return found
+        calls[name] = (plain(signature), " ".join(description.split()), " ".join(errors.split()), clauses)
+    return calls
 
 
 def mirrored(words):
@@ -51,8 +53,8 @@ def mirrored(words):
 def mirror_faults(calls, path):
     """Calls that decrypt and say something else than those that encrypt."""
     others = {name: call for name, call in calls_of(path).items() if name.startswith("decrypt")}
-    for name, (*said, clauses) in calls.items():
-        wanted = [*map(mirrored, said), [it.replace("fips.cipher", "fips.inv_cipher") for it in clauses]]
+    for name, (*words, clauses) in calls.items():
+        wanted = [*map(mirrored, words), [it.replace("fips.cipher", "fips.inv_cipher") for it in clauses]]
         if name.startswith("encrypt") and [*others.pop(mirrored(name), ())] != wanted:
             yield f"{path}: {mirrored(name)} doesn't say of decryption what {name} says of encryption"
     yield from (f"{path} has a call that nothing mirrors: {name}" for name in others)
@@ -68,6 +70,7 @@ def item(found, calls):
 
 
 def report():
+    """Makes the calls of the page anew, and notes those that are left out or differ."""
     by_file = {path: calls_of(path) for path in FILES}
     calls = {name: call for calls in by_file.values() for name, call in calls.items()}
     page = PAGE.read_text(encoding="utf-8")
@@ -76,4 +79,4 @@ def report():
     listed = [name for path in FILES if path.startswith("cipher/") for name in by_file[path]]
     faults += [f"docs/TYPES.md leaves out {name}" for name in listed if name not in named]
     faults += [f"docs/TYPES.md has a call that isn't in the sources: {name}" for name in named if name not in calls]
-    return f"{len(named)} calls", {PAGE: ITEM.sub(lambda it: item(it, calls) if it[1] in calls else it[0], page)}, faults
+    return Report(f"{len(named)} calls", {PAGE: ITEM.sub(lambda it: item(it, calls) if it[1] in calls else it[0], page)}, faults)

@@ -9,12 +9,12 @@ import { basename, extname, join } from "node:path";
 const TYPES = { ".html": "text/html", ".mjs": "text/javascript", ".wasm": "application/wasm" };
 const POLICY = "default-src 'self'; script-src 'self' 'wasm-unsafe-eval'";
 const home = mkdtempSync(join(tmpdir(), "chromium-"));
-let said = "the page said nothing\n0 passed, 1 failed", browser;
+let report = "the page said nothing\n0 passed, 1 failed", browser;
 
 function answer(request, response) {
   const name = basename(request.url), type = TYPES[extname(name)];
   if (request.method === "POST") {
-    request.setEncoding("utf8").on("data", (it) => (said = it)).on("end", () => {
+    request.setEncoding("utf8").on("data", (it) => (report = it)).on("end", () => {
       response.end();
       browser.kill();
     });
@@ -32,7 +32,7 @@ const server = createServer(answer).listen(0, "127.0.0.1", () => {
   browser = execFile(process.env.CHROMIUM ?? "chromium", [...words, page], { timeout: 120000 }, () => {
     server.close();
     rmSync(home, { recursive: true, force: true });
-    console.log(said);
-    process.exit(said.endsWith(", 0 failed") ? 0 : 1);
+    console.log(report);
+    process.exit(report.endsWith(", 0 failed") ? 0 : 1);
   });
 });

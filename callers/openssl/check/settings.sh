@@ -5,10 +5,10 @@
 file() { printf '%s\n' "${@:2}" > "$work/$1.cnf"; } # NAME LINE ..
 ends_with() { # STATUS WORDS COMMAND .. : and with these words in what it prints
     local status=0
-    "${@:3}" > "$work/said" 2>&1 || status=$?
-    [[ $status -eq $1 ]] && grep -F -- "$2" "$work/said" && return
+    "${@:3}" > "$work/output" 2>&1 || status=$?
+    [[ $status -eq $1 ]] && grep -F -- "$2" "$work/output" && return
     echo "status $status"
-    cat "$work/said"
+    cat "$work/output"
     return 1
 }
 under() { OPENSSL_CONF=$work/$1.cnf "${@:2}"; } # NAME COMMAND ..
@@ -41,7 +41,7 @@ print("started", flush=True); time.sleep(600)' > "$work/started" &
     mine=$!
     comes "$work/started"
     ends_with 0 "has loaded $work/again/fotsgure.so" "$command" "$mine" &&
-        grep '^Keys that it has set with the module: [1-9]' "$work/said" && ends_with 1 "hasn't loaded" "$command" $$ &&
+        grep '^Keys that it has set with the module: [1-9]' "$work/output" && ends_with 1 "hasn't loaded" "$command" $$ &&
         cp "$module" "$work/again/new" && mv "$work/again/new" "$work/again/fotsgure.so" &&
         ends_with 4 'that file is gone by now' "$command" "$mine" && rm "$work/again/fotsgure.so" &&
         ends_with 4 'that file is gone by now' "$command" "$mine" && ends_with 2 'No such file' "$command" 99999999

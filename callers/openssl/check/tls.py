@@ -18,17 +18,17 @@ NO_ENCRYPT_THEN_MAC = 1 << 19  # OpenSSL's SSL_OP_NO_ENCRYPT_THEN_MAC
 
 
 def context(side, version, suite, order, certificate, key):
-    made = ssl.SSLContext(ssl.PROTOCOL_TLS_SERVER if side == "server" else ssl.PROTOCOL_TLS_CLIENT)
-    made.minimum_version = made.maximum_version = getattr(ssl.TLSVersion, version)
+    result = ssl.SSLContext(ssl.PROTOCOL_TLS_SERVER if side == "server" else ssl.PROTOCOL_TLS_CLIENT)
+    result.minimum_version = result.maximum_version = getattr(ssl.TLSVersion, version)
     if version != "TLSv1_3":
-        made.set_ciphers(f"{suite}:@SECLEVEL={1 if version == 'TLSv1_2' else 0}")
+        result.set_ciphers(f"{suite}:@SECLEVEL={1 if version == 'TLSv1_2' else 0}")
     if order == "mac-then-encrypt":
-        made.options |= NO_ENCRYPT_THEN_MAC
+        result.options |= NO_ENCRYPT_THEN_MAC
     if side == "server":
-        made.load_cert_chain(certificate, key)
+        result.load_cert_chain(certificate, key)
     else:
-        made.load_verify_locations(certificate)
-    return made
+        result.load_verify_locations(certificate)
+    return result
 
 
 def pieces(seed, count):
@@ -79,8 +79,8 @@ def connect(made, port, count):
 
 
 def side(which, version, suite, order, certificate, key, port, count):
-    made = context(which, version, suite, order, certificate, key)
-    right, name = (serve if which == "server" else connect)(made, int(port), int(count))
+    tls = context(which, version, suite, order, certificate, key)
+    right, name = (serve if which == "server" else connect)(tls, int(port), int(count))
     print(right, name[0], name[1], flush=True)
     return 0 if right else 1
 
@@ -96,12 +96,12 @@ def try_connection(who, arguments, conf):
     server = start("server", arguments, conf if who in ("server", "both") else "/dev/null")
     server.stdout.readline()
     client = start("client", arguments, conf if who in ("client", "both") else "/dev/null")
-    said, client_errors = client.communicate()
+    output, client_errors = client.communicate()
     if client.returncode != 0:
         server.kill()  # it may still wait for a client
     _, server_errors = server.communicate()
     right = server.returncode == 0 and client.returncode == 0
-    print(f"{'ok' if right else 'FAILED'}: {' '.join(arguments[:3])}, fotsgure: {who}: {said.strip()}")
+    print(f"{'ok' if right else 'FAILED'}: {' '.join(arguments[:3])}, fotsgure: {who}: {output.strip()}")
     if not right:
         print(server_errors[-600:], client_errors[-600:])
     return right

@@ -7,12 +7,12 @@ ghost use Rattle.aes_planes.proofs.Standard.CipherLaws.{two_keys};
 
 mod copies;
 mod counted;
+mod debug;
 mod decrypt;
 mod direction_sets;
 mod encrypt;
 mod key_sizes;
 mod stored_keys;
-mod text;
 
 use crate::cipher::{InvalidLength, KeyInit, KeySizeUser, RoundKeysUser};
 use crate::zeroize::ZeroizeOnDrop;

@@ -22,15 +22,15 @@ const CLOSURE_STACK: usize = 2032;
 // wiped.
 #[inline(never)]
 fn call_to_encrypt<W: Width, F: BlockCipherEncClosure>(
-    few: &BorrowedCipher<'_, Encrypt, W>,
+    cipher: &BorrowedCipher<'_, Encrypt, W>,
     words: &[W::PlaneWord],
     f: &mut F,
 )
     requires is_schedule { soft.IsFullSchedule W.PlaneWord.bits W.PlaneWord.BLOCKS words.now }
-    requires same_key { soft.key_of_planes W.PlaneWord.bits W.PlaneWord.BLOCKS words.now ≡ few.now }
-    ensures { F.did f.old (fips.key_expansion few.now) f.new }
+    requires same_key { soft.key_of_planes W.PlaneWord.bits W.PlaneWord.BLOCKS words.now ≡ cipher.now }
+    ensures { F.did f.old (fips.key_expansion cipher.now) f.new }
 {
-    f.call(&Batches::new(few, words));
+    f.call(&Batches::new(cipher, words));
 }
 
 // Lends planes to encrypt. The planes, and the stack that the closure used, are wiped before the
@@ -43,8 +43,8 @@ fn lend_planes_to_encrypt<W: Width, F: BlockCipherEncClosure>(keys: &[Block], f:
 {
     let mut planes = PlaneKeys::<W::PlaneWord>::zeroed();
     planes.store(keys);
-    let few = BorrowedCipher::new(keys, keys);
-    call_to_encrypt::<W, F>(&few, planes.lend(keys.len()), f);
+    let cipher = BorrowedCipher::new(keys, keys);
+    call_to_encrypt::<W, F>(&cipher, planes.lend(keys.len()), f);
     planes.wipe();
     wipe_stack::<CLOSURE_STACK>();
 }
@@ -52,31 +52,31 @@ fn lend_planes_to_encrypt<W: Width, F: BlockCipherEncClosure>(keys: &[Block], f:
 /// Calls a closure with a backend that encrypts under the key that is lent.
 #[inline(always)]
 pub(crate) fn lend_to_encrypt<W: Width, F: BlockCipherEncClosure>(
-    few: &BorrowedCipher<'_, Encrypt, W>,
+    cipher: &BorrowedCipher<'_, Encrypt, W>,
     blocks: usize,
     f: &mut F,
 )
-    ensures { F.did f.old (fips.key_expansion few.now) f.new }
+    ensures { F.did f.old (fips.key_expansion cipher.now) f.new }
 {
     if blocks >= W::LEAST_FOR_CLOSURES {
-        lend_planes_to_encrypt::<W, F>(few.keys(), f);
+        lend_planes_to_encrypt::<W, F>(cipher.keys(), f);
     } else {
-        f.call(few);
+        f.call(cipher);
     }
 }
 
 // Calls a closure with planes to decrypt.
 #[inline(never)]
 fn call_to_decrypt<W: Width, F: BlockCipherDecClosure>(
-    few: &BorrowedCipher<'_, Decrypt, W>,
+    cipher: &BorrowedCipher<'_, Decrypt, W>,
     words: &[W::PlaneWord],
     f: &mut F,
 )
     requires is_schedule { soft.IsFullSchedule W.PlaneWord.bits W.PlaneWord.BLOCKS words.now }
-    requires same_key { soft.key_of_planes W.PlaneWord.bits W.PlaneWord.BLOCKS words.now ≡ few.now }
-    ensures { F.did f.old (fips.key_expansion few.now) f.new }
+    requires same_key { soft.key_of_planes W.PlaneWord.bits W.PlaneWord.BLOCKS words.now ≡ cipher.now }
+    ensures { F.did f.old (fips.key_expansion cipher.now) f.new }
 {
-    f.call(&Batches::new(few, words));
+    f.call(&Batches::new(cipher, words));
 }
 
 // Lends planes to decrypt. Planes serve both directions, and are made of the round keys of Cipher.
@@ -92,8 +92,8 @@ fn lend_planes_to_decrypt<W: Width, F: BlockCipherDecClosure>(
 {
     let mut of_cipher = PlaneKeys::<W::PlaneWord>::zeroed();
     of_cipher.store(keys);
-    let few = BorrowedCipher::new(keys, inverse);
-    call_to_decrypt::<W, F>(&few, of_cipher.lend(keys.len()), f);
+    let cipher = BorrowedCipher::new(keys, inverse);
+    call_to_decrypt::<W, F>(&cipher, of_cipher.lend(keys.len()), f);
     of_cipher.wipe();
     wipe_stack::<CLOSURE_STACK>();
 }
@@ -101,15 +101,15 @@ fn lend_planes_to_decrypt<W: Width, F: BlockCipherDecClosure>(
 /// Calls a closure with a backend that decrypts under the key that is lent.
 #[inline(always)]
 pub(crate) fn lend_to_decrypt<W: Width, F: BlockCipherDecClosure>(
-    few: &BorrowedCipher<'_, Decrypt, W>,
+    cipher: &BorrowedCipher<'_, Decrypt, W>,
     blocks: usize,
     f: &mut F,
 )
-    ensures { F.did f.old (fips.key_expansion few.now) f.new }
+    ensures { F.did f.old (fips.key_expansion cipher.now) f.new }
 {
     if blocks >= W::LEAST_FOR_CLOSURES {
-        lend_planes_to_decrypt::<W, F>(few.keys(), few.direction_keys(), f);
+        lend_planes_to_decrypt::<W, F>(cipher.keys(), cipher.direction_keys(), f);
     } else {
-        f.call(few);
+        f.call(cipher);
     }
 }

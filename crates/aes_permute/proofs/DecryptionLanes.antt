@@ -16,7 +16,7 @@ use Rattle.aes_planes.proofs.SBox.InverseSBox.{inv_sbox_of_sbox}
 use Rattle.aes_planes.proofs.Standard.FieldLaws.{add_zero}
 use Rattle.aes_planes.proofs.Standard.Steps.{map_length}
 use Rattle.aes_cipher.proofs.BlockNumbers.{blocks_summed}
-use Rattle.aes_permute.specs.TwoPlaces.{first_of, second_of}
+use Rattle.aes_permute.specs.TwoIndices.{first_of, second_of}
 use Rattle.aes_permute.specs.Lookup.{by_nibbles}
 use Rattle.aes_permute.specs.Stored.{as_is, inv_untower}
 use Rattle.aes_permute.specs.declared.tables.TheConstants.{INV_TOWER_LOW, INV_TOWER_HIGH}

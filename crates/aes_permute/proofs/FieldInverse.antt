@@ -1,11 +1,11 @@
--- The inverse by halves: that each look-up is at a place, and what comes of it.
+-- The inverse by halves: that each look-up is at an index, and what comes of it.
 use Rattle.std.proofs.Common.{◌≡◌, ℕ, true, bit_xor, List, [], ◌∷◌, map, refl, ap, sym, subst, ◌∙◌}
 use Rattle.std.proofs.lemmas.Simd.{map-map, zip2_of_maps}
 use lib.Lanes.{zip2}
 use Rattle.aes_planes.specs.Fips197.{IsBlock}
 use Rattle.aes_planes.proofs.Bits.ByteCases.{all_below}
 use Rattle.aes_permute.specs.Lookup.{looked, is_index, low_nibble, high_nibble, AreIndices}
-use Rattle.aes_permute.specs.TwoPlaces.{both_nibbles, inverse_over, first_of, second_of, at_places}
+use Rattle.aes_permute.specs.TwoIndices.{both_nibbles, inverse_over, first_of, second_of, at_indices}
 use Rattle.aes_permute.specs.declared.tables.TheConstants.{INVERSE, SCALED_INVERSE}
 use Rattle.aes_permute.proofs.Lookups.{each_passes}
 
@@ -37,22 +37,22 @@ over_is f x is_y is_low at_y at_low e =
     (looked_of f INVERSE x at_y is_y)
     (looked_of low_nibble SCALED_INVERSE x at_low is_low)
 
--- the place that the second inverse gives: that inverse, plus another function of the byte
-pub place_is : (f h : ℕ → ℕ) (x : List ℕ) {sum at v z : List ℕ} → sum ≡ map (second_sum f) x
+-- the index that the second inverse gives: that inverse, plus another function of the byte
+pub index_is : (f h : ℕ → ℕ) (x : List ℕ) {sum at v z : List ℕ} → sum ≡ map (second_sum f) x
     → at ≡ map (looked INVERSE) sum
     → v ≡ map h x → z ≡ zip2 bit_xor at v → z ≡ map (λ b. bit_xor (inverse_over f b) (h b)) x
-place_is f h x is_sum is_at is_v e =
+index_is f h x is_sum is_at is_v e =
     sum_of (inverse_over f) h x e (looked_of (second_sum f) INVERSE x is_at is_sum) is_v
 
--- ---- that they are at places
+-- ---- that they are indices
 
--- what is made of bytes are places, if a test of all bytes says so
-pub made_places : (f : ℕ → ℕ) → all_below 256 (λ b. is_index (f b)) ≡ true
+-- what is made of bytes are indices, if a test of all bytes says so
+pub made_indices : (f : ℕ → ℕ) → all_below 256 (λ b. is_index (f b)) ≡ true
     → (x : List ℕ) {y : List ℕ} → IsBlock x
     → y ≡ map f x → AreIndices y
-made_places f test x h e = subst AreIndices (sym e) (each_passes is_index f test x h.1)
+made_indices f test x h e = subst AreIndices (sym e) (each_passes is_index f test x h.1)
 
--- each place at which the code looks up is an index, by all bytes: first the low nibble
+-- each number by which the code looks up is an index, by all bytes: first the low nibble
 pub low_cases : all_below 256 (λ b. is_index (low_nibble b)) ≡ true
 unfolding all_below is_index
 low_cases = refl
@@ -77,21 +77,21 @@ pub over_both_cases : all_below 256 (λ b. is_index (second_sum both_nibbles b))
 unfolding all_below is_index
 over_both_cases = refl
 
--- the first of the two places that are found for a byte is an index
+-- the first of the two indices that are found for a byte is an index
 pub first_cases : all_below 256 (λ b. is_index (first_of b)) ≡ true
 unfolding all_below is_index first_of
 first_cases = refl
 
--- the second of these places is an index
+-- the second of these indices is an index
 pub second_cases : all_below 256 (λ b. is_index (second_of b)) ≡ true
 unfolding all_below is_index second_of
 second_cases = refl
 
--- ---- what is looked up at two places
+-- ---- what is looked up at two indices
 
--- the sum of two look-ups in each lane is what two tables have at two places, lane by lane
+-- the sum of two look-ups in each lane is what two tables have at two indices, lane by lane
 pub places_looked_up : (t u xs ys : List ℕ)
-    → zip2 bit_xor (map (looked t) xs) (map (looked u) ys) ≡ zip2 (at_places t u) xs ys
+    → zip2 bit_xor (map (looked t) xs) (map (looked u) ys) ≡ zip2 (at_indices t u) xs ys
 places_looked_up t u [] ys = refl
 places_looked_up t u (x ∷ xs) [] = refl
 places_looked_up t u (x ∷ xs) (y ∷ ys) =

@@ -15,7 +15,7 @@ use Rattle.aes_planes.proofs.Standard.FieldLaws.{add_swap}
 use Rattle.aes_planes.proofs.Standard.States.{state_same}
 use Rattle.aes_planes.proofs.Standard.Steps.{map_length, add_block}
 use Rattle.aes_cipher.proofs.BlockNumbers.{blocks_summed}
-use Rattle.aes_permute.specs.TwoPlaces.{first_of, second_of, at_places}
+use Rattle.aes_permute.specs.TwoIndices.{first_of, second_of, at_indices}
 use Rattle.aes_permute.specs.Lookup.{looked, by_nibbles}
 use Rattle.aes_permute.specs.Stored.{as_is, untower, key_untower}
 use Rattle.aes_permute.specs.declared.tables.TheConstants.{TOWER_LOW, TOWER_HIGH, SBOX_FIRST}
@@ -29,13 +29,13 @@ use Rattle.aes_permute.proofs.Lookups.{maps_same}
 
 -- what two tables make of a byte in the tower basis
 abbrev pub through : List ℕ → List ℕ → ℕ → ℕ
-through t u b = at_places t u (first_of b) (second_of b)
+through t u b = at_indices t u (first_of b) (second_of b)
 
--- the sums of the entries at the two places of each byte are what the two tables make of the bytes
+-- the sums of the entries at the two indices of each byte are what the two tables make of the bytes
 pub through_lanes : (t u x : List ℕ) {f s y : List ℕ} → f ≡ map first_of x → s ≡ map second_of x
-    → y ≡ zip2 (at_places t u) f s → y ≡ map (through t u) x
-through_lanes t u x a b e = e ∙ (λ i. zip2 (at_places t u) (a i) (b i))
-    ∙ zip2-map (at_places t u) first_of second_of x
+    → y ≡ zip2 (at_indices t u) f s → y ≡ map (through t u) x
+through_lanes t u x a b e = e ∙ (λ i. zip2 (at_indices t u) (a i) (b i))
+    ∙ zip2-map (at_indices t u) first_of second_of x
 
 -- what is looked up for the coefficient 1 of MixColumns
 abbrev pub by_1 : ℕ → ℕ

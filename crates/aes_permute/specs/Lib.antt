@@ -2,5 +2,5 @@
 pub mod Keys
 pub mod Lookup
 pub mod Stored
-pub mod TwoPlaces
+pub mod TwoIndices
 pub mod Vectors

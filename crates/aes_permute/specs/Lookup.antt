@@ -2,7 +2,7 @@
 use Rattle.std.specs.Prelude.{◌≡◌, ℕ, ◌/◌, ◌%◌, Bool, true, ◌||◌, nat_le, nat_lt, cond, List, get_or, bit_xor}
 use Rattle.std.specs.List.{list_all}
 
--- the entry of a table at a place, and 0 from place 128 on
+-- the entry of a table at an index, and 0 from index 128 on
 abbrev pub looked : List ℕ → ℕ → ℕ
 looked t k = cond (nat_le 128 k) 0 (get_or t k 0)
 

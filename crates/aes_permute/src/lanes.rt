@@ -79,11 +79,11 @@ pub fn vector_has_one_block_or_two<L: Lanes>()
 /// Returns the entry of a table at each lane of a vector of one block, and 0 at a lane from 128 on.
 #[tactic(auto, using(crate::proofs::Lookups::looked_lanes, crate::proofs::Lookups::indices_ok))]
 #[inline(always)]
-pub fn lookup(table: [u8; 16], places: u8x16) -> u8x16
-    requires are_indices { AreIndices places }
-    ensures { result ≡ map (looked table) places }
+pub fn lookup(table: [u8; 16], indices: u8x16) -> u8x16
+    requires are_indices { AreIndices indices }
+    ensures { result ≡ map (looked table) indices }
 {
-    u8x16::from_array(table).swizzle_dyn(places)
+    u8x16::from_array(table).swizzle_dyn(indices)
 }
 
 impl Lanes for u8x16 {

@@ -9,7 +9,7 @@ ghost use Rattle.aes_permute.specs.Stored.{untower, inv_untower, key_untower};
 
 use crate::lane_rounds::LaneRounds;
 use crate::lanes::{Lanes, looked_up_by_nibbles};
-use crate::sbox::{looked_up, places_of};
+use crate::sbox::{indices_of, looked_up};
 use crate::tables::*;
 use aes_cipher::cipher::{Decrypt, Encrypt};
 use std::simd::prelude::*;
@@ -36,7 +36,7 @@ impl LaneRounds for Encrypt {
     fn round<L: Lanes>(x: L, key: L, number: usize) -> L {
         x.blocks_have_16_bytes();
         key.blocks_have_16_bytes();
-        let at = places_of(x);
+        let at = indices_of(x);
         let one = looked_up(at, ONE_FIRST, ONE_SECOND);
         let two = looked_up(at, TWO_FIRST, TWO_SECOND);
         // The double of each byte plus the byte of the next row. One row further on, these sums
@@ -54,7 +54,7 @@ impl LaneRounds for Encrypt {
     fn last_round<L: Lanes>(x: L, key: L, number: usize) -> L {
         x.blocks_have_16_bytes();
         key.blocks_have_16_bytes();
-        let one = looked_up(places_of(x), SBOX_FIRST, SBOX_SECOND);
+        let one = looked_up(indices_of(x), SBOX_FIRST, SBOX_SECOND);
         one.permuted(SHIFTED_ROWS[number % 4]).sum(key)
     }
 
@@ -87,7 +87,7 @@ impl LaneRounds for Decrypt {
     fn round<L: Lanes>(x: L, key: L, number: usize) -> L {
         x.blocks_have_16_bytes();
         key.blocks_have_16_bytes();
-        let at = places_of(x);
+        let at = indices_of(x);
         let by_1 = looked_up(at, INV_1_FIRST, INV_1_SECOND);
         let by_4 = looked_up(at, INV_4_FIRST, INV_4_SECOND);
         let by_9 = looked_up(at, INV_9_FIRST, INV_9_SECOND);
@@ -108,7 +108,7 @@ impl LaneRounds for Decrypt {
     fn last_round<L: Lanes>(x: L, key: L, number: usize) -> L {
         x.blocks_have_16_bytes();
         key.blocks_have_16_bytes();
-        let one = looked_up(places_of(x), INV_SBOX_FIRST, INV_SBOX_SECOND);
+        let one = looked_up(indices_of(x), INV_SBOX_FIRST, INV_SBOX_SECOND);
         one.permuted([0, 13, 10, 7, 4, 1, 14, 11, 8, 5, 2, 15, 12, 9, 6, 3])
             .sum(key)
     }

@@ -1,35 +1,35 @@
-//! The S-box and its inverse on lanes. Two places represent the inverse in the field, and tables
-//! are read at these places.
+//! The S-box and its inverse on lanes. Two indices represent the inverse in the field, and tables
+//! are read at these indices.
 
 ghost use Rattle.std.specs.Prelude.{◌≡◌, ℕ, map};
 ghost use Rattle.std.specs.Simd.Lanes.{zip2};
 ghost use Rattle.aes_planes.specs.Fips197 as fips;
 ghost use Rattle.aes_planes.specs.Planes.{plus63};
 ghost use Rattle.aes_permute.specs.Lookup.{AreIndices};
-ghost use Rattle.aes_permute.specs.TwoPlaces.{first_of, second_of, at_places};
+ghost use Rattle.aes_permute.specs.TwoIndices.{first_of, second_of, at_indices};
 ghost use Rattle.aes_permute.specs.Stored.{untower};
 
 use crate::lanes::Lanes;
 use crate::tables::{INVERSE, ONE_FIRST, ONE_SECOND, SCALED_INVERSE};
 use std::simd::prelude::*;
 
-/// The two places of an inverse in the field, lane by lane. A linear function of the inverse is the
-/// sum of the entries of two tables at these places.
+/// The two indices of an inverse in the field, lane by lane. A linear function of the inverse is
+/// the sum of the entries of two tables at these indices.
 #[derive(Clone, Copy)]
-pub struct TwoPlaces<L> {
-    /// The place in the first table.
+pub struct TwoIndices<L> {
+    /// The index in the first table.
     pub first: L,
-    /// The place in the second table.
+    /// The index in the second table.
     pub second: L,
 }
 
-/// Returns the places of the inverses of bytes in the tower basis.
+/// Returns the indices of the inverses of bytes in the tower basis.
 #[inline(always)]
-pub fn places_of<L: Lanes>(x: L) -> TwoPlaces<L>
+pub fn indices_of<L: Lanes>(x: L) -> TwoIndices<L>
     ensures first { (i : ℕ) → L.block result.first i ≡ map first_of (L.block x i) }
     ensures second { (i : ℕ) → L.block result.second i ≡ map second_of (L.block x i) }
-    ensures first_places { (i : ℕ) → AreIndices (L.block result.first i) }
-    ensures second_places { (i : ℕ) → AreIndices (L.block result.second i) }
+    ensures first_indices { (i : ℕ) → AreIndices (L.block result.first i) }
+    ensures second_indices { (i : ℕ) → AreIndices (L.block result.second i) }
 {
     x.blocks_have_16_bytes();
     let high = x.high_nibbles();
@@ -44,15 +44,15 @@ pub fn places_of<L: Lanes>(x: L) -> TwoPlaces<L>
     let at_both = over_both.lookup(INVERSE);
     let first = at_high.sum(both);
     let second = at_both.sum(high);
-    TwoPlaces { first, second }
+    TwoIndices { first, second }
 }
 
-/// Returns the sum of the entries of two tables at the places.
+/// Returns the sum of the entries of two tables at the indices.
 #[inline(always)]
-pub fn looked_up<L: Lanes>(at: TwoPlaces<L>, first: [u8; 16], second: [u8; 16]) -> L
-    requires first_places { (i : ℕ) → AreIndices (L.block at.first i) }
-    requires second_places { (i : ℕ) → AreIndices (L.block at.second i) }
-    ensures { (i : ℕ) → L.block result i ≡ zip2 (at_places first second) (L.block at.first i)
+pub fn looked_up<L: Lanes>(at: TwoIndices<L>, first: [u8; 16], second: [u8; 16]) -> L
+    requires first_indices { (i : ℕ) → AreIndices (L.block at.first i) }
+    requires second_indices { (i : ℕ) → AreIndices (L.block at.second i) }
+    ensures { (i : ℕ) → L.block result i ≡ zip2 (at_indices first second) (L.block at.first i)
         (L.block at.second i) }
 {
     let by_first = at.first.lookup(first);
@@ -66,5 +66,5 @@ pub fn sub_bytes_but_constant(x: u8x16) -> u8x16
     requires block { fips.IsBlock x }
     ensures { map untower result ≡ map plus63 (fips.sub_bytes (map untower x)) }
 {
-    looked_up(places_of(x), ONE_FIRST, ONE_SECOND)
+    looked_up(indices_of(x), ONE_FIRST, ONE_SECOND)
 }

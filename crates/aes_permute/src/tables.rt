@@ -11,8 +11,8 @@
 //! Two elements represent it: p = (k + a i) / N, which is 1 / (1 / (1/i + a/k) + j), and
 //! q = (k + a j) / N, which is 1 / (1 / (1/j + a/k) + i). The inverse is P p + Q q, where P is
 //! 1 + w/a + w/a^2 and Q is w/a^2. So a linear function f of the inverse is the sum of two
-//! entries, at the places 1/p and 1/q: the first table has f(P/n) at the place n, and the second
-//! one f(Q/n). Both have 0 at the place 0. Here 1/0 is 0x80, and a look-up gives 0 from there on,
+//! entries, at the indices 1/p and 1/q: the first table has f(P/n) at the index n, and the second
+//! one f(Q/n). Both have 0 at the index 0. Here 1/0 is 0x80, and a look-up gives 0 from there on,
 //! so zero needs no case of its own. A linear function of a byte is the sum of its values at the
 //! two nibbles.
 
@@ -64,7 +64,7 @@ pub const SCALED_INVERSE: [u8; 16] = [
     0x80, 0x02, 0x01, 0x0f, 0x09, 0x05, 0x0e, 0x0c, 0x0d, 0x04, 0x0b, 0x0a, 0x07, 0x08, 0x06, 0x03,
 ];
 
-/// The S-box without its constant, by the two places.
+/// The S-box without its constant, by the two indices.
 pub const SBOX_FIRST: [u8; 16] = [
     0x00, 0xcb, 0xd7, 0xb0, 0x21, 0x8d, 0x67, 0xac, 0x7b, 0x5a, 0xea, 0x3d, 0x46, 0xf6, 0x91, 0x1c,
 ];
@@ -91,7 +91,7 @@ pub const TWO_SECOND: [u8; 16] = [
     0x00, 0xd1, 0xe5, 0xf7, 0xe6, 0x25, 0x12, 0xc3, 0x26, 0xc0, 0x37, 0xd2, 0xf4, 0x03, 0x11, 0x34,
 ];
 
-/// The inverse S-box, by the two places.
+/// The inverse S-box, by the two indices.
 pub const INV_SBOX_FIRST: [u8; 16] = [
     0x00, 0x3b, 0xe4, 0xc8, 0x03, 0x14, 0x2c, 0x17, 0xf3, 0xf0, 0x38, 0xdc, 0x2f, 0xe7, 0xcb, 0xdf,
 ];
@@ -168,7 +168,7 @@ pub const KEY_15_HIGH: [u8; 16] = [
     0x00, 0x33, 0x4e, 0x7d, 0xee, 0xdd, 0xa0, 0x93, 0x89, 0xba, 0xc7, 0xf4, 0x67, 0x54, 0x29, 0x1a,
 ];
 
-// These tables are statics, since the places at which they are read are known only at run time. A
+// These tables are statics, since the indices at which they are read are known only at run time. A
 // constant would be copied to the stack first.
 
 /// The places of ShiftRows, by how many ShiftRows are made (FIPS 197, 5.1.2).

@@ -1,4 +1,4 @@
 -- Column mixing.
 pub mod Combinations
 pub mod MixColumns
-pub mod Turns
+pub mod Rotations

@@ -1,4 +1,4 @@
--- How many S-box layers it takes to work a slice of blocks.
+-- How many S-box layers it takes to process a slice of blocks.
 use Rattle.std.specs.Prelude.{ℕ, ◌+◌, ◌*◌, ◌/◌, ◌%◌}
 
 -- the blocks of a batch

@@ -13,7 +13,7 @@ use Rattle.aes_planes.proofs.Standard.CipherInverses.{cipher_length}
 use Rattle.aes_cipher.proofs.BlockNumbers.{number_back}
 use Rattle.aes_ctr.specs.CounterMode.{counter, counter_block, keystream_byte, plus_stream}
 use Rattle.aes_ctr.proofs.Sums.{plus_is}
-use Rattle.ctr_drbg.specs.CtrDrbg.{exclusive_or, v_plus_one, v_after, temp_after, turns, output}
+use Rattle.ctr_drbg.specs.CtrDrbg.{exclusive_or, v_plus_one, v_after, temp_after, blocks_for, output}
 use Rattle.ctr_drbg.proofs.Strings.{length-sum, get_or-sum, sum_is}
 
 -- one more than a counter block is the next one
@@ -74,14 +74,14 @@ byte_of_temp key v (suc n) i h =
 
 -- the output has as many bytes as were asked for
 length-output : (key v : List ℕ) (n : ℕ) → length (output key v n) ≡ n
-unfolding output turns
+unfolding output blocks_for
 length-output key v n = length-take-le n (temp_after key v ((n + 15) / 16))
     (omega (arith, length-temp key v ((n + 15) / 16)))
 
 -- byte i of the output is that of the keystream from the second block on
 byte_of_output : (key v : List ℕ) (n i : ℕ) → i < n
     → get_or (output key v n) i 0 ≡ keystream_byte (key_expansion key) v (16 + i)
-unfolding output turns
+unfolding output blocks_for
 byte_of_output key v n i h =
     get_or-take n (temp_after key v ((n + 15) / 16)) i 0 h
     ∙ byte_of_temp key v ((n + 15) / 16) i (omega (arith, h))

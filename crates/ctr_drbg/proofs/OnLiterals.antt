@@ -3,7 +3,7 @@ use Rattle.std.proofs.Common.{◌≡◌, ℕ, List, ◌++◌, take, drop}
 use Rattle.std.specs.Prelude.{⊤}
 use Rattle.aes_planes.specs.Fips197.{build, build_from, cipher}
 use Rattle.aes_planes.specs.BigEndian.{bytes}
-use Rattle.ctr_drbg.specs.CtrDrbg.{State, seed_padded, exclusive_or, v_after, temp_after, turns, output}
+use Rattle.ctr_drbg.specs.CtrDrbg.{State, seed_padded, exclusive_or, v_after, temp_after, blocks_for, output}
 use Rattle.ctr_drbg.specs.CtrDrbg.{update, instantiate, reseed, v_plus_one, returned_bits, generate}
 
 -- the definitions to unfold, so that strings on literals are computed
@@ -30,6 +30,6 @@ pub updated_by : (key v provided_data x y z : List ℕ) (counter : ℕ) → ciph
     → cipher key (v_after v 2) ≡ y → cipher key (v_after v 3) ≡ z
     → update provided_data (record { key = key; v = v; reseed_counter = counter })
     ≡ state_of (exclusive_or (take 48 (x ++ y ++ z)) provided_data) counter
-unfolding update output temp_after turns
+unfolding update output temp_after blocks_for
 updated_by key v provided_data x y z counter one two three =
     λ i. state_of (exclusive_or (take 48 (one i ++ two i ++ three i)) provided_data) counter

@@ -1,6 +1,6 @@
 -- Working states, by the calls that lead to them.
 use Rattle.std.proofs.Common.{◌≡◌, ℕ, ◌+◌, List, ◌∙◌, ap, take, drop, replicate}
-use Rattle.ctr_drbg.specs.CtrDrbg.{State, seed_padded, exclusive_or, v_after, turns, output, update}
+use Rattle.ctr_drbg.specs.CtrDrbg.{State, seed_padded, exclusive_or, v_after, blocks_for, output, update}
 use Rattle.ctr_drbg.specs.CtrDrbg.{instantiate, reseed, prepared, generate}
 
 -- the working state that an update leaves, by the Key, V and reseed_counter before it
@@ -29,13 +29,13 @@ instantiated_by entropy string zeros t is key v =
 pub generated_by : (n : ℕ) (string provided : List ℕ) (s before moved counted t : State)
     → t ≡ update provided counted
     → provided ≡ seed_padded string → before ≡ prepared string s → moved.key ≡ before.key
-    → moved.v ≡ v_after before.v (turns n) → counted.key ≡ moved.key → counted.v ≡ moved.v
+    → moved.v ≡ v_after before.v (blocks_for n) → counted.key ≡ moved.key → counted.v ≡ moved.v
     → counted.reseed_counter ≡ s.reseed_counter + 1 → t ≡ generate n string s
 unfolding update generate
 generated_by n string provided s before moved counted t is padding first key v same_key
     same_v counter =
     let whole_key : counted.key ≡ (prepared string s).key = same_key ∙ key
     ∙ ap (λ p. p.key) first in
-    let whole_v : counted.v ≡ v_after (prepared string s).v (turns n) =
-    same_v ∙ v ∙ ap (λ p. v_after p.v (turns n)) first in
+    let whole_v : counted.v ≡ v_after (prepared string s).v (blocks_for n) =
+    same_v ∙ v ∙ ap (λ p. v_after p.v (blocks_for n)) first in
     is ∙ (λ i. updated (padding i) (whole_key i) (whole_v i) (counter i))

@@ -39,14 +39,14 @@ unfolding v_after
 temp_after key v zero = []
 temp_after key v (suc i) = temp_after key v i ++ fips.cipher key (v_after v (suc i))
 
--- how many turns there are until temp has n bytes or more
-unfoldable pub turns : ℕ → ℕ
-turns n = (n + 15) / 16
+-- how many blocks of output temp has as soon as it has n bytes or more: one for each turn
+unfoldable pub blocks_for : ℕ → ℕ
+blocks_for n = (n + 15) / 16
 
 -- temp after as many turns as n bytes need, cut to its leftmost n bytes
 unfoldable pub output : List ℕ → List ℕ → ℕ → List ℕ
-unfolding temp_after turns
-output key v n = take n (temp_after key v (turns n))
+unfolding temp_after blocks_for
+output key v n = take n (temp_after key v (blocks_for n))
 
 -- ---- CTR_DRBG_Update (10.2.1.2)
 
@@ -95,8 +95,8 @@ returned_bits n additional_input s =
 -- the new working state: V moved on, then the update by the padded additional input, which is zeros
 -- if that is Null, and reseed_counter + 1 (steps 4, 6 and 7)
 unfoldable pub generate : ℕ → List ℕ → State → State
-unfolding prepared v_after turns seed_padded update
+unfolding prepared v_after blocks_for seed_padded update
 generate n additional_input s =
     let before = prepared additional_input s in
-    let moved : State = record before { v = v_after before.v (turns n) } in
+    let moved : State = record before { v = v_after before.v (blocks_for n) } in
     record (update (seed_padded additional_input) moved) { reseed_counter = s.reseed_counter + 1 }

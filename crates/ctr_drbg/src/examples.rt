@@ -10,7 +10,7 @@ ghost use Rattle.std.specs.Prelude.{drop, length, replicate, slice_index, take};
 ghost use Rattle.aes_planes.specs.BigEndian.{bytes};
 ghost use Rattle.aes_planes.specs.Fips197 as fips;
 ghost use Rattle.ctr_drbg.specs.CtrDrbg.{State, seed_padded, exclusive_or, instantiate, reseed, update};
-ghost use Rattle.ctr_drbg.specs.CtrDrbg.{generate, prepared, returned_bits, turns};
+ghost use Rattle.ctr_drbg.specs.CtrDrbg.{generate, prepared, returned_bits, blocks_for};
 ghost use Rattle.ctr_drbg.specs.CtrDrbg.{v_plus_one, output, v_after, temp_after};
 
 /// A string is padded at its end. A personalization string is summed with the first bytes of the
@@ -31,20 +31,20 @@ pub fn string_examples()
 
 /// How many blocks make output of no byte, of one, of a block, of a byte more, and of the most
 /// bytes of a request (10.2.1.5.1, step 4). They were counted by hand.
-#[tactic(auto, unfolding(crate::specs::CtrDrbg::turns))]
-pub fn turn_examples()
-    ensures none { turns 0 ≡ 0 }
-    ensures one { turns 1 ≡ 1 }
-    ensures block { turns 16 ≡ 1 }
-    ensures byte_more { turns 17 ≡ 2 }
-    ensures most { turns (2 ^ 16) ≡ 4096 }
+#[tactic(auto, unfolding(crate::specs::CtrDrbg::blocks_for))]
+pub fn block_count_examples()
+    ensures none { blocks_for 0 ≡ 0 }
+    ensures one { blocks_for 1 ≡ 1 }
+    ensures block { blocks_for 16 ≡ 1 }
+    ensures byte_more { blocks_for 17 ≡ 2 }
+    ensures most { blocks_for (2 ^ 16) ≡ 4096 }
 {}
 
 /// There are as many blocks as fill a number of bytes, and no block more.
-#[tactic(auto, unfolding(crate::specs::CtrDrbg::turns))]
-pub fn enough_turns()
-    ensures enough { (n : ℕ) → n ≤ 16 * turns n }
-    ensures needed { (n : ℕ) → 16 * turns n < n + 16 }
+#[tactic(auto, unfolding(crate::specs::CtrDrbg::blocks_for))]
+pub fn enough_blocks()
+    ensures enough { (n : ℕ) → n ≤ 16 * blocks_for n }
+    ensures needed { (n : ℕ) → 16 * blocks_for n < n + 16 }
 {}
 
 /// V is counted on by one in each turn, as a number of 128 bits whose highest byte is first. The
@@ -78,7 +78,7 @@ pub fn request_rules()
     ensures summed { (x y : List ℕ) → exclusive_or x y ≡ fips.build (length x)
         (λ i. fips.field_add (slice_index x i) (slice_index y i)) }
     ensures output { (key v : List ℕ) (n : ℕ) → output key v n
-        ≡ take n (temp_after key v (turns n)) }
+        ≡ take n (temp_after key v (blocks_for n)) }
     ensures key { (provided : List ℕ) (s : State) → (update provided s).key
         ≡ take 32 (exclusive_or (output s.key s.v 48) provided) }
     ensures v { (provided : List ℕ) (s : State) → (update provided s).v
@@ -94,13 +94,13 @@ pub fn request_rules()
     ensures left { (n : ℕ) (x : List ℕ) (s : State) → (generate n x s).key
         ≡ (update (seed_padded x) (record {
           key = (prepared x s).key;
-          v = v_after (prepared x s).v (turns n);
+          v = v_after (prepared x s).v (blocks_for n);
           reseed_counter = s.reseed_counter;
         })).key }
     ensures moved { (n : ℕ) (x : List ℕ) (s : State) → (generate n x s).v
         ≡ (update (seed_padded x) (record {
           key = (prepared x s).key;
-          v = v_after (prepared x s).v (turns n);
+          v = v_after (prepared x s).v (blocks_for n);
           reseed_counter = s.reseed_counter;
         })).v }
 {}

@@ -269,7 +269,7 @@ impl<C: BlockCipherEncrypt + KeyInit + Drop> CtrDrbg<C> {
         requires { length output.old ≤ 2 ^ 16 }
         ensures output { output.new ≡ nist.output self.old.key self.old.v (length output.old) }
         ensures key { self.new.key ≡ self.old.key }
-        ensures v { self.new.v ≡ nist.v_after self.old.v (nist.turns (length output.old)) }
+        ensures v { self.new.v ≡ nist.v_after self.old.v (nist.blocks_for (length output.old)) }
     {
         put_output(&self.cipher, &self.v.value()[0], output);
         let v = moved_on(&self.v.value()[0], output.len());

@@ -32,7 +32,7 @@ pub(crate) fn put_output<C: BlockCipherEncrypt + KeyInit>(cipher: &C, v: &Block,
 /// Returns V after this many bytes of output.
 pub(crate) fn moved_on(v: &Block, bytes: usize) -> Block
     requires { bytes ≤ 2 ^ 16 }
-    ensures { result ≡ nist.v_after v.now (nist.turns bytes) }
+    ensures { result ≡ nist.v_after v.now (nist.blocks_for bytes) }
 {
     block_of_number(number_of_block(v).wrapping_add(bytes.div_ceil(16) as u128))
 }

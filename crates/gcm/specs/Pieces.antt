@@ -19,12 +19,12 @@ phase_of n =
     else NoMessage
 
 -- text of a phase may come: it has, or additional data may
-abbrev pub IsTurn : Phase → Message → Type 0
-IsTurn turn m = (phase_of m.phase ≡ Additional) ⊎ (phase_of m.phase ≡ turn)
+abbrev pub IsPhaseAllowed : Phase → Message → Type 0
+IsPhaseAllowed wanted m = (phase_of m.phase ≡ Additional) ⊎ (phase_of m.phase ≡ wanted)
 
 -- no text of a phase may come
-abbrev pub IsOutOfTurn : Phase → Message → Type 0
-IsOutOfTurn turn m = (phase_of m.phase ≢ Additional) × (phase_of m.phase ≢ turn)
+abbrev pub IsPhaseRefused : Phase → Message → Type 0
+IsPhaseRefused wanted m = (phase_of m.phase ≢ Additional) × (phase_of m.phase ≢ wanted)
 
 -- GHASH, from the value y on, after the whole blocks of a string, and the bytes of it after them
 pub record IsHashing (h y : ℕ) (s : List ℕ) (v : ℕ) (block : List ℕ) : Type 0 where
@@ -47,9 +47,9 @@ pub record IsBegun (w : List (List ℕ)) (iv a : List ℕ) (m : Message) : Type 
 
 -- the additional data a has come and then the cipher text c, and more of it may come in the same
 -- phase
-pub record IsInText (turn : Phase) (w : List (List ℕ)) (iv a c : List ℕ)
+pub record IsInText (wanted : Phase) (w : List (List ℕ)) (iv a c : List ℕ)
     (m : Message) : Type 0 where
-  pub phase : phase_of m.phase ≡ turn
+  pub phase : phase_of m.phase ≡ wanted
   pub first : from_be_bytes w128 m.first ≡ pre_counter (hash_subkey w) iv
   pub additional : m.additional ≡ length a
   pub short : IsHashedLength (length a)
@@ -61,7 +61,7 @@ pub record IsInText (turn : Phase) (w : List (List ℕ)) (iv a c : List ℕ)
 
 -- a message to which text of a phase may come: one that has begun, or one in that text
 abbrev pub IsAt : Phase → List (List ℕ) → List ℕ → List ℕ → List ℕ → Message → Type 0
-IsAt turn w iv a c m = (IsBegun w iv a m × (c ≡ [])) ⊎ IsInText turn w iv a c m
+IsAt wanted w iv a c m = (IsBegun w iv a m × (c ≡ [])) ⊎ IsInText wanted w iv a c m
 
 -- a message to which text may come that is encrypted
 abbrev pub IsEncrypting : List (List ℕ) → List ℕ → List ℕ → List ℕ → Message → Type 0

@@ -33,7 +33,7 @@ pub trait ProductRoom: Zeroize {
     /// The block.
     ghost subkey: { Self → ℕ };
 
-    /// Writes what products with a block need.
+    /// Writes what products with `h` need.
     fn put(&mut self, h: u128)
         ensures made { IsMade self.new }
         ensures subkey { subkey self.new ≡ h };

@@ -11,13 +11,13 @@ use crate::single_blocks::Factor;
 use std::simd::prelude::*;
 
 // Every fourth bit of a word, from bit 0, 1, 2 or 3 on.
-const HOLES_0: u32 = 0x1111_1111;
+const FOURTHS_0: u32 = 0x1111_1111;
 
-const HOLES_1: u32 = 0x2222_2222;
+const FOURTHS_1: u32 = 0x2222_2222;
 
-const HOLES_2: u32 = 0x4444_4444;
+const FOURTHS_2: u32 = 0x4444_4444;
 
-const HOLES_3: u32 = 0x8888_8888;
+const FOURTHS_3: u32 = 0x8888_8888;
 
 // The lower half of the product of two words without carries. Each factor has every fourth bit
 // alone. So at most eight bits are summed to a place of a product, and no carry reaches the next
@@ -26,13 +26,13 @@ const HOLES_3: u32 = 0x8888_8888;
 fn lower_product(x: u32, y: u32) -> u32
     ensures { result ≡ carryless 32 x y % 2 ^ 32 }
 {
-    let (x0, x1, x2, x3) = (x & HOLES_0, x & HOLES_1, x & HOLES_2, x & HOLES_3);
-    let (y0, y1, y2, y3) = (y & HOLES_0, y & HOLES_1, y & HOLES_2, y & HOLES_3);
+    let (x0, x1, x2, x3) = (x & FOURTHS_0, x & FOURTHS_1, x & FOURTHS_2, x & FOURTHS_3);
+    let (y0, y1, y2, y3) = (y & FOURTHS_0, y & FOURTHS_1, y & FOURTHS_2, y & FOURTHS_3);
     let z0 = x0.wrapping_mul(y0) ^ x1.wrapping_mul(y3) ^ x2.wrapping_mul(y2) ^ x3.wrapping_mul(y1);
     let z1 = x0.wrapping_mul(y1) ^ x1.wrapping_mul(y0) ^ x2.wrapping_mul(y3) ^ x3.wrapping_mul(y2);
     let z2 = x0.wrapping_mul(y2) ^ x1.wrapping_mul(y1) ^ x2.wrapping_mul(y0) ^ x3.wrapping_mul(y3);
     let z3 = x0.wrapping_mul(y3) ^ x1.wrapping_mul(y2) ^ x2.wrapping_mul(y1) ^ x3.wrapping_mul(y0);
-    z0 & HOLES_0 ^ z1 & HOLES_1 ^ z2 & HOLES_2 ^ z3 & HOLES_3
+    z0 & FOURTHS_0 ^ z1 & FOURTHS_1 ^ z2 & FOURTHS_2 ^ z3 & FOURTHS_3
 }
 
 // The product of two words without carries. Reversed words have the reversed product, of 63 bits,

@@ -6,7 +6,7 @@ ghost use Rattle.aes_cipher.specs.Blocks.{padded};
 ghost use Rattle.gcm.specs.Gcm as nist;
 ghost use Rattle.gcm.specs.Gcm.{nonce_number, IsHashedLength, IsTextLength, IsTooMuchHashed};
 ghost use Rattle.gcm.specs.Gcm.{IsTooMuchText};
-ghost use Rattle.gcm.specs.Pieces.{hashed_padded, IsBegun, IsInText, IsAt, IsOutOfTurn, IsTurn};
+ghost use Rattle.gcm.specs.Pieces.{hashed_padded, IsBegun, IsInText, IsAt, IsPhaseRefused, IsPhaseAllowed};
 ghost use Rattle.gcm.specs.Pieces.{phase_of};
 ghost use Rattle.gcm.specs.declared.message_state.Phase.{Phase};
 
@@ -27,7 +27,7 @@ use aes_cipher::zeroize::wipe_stack;
 // Returns whether text of a phase may come: the message is in that phase, or additional data may
 // still come.
 fn may_enter(message: &Message, phase: Phase) -> bool
-    ensures { IsTrue result ↔ IsTurn phase message.now }
+    ensures { IsTrue result ↔ IsPhaseAllowed phase message.now }
 {
     let now = phase_of(message.phase);
     now == Phase::Additional || now == phase
@@ -161,9 +161,9 @@ impl<'a, C: BlockCipherEncrypt, R: HashRoom> BorrowedGcm<'a, C, R> {
     ) -> Result<(), InvalidPiece>
         requires { phase ≢ Phase.Additional }
         ensures out_of_turn { IsErrOf result InvalidPiece.OutOfTurn
-            ↔ IsOutOfTurn phase message.old }
+            ↔ IsPhaseRefused phase message.old }
         ensures refusal { IsErr result ↔
-            (IsOutOfTurn phase message.old
+            (IsPhaseRefused phase message.old
             ⊎ IsTooMuchText (message.old.text + more)) }
         ensures turned { OnOk result ((iv a c : List ℕ) → IsAt phase self.now iv a c message.old
             → IsInText phase self.now iv a c message.new) }

@@ -2,14 +2,14 @@
 //! prover refuses a mistake in a constant or a definition. The last two calls say what a text is
 //! encrypted to under the bytes of a key. The others have no effect.
 
-ghost use Rattle.std.specs.Prelude.{◌≡◌, ◌↔◌, ◌^◌, ◌≤◌, length};
+ghost use Rattle.std.specs.Prelude.{◌≡◌, ◌↔◌, length};
 ghost use Rattle.aes_planes.specs.Fips197 as fips;
 ghost use Rattle.aes_cipher.specs.KeySizes.{IsKeySize};
 ghost use Rattle.gcm.specs.Gcm as nist;
 ghost use Rattle.gcm.specs.Gcm.{IsHashedLength, IsTextLength, IsTooLong};
 ghost use Rattle.gcm_siv.specs.GcmSiv as rfc;
 ghost use Rattle.gcm_c.specs.Kept.{IsNonceLength};
-ghost use Rattle.gcm_c.specs.Siv.{IsSivTooLong};
+ghost use Rattle.gcm_c.specs.Siv.{IsSivLength, IsSivTooLong};
 
 use crate::VERSION;
 use crate::form::{GhashRoom, KeptKey};
@@ -104,7 +104,7 @@ pub fn siv_set_key_and_seal(
     ensures too_long { result ≡ TOO_LONG ↔ rfc.IsSivKeySize (length key.now)
         × IsSivTooLong (length additional.now) (length text.old) }
     ensures done { result ≡ DONE ↔ rfc.IsSivKeySize (length key.now)
-        × ((length additional.now ≤ 2 ^ 36) × (length text.old ≤ 2 ^ 36)) }
+        × (IsSivLength (length additional.now) × IsSivLength (length text.old)) }
     ensures tag { result ≡ DONE → tag.new ≡ rfc.tag key.now nonce.now additional.now text.old }
     ensures encrypted { result ≡ DONE → text.new ≡ rfc.text key.now nonce.now tag.new text.old }
 {

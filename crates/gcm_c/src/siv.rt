@@ -1,6 +1,6 @@
 //! AES-GCM-SIV in place, and the keys of a message in room that is wiped.
 
-ghost use Rattle.std.specs.Prelude.{◌≡◌, ◌≢◌, ◌↔◌, ◌^◌, ◌<◌, ◌≤◌, ◌++◌, [], length, slice_index_or};
+ghost use Rattle.std.specs.Prelude.{◌≡◌, ◌≢◌, ◌↔◌, ◌^◌, ◌<◌, ◌++◌, [], length, slice_index_or};
 ghost use Rattle.std.specs.Prelude.{IsTrue, false};
 ghost use Rattle.std.specs.Int.{w128, from_le_bytes};
 ghost use Rattle.gcm.specs.Gcm.{next_v};
@@ -8,7 +8,7 @@ ghost use Rattle.gcm_siv.specs.GcmSiv as rfc;
 ghost use Rattle.gcm_siv.specs.GcmSiv.{authentication_key, encryption_key, IsAuthentic};
 ghost use Rattle.gcm_siv.specs.GcmSiv.{IsSivKeySize};
 ghost use Rattle.gcm_c.specs.Form.{key_in, IsKept};
-ghost use Rattle.gcm_c.specs.Siv.{HoldsSivKey, IsSivMade, IsSivTooLong};
+ghost use Rattle.gcm_c.specs.Siv.{HoldsSivKey, IsSivMade, IsSivLength, IsSivTooLong};
 
 use crate::form::{KeptKey, LongRoom, ShortRoom, cipher_of};
 use crate::siv_kept::{Siv, is_siv_key_size};
@@ -26,8 +26,8 @@ const MESSAGE_STACK: usize = 2816;
 /// Returns the status that refuses these lengths or this struct, or `DONE`.
 pub(crate) fn siv_refusal(siv: &Siv, additional: usize, text: usize) -> u32
     ensures too_long { result ≡ TOO_LONG ↔ IsSivTooLong additional text }
-    ensures done { result ≡ DONE ↔ (additional ≤ 2 ^ 36)
-        × ((text ≤ 2 ^ 36) × HoldsSivKey siv.now) }
+    ensures done { result ≡ DONE ↔ IsSivLength additional
+        × (IsSivLength text × HoldsSivKey siv.now) }
     ensures refused { result ≢ DONE → result ≢ TOO_LONG → result ≡ NO_KEY }
 {
     if additional as u64 > LONGEST || text as u64 > LONGEST {
@@ -40,25 +40,30 @@ pub(crate) fn siv_refusal(siv: &Siv, additional: usize, text: usize) -> u32
 }
 
 // Expands the encryption key: the block after the first one, or the two blocks after it.
-fn set_encryption_key(keys: &DerivedKeysRoom, size: usize, kept: &mut KeptKey)
+fn set_encryption_key(keys: &DerivedKeysRoom, size: usize, message_key: &mut KeptKey)
     requires { IsSivKeySize size }
-    ensures kept { IsKept kept.new }
-    ensures size { kept.new.length ≡ size }
-    ensures short { size ≡ 16 → key_in kept.new ≡ slice_index_or keys.now 1 [] }
+    ensures kept { IsKept message_key.new }
+    ensures size { message_key.new.length ≡ size }
+    ensures short { size ≡ 16 → key_in message_key.new ≡ slice_index_or keys.now 1 [] }
     ensures long { size ≡ 32
-        → key_in kept.new ≡ slice_index_or keys.now 1 [] ++ slice_index_or keys.now 2 [] }
+        → key_in message_key.new ≡ slice_index_or keys.now 1 [] ++ slice_index_or keys.now 2 [] }
 {
     if size == 16 {
-        kept.set(&keys[1]);
+        message_key.set(&keys[1]);
     } else {
-        kept.set(keys[1..3].as_flattened());
+        message_key.set(keys[1..3].as_flattened());
     }
 }
 
 // Writes the round keys of a message, and the multiples of its authentication key times x^-1. This
 // is a call of its own, so that its stack can be wiped.
 #[inline(never)]
-fn prepare<R: PolyvalRoom>(siv: &Siv, nonce: &[u8; 12], kept: &mut KeptKey, room: &mut R)
+fn derive_and_prepare<R: PolyvalRoom>(
+    siv: &Siv,
+    nonce: &[u8; 12],
+    message_key: &mut KeptKey,
+    room: &mut R,
+)
     requires made { IsSivMade siv.now }
     requires key { HoldsSivKey siv.now }
     ensures made { R.IsMade room.new }
@@ -66,15 +71,15 @@ fn prepare<R: PolyvalRoom>(siv: &Siv, nonce: &[u8; 12], kept: &mut KeptKey, room
         ≡ next_v (from_le_bytes w128 (authentication_key (key_in siv.now) nonce.now)) }
     ensures small { from_le_bytes w128
         (authentication_key (key_in siv.now) nonce.now) < 2 ^ 128 }
-    ensures kept { IsKept kept.new }
-    ensures size { kept.new.length ≡ siv.now.length }
-    ensures encryption { key_in kept.new ≡ encryption_key (key_in siv.now) nonce.now }
+    ensures kept { IsKept message_key.new }
+    ensures size { message_key.new.length ≡ siv.now.length }
+    ensures encryption { key_in message_key.new ≡ encryption_key (key_in siv.now) nonce.now }
 {
     let size = siv.length as usize;
     let mut keys = MustWipe::<DerivedKeysRoom>::zeroed();
     derive(&cipher_of(siv), size, nonce, keys.value_mut());
     put_authentication(&keys.value()[0], room);
-    set_encryption_key(keys.value(), size, kept);
+    set_encryption_key(keys.value(), size, message_key);
     keys.wipe();
 }
 
@@ -86,22 +91,22 @@ fn prepare<R: PolyvalRoom>(siv: &Siv, nonce: &[u8; 12], kept: &mut KeptKey, room
 fn seal_in<R: PolyvalRoom>(siv: &Siv, nonce: &[u8; 12], additional: &[u8], text: &mut [u8]) -> Block
     requires made { IsSivMade siv.now }
     requires key { HoldsSivKey siv.now }
-    requires additional { length additional.now ≤ 2 ^ 36 }
-    requires text { length text.old ≤ 2 ^ 36 }
+    requires additional { IsSivLength (length additional.now) }
+    requires text { IsSivLength (length text.old) }
     ensures tag { result ≡ rfc.tag (key_in siv.now) nonce.now additional.now text.old }
     ensures encrypted { text.new ≡ rfc.text (key_in siv.now) nonce.now result text.old }
 {
     let mut room = MustWipe::<R>::zeroed();
-    let mut kept = MustWipe::<KeptKey>::zeroed();
-    prepare(siv, nonce, kept.value_mut(), room.value_mut());
+    let mut message_key = MustWipe::<KeptKey>::zeroed();
+    derive_and_prepare(siv, nonce, message_key.value_mut(), room.value_mut());
     let tag = seal(
-        &cipher_of(kept.value()),
+        &cipher_of(message_key.value()),
         room.value(),
         nonce,
         additional,
         text,
     );
-    kept.wipe();
+    message_key.wipe();
     room.wipe();
     wipe_stack::<MESSAGE_STACK>();
     tag
@@ -111,8 +116,8 @@ fn seal_in<R: PolyvalRoom>(siv: &Siv, nonce: &[u8; 12], additional: &[u8], text:
 fn seal_message(siv: &Siv, nonce: &[u8; 12], additional: &[u8], text: &mut [u8]) -> Block
     requires made { IsSivMade siv.now }
     requires key { HoldsSivKey siv.now }
-    requires additional { length additional.now ≤ 2 ^ 36 }
-    requires text { length text.old ≤ 2 ^ 36 }
+    requires additional { IsSivLength (length additional.now) }
+    requires text { IsSivLength (length text.old) }
     ensures tag { result ≡ rfc.tag (key_in siv.now) nonce.now additional.now text.old }
     ensures encrypted { text.new ≡ rfc.text (key_in siv.now) nonce.now result text.old }
 {
@@ -135,8 +140,8 @@ fn open_in<R: PolyvalRoom>(
 ) -> bool
     requires made { IsSivMade siv.now }
     requires key { HoldsSivKey siv.now }
-    requires additional { length additional.now ≤ 2 ^ 36 }
-    requires text { length text.old ≤ 2 ^ 36 }
+    requires additional { IsSivLength (length additional.now) }
+    requires text { IsSivLength (length text.old) }
     ensures accepted { IsTrue result ↔ IsAuthentic
         (key_in siv.now) nonce.now additional.now tag.now text.old }
     ensures decrypted { IsTrue result → text.new
@@ -144,17 +149,17 @@ fn open_in<R: PolyvalRoom>(
     ensures untouched { result ≡ false → text.new ≡ text.old }
 {
     let mut room = MustWipe::<R>::zeroed();
-    let mut kept = MustWipe::<KeptKey>::zeroed();
-    prepare(siv, nonce, kept.value_mut(), room.value_mut());
+    let mut message_key = MustWipe::<KeptKey>::zeroed();
+    derive_and_prepare(siv, nonce, message_key.value_mut(), room.value_mut());
     let is_right = open(
-        &cipher_of(kept.value()),
+        &cipher_of(message_key.value()),
         room.value(),
         nonce,
         additional,
         text,
         tag,
     );
-    kept.wipe();
+    message_key.wipe();
     room.wipe();
     wipe_stack::<MESSAGE_STACK>();
     is_right
@@ -170,8 +175,8 @@ fn open_message(
 ) -> bool
     requires made { IsSivMade siv.now }
     requires key { HoldsSivKey siv.now }
-    requires additional { length additional.now ≤ 2 ^ 36 }
-    requires text { length text.old ≤ 2 ^ 36 }
+    requires additional { IsSivLength (length additional.now) }
+    requires text { IsSivLength (length text.old) }
     ensures accepted { IsTrue result ↔ IsAuthentic
         (key_in siv.now) nonce.now additional.now tag.now text.old }
     ensures decrypted { IsTrue result → text.new
@@ -197,8 +202,8 @@ pub extern "C" fn fotsgure_gcm_siv_seal(
 ) -> u32
     requires made { IsSivMade siv.now }
     ensures too_long { result ≡ TOO_LONG ↔ IsSivTooLong (length additional.now) (length text.old) }
-    ensures done { result ≡ DONE ↔ (length additional.now ≤ 2 ^ 36)
-        × ((length text.old ≤ 2 ^ 36) × HoldsSivKey siv.now) }
+    ensures done { result ≡ DONE ↔ IsSivLength (length additional.now)
+        × (IsSivLength (length text.old) × HoldsSivKey siv.now) }
     ensures refused { result ≢ DONE → result ≢ TOO_LONG → result ≡ NO_KEY }
     ensures tag { result ≡ DONE
         → tag.new ≡ rfc.tag (key_in siv.now) nonce.now additional.now text.old }
@@ -228,9 +233,9 @@ pub extern "C" fn fotsgure_gcm_siv_open(
 ) -> u32
     requires made { IsSivMade siv.now }
     ensures too_long { result ≡ TOO_LONG ↔ IsSivTooLong (length additional.now) (length text.old) }
-    ensures no_key { result ≡ NO_KEY ↔ (length additional.now ≤ 2 ^ 36)
-        × ((length text.old ≤ 2 ^ 36) × ¬ HoldsSivKey siv.now) }
-    ensures done { result ≡ DONE ↔ (length additional.now ≤ 2 ^ 36) × ((length text.old ≤ 2 ^ 36)
+    ensures no_key { result ≡ NO_KEY ↔ IsSivLength (length additional.now)
+        × (IsSivLength (length text.old) × ¬ HoldsSivKey siv.now) }
+    ensures done { result ≡ DONE ↔ IsSivLength (length additional.now) × (IsSivLength (length text.old)
         × (HoldsSivKey siv.now
         × IsAuthentic (key_in siv.now) nonce.now additional.now tag.now text.old)) }
     ensures refused { result ≢ DONE → result ≢ TOO_LONG → result ≢ NO_KEY → result ≡ REFUSED }

@@ -1,10 +1,10 @@
 //! Messages of AES-GCM-SIV, from one buffer to another.
 
-ghost use Rattle.std.specs.Prelude.{◌≡◌, ◌≢◌, ◌↔◌, ◌^◌, ◌<◌, ◌≤◌, length, replicate};
+ghost use Rattle.std.specs.Prelude.{◌≡◌, ◌≢◌, ◌↔◌, length, replicate};
 ghost use Rattle.gcm_siv.specs.GcmSiv as rfc;
 ghost use Rattle.gcm_siv.specs.GcmSiv.{IsAuthentic};
 ghost use Rattle.gcm_c.specs.Form.{key_in};
-ghost use Rattle.gcm_c.specs.Siv.{HoldsSivKey, IsSivMade, IsSivTooLong};
+ghost use Rattle.gcm_c.specs.Siv.{HoldsSivKey, IsSivMade, IsSivLength, IsSivTooLong};
 
 use crate::siv::{fotsgure_gcm_siv_open, fotsgure_gcm_siv_seal, siv_refusal};
 use crate::siv_kept::Siv;
@@ -27,7 +27,7 @@ pub extern "C" fn fotsgure_gcm_siv_seal_to(
     ensures too_long { result ≡ TOO_LONG ↔ (length input.now ≡ length output.old)
         × IsSivTooLong (length additional.now) (length input.now) }
     ensures done { result ≡ DONE ↔ (length input.now ≡ length output.old)
-        × ((length additional.now ≤ 2 ^ 36) × ((length input.now ≤ 2 ^ 36)
+        × (IsSivLength (length additional.now) × (IsSivLength (length input.now)
         × HoldsSivKey siv.now)) }
     ensures refused { result ≢ DONE → result ≢ UNEQUAL_LENGTHS → result ≢ TOO_LONG
         → result ≡ NO_KEY }
@@ -66,10 +66,10 @@ pub extern "C" fn fotsgure_gcm_siv_open_to(
     ensures too_long { result ≡ TOO_LONG ↔ (length input.now ≡ length output.old)
         × IsSivTooLong (length additional.now) (length input.now) }
     ensures no_key { result ≡ NO_KEY ↔ (length input.now ≡ length output.old)
-        × ((length additional.now ≤ 2 ^ 36) × ((length input.now ≤ 2 ^ 36)
+        × (IsSivLength (length additional.now) × (IsSivLength (length input.now)
         × ¬ HoldsSivKey siv.now)) }
     ensures done { result ≡ DONE ↔ (length input.now ≡ length output.old)
-        × ((length additional.now ≤ 2 ^ 36) × ((length input.now ≤ 2 ^ 36)
+        × (IsSivLength (length additional.now) × (IsSivLength (length input.now)
         × (HoldsSivKey siv.now
         × IsAuthentic (key_in siv.now) nonce.now additional.now tag.now input.now))) }
     ensures refused { result ≢ DONE → result ≢ UNEQUAL_LENGTHS → result ≢ TOO_LONG

@@ -6,7 +6,7 @@ pub mod blocks;
 pub mod bytes;
 pub mod chains;
 pub mod counter;
-pub mod examples;
 pub mod expansions;
 pub mod keys;
 pub mod rounds;
+pub mod single_blocks;

@@ -98,7 +98,7 @@ SAME = [
     ("x86_64/aes", r"key_wrap\.\w+\.\w+", "The last semiblock has eight bytes or fewer."),
     ("x86_64/.*", r"fotsgure_\w+|BorrowedGcm\.\w+|whole_to\.copy", "Some instructions ask whether a call is refused, because of its state "
      "or of a number that is too large. Others ask how many whole batches come first."),
-    ("x86_64/.*", r"add_in_batches\.\w+|add_gctr|fotsgure_\w+|zeroize\.\w+\.\w+|siv\.prepare",
+    ("x86_64/.*", r"add_in_batches\.\w+|add_gctr|fotsgure_\w+|zeroize\.\w+\.\w+|siv\.derive_and_prepare",
      "It stores zeros where it wipes, in structs and on the stack, and the length of a key."),
     ("x86_64/.*", r"process_on_planes|lend_planes_to_encrypt|siv\.(open|seal)_in", "memset wipes what a function used of the stack, which "
      "isn't always at the same depth."),

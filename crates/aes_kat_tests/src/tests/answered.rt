@@ -1,7 +1,6 @@
 //! Lines that are answered, by the worked examples of the standards.
 use super::{answers, check, check_texts};
 use standards::blocks::{ENCRYPTED_128, ENCRYPTED_192, ENCRYPTED_256, PLAIN};
-use standards::examples::EXAMPLES;
 use standards::expansions::{ROUND_KEYS_A1, ROUND_KEYS_A2, ROUND_KEYS_A3};
 use standards::keys::{KEY_A1, KEY_A2, KEY_A3};
 use standards::rounds::{

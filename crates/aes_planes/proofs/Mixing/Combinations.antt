@@ -147,17 +147,17 @@ module _ {A : Type 0} {bits : A → List Bool} {n w R H Q N S : ℕ}
         ∙ ap (field_mul 2) (p.bytes r c k hr hc hk);
   }
 
-  -- planes that are turned by two rows
-  pub turned_two : {x : Mix} {a z : List (List Bool)} → Makes n cols old x a
+  -- planes that are rotated by two rows
+  pub rotated_two : {x : Mix} {a z : List (List Bool)} → Makes n cols old x a
       → ((r c k : ℕ) → r < 4 → c < 4 → k < n
       → held_byte z (place n r c k) ≡ held_byte a
       (place n ((r + 2) % 4) ((c + 2 * cols % 4) % 4) k))
       → Makes n cols old (FromTwoOn x) z
-  turned_two {x = x} p turn = record {
+  rotated_two {x = x} p rotated = record {
     bytes = λ r c k hr hc hk.
         let row : (r + 2) % 4 ≡ ((r + 1) % 4 + 1) % 4 = omega arith in
         let column : (c + 2 * cols % 4) % 4 ≡ ((c + cols) % 4 + cols) % 4 = omega arith in
-        turn r c k hr hc hk ∙ p.bytes _ _ k (omega arith) (omega arith) hk
+        rotated r c k hr hc hk ∙ p.bytes _ _ k (omega arith) (omega arith) hk
         ∙ (λ t. mixed_byte x (onward cols (λ r c. held_byte old (place n r c k)) (row t) (column t)));
   }
 

@@ -1,4 +1,4 @@
-//! Laws and examples: contracts of functions that do nothing, which answer.
+//! Calls the functions whose contracts are laws or examples.
 
 use aes_ctr::examples as ctr_examples;
 use aes_planes::soft::planes::{held_holds, same_blocks_same_planes};

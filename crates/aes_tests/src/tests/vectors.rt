@@ -4,8 +4,8 @@ use super::forms::{CipherTrial, Forms, Known, Trial, pass_under, try_all};
 use aes::{Block, hardware_accelerated};
 use aes_cipher::cipher::{BlockCipherDecrypt, BlockCipherEncrypt};
 use standards::blocks::{ENCRYPTED_128, ENCRYPTED_192, ENCRYPTED_256, PLAIN, blocks};
-use standards::examples::EXAMPLES;
 use standards::keys::{KEY_A1, KEY_A2, KEY_A3};
+use standards::single_blocks::EXAMPLES;
 use std::test::Fail;
 
 // Encrypts a block in place, and from one buffer to another.

@@ -185,10 +185,10 @@ pub record IsSoFar (w : List (List ℕ)) (iv a c : List ℕ) (m : Message) : Typ
 
 -- a message to which text may come has what `IsSoFar` says, so that a tag is proved once for both
 -- phases
-pub so_far : (turn : Phase) (w : List (List ℕ)) (iv a c : List ℕ) (m : Message)
-    → IsAt turn w iv a c m
+pub so_far : (wanted : Phase) (w : List (List ℕ)) (iv a c : List ℕ) (m : Message)
+    → IsAt wanted w iv a c m
     → IsSoFar w iv a c m
-so_far turn w iv a c m (inl (is, none)) =
+so_far wanted w iv a c m (inl (is, none)) =
     record {
       first = is.first;
       additional = is.additional;
@@ -196,7 +196,7 @@ so_far turn w iv a c m (inl (is, none)) =
       text = is.text ∙ sym (ap length none);
       short_text = omega (arith, ap length none);
     }
-so_far turn w iv a c m (inr is) =
+so_far wanted w iv a c m (inr is) =
     record {
       first = is.first;
       additional = is.additional;

@@ -4,7 +4,7 @@ ghost use Rattle.std.specs.Prelude.{◌≡◌, ◌≢◌, ◌↔◌, ◌⊎◌, 
 ghost use Rattle.std.specs.Prelude.{length, drop, IsOk, IsErr, IsErrOf, IsTrue, OnOk, OnErr};
 ghost use Rattle.gcm.specs.Gcm as nist;
 ghost use Rattle.gcm.specs.Gcm.{HasFixedLength, IsTooMuchText};
-ghost use Rattle.gcm.specs.Pieces.{IsInText, IsAt, IsOutOfTurn, IsVerifying, IsDecrypting};
+ghost use Rattle.gcm.specs.Pieces.{IsInText, IsAt, IsPhaseRefused, IsVerifying, IsDecrypting};
 ghost use Rattle.gcm.specs.Pieces.{KeepsParts, phase_of};
 ghost use Rattle.gcm.specs.declared.message_state.Phase.{Phase};
 
@@ -41,8 +41,8 @@ impl<'a, C: BlockCipherEncrypt, R: HashRoom> BorrowedGcm<'a, C, R> {
     /// message is then unchanged.
     pub fn verify_piece(&self, message: &mut Message, text: &[u8]) -> Result<(), InvalidPiece>
         ensures out_of_turn { IsErrOf result InvalidPiece.OutOfTurn
-            ↔ IsOutOfTurn Phase.Verifying message.old }
-        ensures refusal { IsErr result ↔ (IsOutOfTurn Phase.Verifying message.old
+            ↔ IsPhaseRefused Phase.Verifying message.old }
+        ensures refusal { IsErr result ↔ (IsPhaseRefused Phase.Verifying message.old
             ⊎ IsTooMuchText (message.old.text + length text.now)) }
         ensures added { OnOk result ((iv a c : List ℕ) → IsVerifying self.now iv a c message.old
             → IsInText Phase.Verifying self.now iv a (c ++ text.now) message.new) }
@@ -63,7 +63,7 @@ impl<'a, C: BlockCipherEncrypt, R: HashRoom> BorrowedGcm<'a, C, R> {
     /// accepted. Else `Refused` exactly if the tag is wrong. The message is then unchanged.
     pub fn accept(&self, message: &mut Message, tag: &Block) -> Result<(), NotAccepted>
         ensures out_of_turn { IsErrOf result NotAccepted.OutOfTurn
-            ↔ IsOutOfTurn Phase.Verifying message.old }
+            ↔ IsPhaseRefused Phase.Verifying message.old }
         ensures accepted { (iv a c : List ℕ) → IsVerifying self.now iv a c message.old
             → IsOk result ↔ (tag.now ≡ nist.tag self.now iv a c) }
         ensures decrypting { OnOk result ((iv a c : List ℕ) → IsVerifying self.now iv a c message.old
@@ -102,7 +102,7 @@ impl<'a, C: BlockCipherEncrypt, R: HashRoom> BorrowedGcm<'a, C, R> {
         tag: &[u8],
     ) -> Result<(), NotAccepted>
         ensures out_of_turn { IsErrOf result NotAccepted.OutOfTurn
-            ↔ IsOutOfTurn Phase.Verifying message.old }
+            ↔ IsPhaseRefused Phase.Verifying message.old }
         ensures accepted { (iv a c : List ℕ) → IsVerifying self.now iv a c message.old
             → IsOk result ↔ (HasFixedLength fixed_length tag.now
             × (tag.now ≡ nist.short_tag (length tag.now) self.now iv a c)) }
@@ -180,8 +180,8 @@ impl<'a, C: BlockCipherEncrypt, R: HashRoom> BorrowedGcm<'a, C, R> {
         text: &mut [u8],
     ) -> Result<(), InvalidPiece>
         ensures out_of_turn { IsErrOf result InvalidPiece.OutOfTurn
-            ↔ IsOutOfTurn Phase.Verifying message.old }
-        ensures refusal { IsErr result ↔ (IsOutOfTurn Phase.Verifying message.old
+            ↔ IsPhaseRefused Phase.Verifying message.old }
+        ensures refusal { IsErr result ↔ (IsPhaseRefused Phase.Verifying message.old
             ⊎ IsTooMuchText (message.old.text + length text.old)) }
         ensures decrypted { OnOk result ((iv a c : List ℕ) → IsVerifying self.now iv a c message.old
             → nist.text self.now iv c ++ text.new ≡ nist.text self.now iv (c ++ text.old)) }

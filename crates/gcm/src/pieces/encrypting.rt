@@ -4,7 +4,7 @@ ghost use Rattle.std.specs.Prelude.{◌≡◌, ◌↔◌, ◌⊎◌, ◌+◌, �
 ghost use Rattle.std.specs.Prelude.{IsErr, IsErrOf, IfOk, OnOk, OnErr};
 ghost use Rattle.gcm.specs.Gcm as nist;
 ghost use Rattle.gcm.specs.Gcm.{IsTooMuchText};
-ghost use Rattle.gcm.specs.Pieces.{IsInText, IsEncrypting, IsOutOfTurn, no_message};
+ghost use Rattle.gcm.specs.Pieces.{IsInText, IsEncrypting, IsPhaseRefused, no_message};
 ghost use Rattle.gcm.specs.declared.message_state.Phase.{Phase};
 
 use super::may_enter;
@@ -26,8 +26,8 @@ impl<'a, C: BlockCipherEncrypt, R: HashRoom> BorrowedGcm<'a, C, R> {
     /// then unchanged.
     pub fn encrypt_piece(&self, message: &mut Message, text: &mut [u8]) -> Result<(), InvalidPiece>
         ensures out_of_turn { IsErrOf result InvalidPiece.OutOfTurn
-            ↔ IsOutOfTurn Phase.Encrypting message.old }
-        ensures refusal { IsErr result ↔ (IsOutOfTurn Phase.Encrypting message.old
+            ↔ IsPhaseRefused Phase.Encrypting message.old }
+        ensures refusal { IsErr result ↔ (IsPhaseRefused Phase.Encrypting message.old
             ⊎ IsTooMuchText (message.old.text + length text.old)) }
         ensures encrypted { OnOk result ((iv a p c : List ℕ)
             → IsEncrypting self.now iv a c message.old
@@ -52,7 +52,7 @@ impl<'a, C: BlockCipherEncrypt, R: HashRoom> BorrowedGcm<'a, C, R> {
     /// message is then unchanged.
     pub fn finish(&self, message: &mut Message) -> Result<Block, OutOfTurn>
         ensures out_of_turn { IsErr result
-            ↔ IsOutOfTurn Phase.Encrypting message.old }
+            ↔ IsPhaseRefused Phase.Encrypting message.old }
         ensures tag { IfOk result (λ tag. (iv a c : List ℕ)
             → IsEncrypting self.now iv a c message.old
             → tag ≡ nist.tag self.now iv a c) }

@@ -7,7 +7,7 @@ ghost use Rattle.gcm.specs.Gcm.{HasFixedLength, IsTextLength};
 ghost use Rattle.gcm.specs.declared.message_state.Phase.{Phase};
 ghost use Rattle.gcm_c.specs.Form.{HoldsKey};
 ghost use Rattle.gcm_c.specs.Kept.{round_keys_in, IsMade};
-ghost use Rattle.gcm.specs.Pieces.{IsInText, IsOutOfTurn, IsTurn, IsVerifying, IsDecrypting};
+ghost use Rattle.gcm.specs.Pieces.{IsInText, IsPhaseRefused, IsPhaseAllowed, IsVerifying, IsDecrypting};
 ghost use Rattle.gcm.specs.Pieces.{phase_of};
 
 use super::status_of;
@@ -33,9 +33,9 @@ pub extern "C" fn fotsgure_gcm_verify(gcm: &Gcm, message: &mut Message, text: &[
     requires made { IsMade gcm.now }
     ensures no_key { result ≡ NO_KEY ↔ ¬ HoldsKey gcm.now.key }
     ensures out_of_turn { result ≡ OUT_OF_TURN ↔ HoldsKey gcm.now.key
-        × IsOutOfTurn Phase.Verifying message.old }
+        × IsPhaseRefused Phase.Verifying message.old }
     ensures done { result ≡ DONE ↔ HoldsKey gcm.now.key
-        × (IsTurn Phase.Verifying message.old
+        × (IsPhaseAllowed Phase.Verifying message.old
         × IsTextLength (message.old.text + length text.now)) }
     ensures refused { result ≢ DONE → result ≢ NO_KEY → result ≢ OUT_OF_TURN → result ≡ TOO_LONG }
     ensures added { let w = round_keys_in gcm.now in
@@ -63,7 +63,7 @@ pub extern "C" fn fotsgure_gcm_accept(gcm: &Gcm, message: &mut Message, tag: &[u
     ensures no_key { result ≡ NO_KEY ↔ (length tag.now ≡ 16) × ¬ HoldsKey gcm.now.key }
     ensures out_of_turn { result ≡ OUT_OF_TURN ↔ (length tag.now ≡ 16)
         × (HoldsKey gcm.now.key
-        × IsOutOfTurn Phase.Verifying message.old) }
+        × IsPhaseRefused Phase.Verifying message.old) }
     ensures accepted { let w = round_keys_in gcm.now in
         length tag.now ≡ 16 → HoldsKey gcm.now.key → (iv a c : List ℕ)
         → IsVerifying w iv a c message.old
@@ -110,7 +110,7 @@ pub extern "C" fn fotsgure_gcm_accept_short(
         × ¬ HoldsKey gcm.now.key }
     ensures out_of_turn { result ≡ OUT_OF_TURN ↔ HasFixedLength fixed_length tag.now
         × (HoldsKey gcm.now.key
-        × IsOutOfTurn Phase.Verifying message.old) }
+        × IsPhaseRefused Phase.Verifying message.old) }
     ensures accepted { let w = round_keys_in gcm.now in
         HasFixedLength fixed_length tag.now → HoldsKey gcm.now.key
         → (iv a c : List ℕ) → IsVerifying w iv a c message.old
@@ -185,9 +185,9 @@ pub extern "C" fn fotsgure_gcm_decrypt_unverified(
     requires made { IsMade gcm.now }
     ensures no_key { result ≡ NO_KEY ↔ ¬ HoldsKey gcm.now.key }
     ensures out_of_turn { result ≡ OUT_OF_TURN ↔ HoldsKey gcm.now.key
-        × IsOutOfTurn Phase.Verifying message.old }
+        × IsPhaseRefused Phase.Verifying message.old }
     ensures done { result ≡ DONE ↔ HoldsKey gcm.now.key
-        × (IsTurn Phase.Verifying message.old
+        × (IsPhaseAllowed Phase.Verifying message.old
         × IsTextLength (message.old.text + length text.old)) }
     ensures refused { result ≢ DONE → result ≢ NO_KEY → result ≢ OUT_OF_TURN → result ≡ TOO_LONG }
     ensures decrypted { let w = round_keys_in gcm.now in

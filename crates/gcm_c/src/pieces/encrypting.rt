@@ -7,7 +7,7 @@ ghost use Rattle.gcm.specs.Gcm.{IsTextLength};
 ghost use Rattle.gcm.specs.declared.message_state.Phase.{Phase};
 ghost use Rattle.gcm_c.specs.Form.{HoldsKey};
 ghost use Rattle.gcm_c.specs.Kept.{round_keys_in, IsMade};
-ghost use Rattle.gcm.specs.Pieces.{IsInText, IsEncrypting, IsOutOfTurn, IsTurn, no_message};
+ghost use Rattle.gcm.specs.Pieces.{IsInText, IsEncrypting, IsPhaseRefused, IsPhaseAllowed, no_message};
 
 use super::status_of;
 use crate::kept::{Gcm, holds_key, mode_of};
@@ -21,9 +21,9 @@ pub extern "C" fn fotsgure_gcm_encrypt(gcm: &Gcm, message: &mut Message, text: &
     requires made { IsMade gcm.now }
     ensures no_key { result ≡ NO_KEY ↔ ¬ HoldsKey gcm.now.key }
     ensures out_of_turn { result ≡ OUT_OF_TURN ↔ HoldsKey gcm.now.key
-        × IsOutOfTurn Phase.Encrypting message.old }
+        × IsPhaseRefused Phase.Encrypting message.old }
     ensures done { result ≡ DONE ↔ HoldsKey gcm.now.key
-        × (IsTurn Phase.Encrypting message.old
+        × (IsPhaseAllowed Phase.Encrypting message.old
         × IsTextLength (message.old.text + length text.old)) }
     ensures refused { result ≢ DONE → result ≢ NO_KEY → result ≢ OUT_OF_TURN → result ≡ TOO_LONG }
     ensures encrypted { let w = round_keys_in gcm.now in
@@ -53,7 +53,7 @@ pub extern "C" fn fotsgure_gcm_finish(gcm: &Gcm, message: &mut Message, tag: &mu
     requires made { IsMade gcm.now }
     ensures no_key { result ≡ NO_KEY ↔ ¬ HoldsKey gcm.now.key }
     ensures out_of_turn { result ≡ OUT_OF_TURN ↔ HoldsKey gcm.now.key
-        × IsOutOfTurn Phase.Encrypting message.old }
+        × IsPhaseRefused Phase.Encrypting message.old }
     ensures refused { result ≢ DONE → result ≢ NO_KEY → result ≡ OUT_OF_TURN }
     ensures tag { let w = round_keys_in gcm.now in
         result ≡ DONE → (iv a c : List ℕ) → IsEncrypting w iv a c message.old

@@ -6,7 +6,7 @@ ghost use Rattle.aes_planes.specs.Bits.{bit};
 // A nibble's bits, each `n` times, lowest first.
 #[tactic(auto, using(crate::proofs::Words::Constants::row_calls))]
 #[inline(always)]
-pub(crate) fn row_of(b: u8, n: u32) -> u32
+pub(crate) fn row_of_nibble(b: u8, n: u32) -> u32
     requires nibble { b ≤ 15 }
     requires some { 1 ≤ n }
     requires few { n ≤ 8 }

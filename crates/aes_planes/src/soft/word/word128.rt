@@ -11,7 +11,7 @@ use super::Word;
 use super::batch::{Batch, Block, Blocks, Blocks8};
 use super::transpose::transpose;
 use super::vector128::{
-    by_columns, by_rows, lane_for_each_bit, lanes_of_block, rotate_right, rows, shift_left,
+    by_columns, by_rows, lane_for_each_bit, lanes_of_block, packed_rows, rotate_right, shift_left,
     shift_right,
 };
 use std::simd::prelude::*;
@@ -95,7 +95,7 @@ impl Word for u128 {
 
     #[inline(always)]
     fn pack_rows(r0: u8, r1: u8, r2: u8, r3: u8) -> u128 {
-        word(rows(r0, r1, r2, r3))
+        word(packed_rows(r0, r1, r2, r3))
     }
 
     #[inline(always)]
@@ -114,7 +114,7 @@ impl Word for u128 {
     }
 
     #[inline(always)]
-    fn bitslice(output: &mut [u128; 8], input: &Blocks8) {
+    fn pack(output: &mut [u128; 8], input: &Blocks8) {
         let rows = [
             by_rows(input.get(0)),
             by_rows(input.get(1)),
@@ -139,7 +139,7 @@ impl Word for u128 {
     }
 
     #[inline(always)]
-    fn inv_bitslice(input: &[u128; 8]) -> Blocks8 {
+    fn unpack(input: &[u128; 8]) -> Blocks8 {
         let [p0, p1, p2, p3, p4, p5, p6, p7] = *input;
         let planes = [
             lanes(p0),

@@ -92,7 +92,7 @@ impl Word for u8x32 {
     #[tactic(auto, using(crate::proofs::Words::Wide::twice_rows))]
     #[inline(always)]
     fn pack_rows(r0: u8, r1: u8, r2: u8, r3: u8) -> u8x32 {
-        vector256::twice(vector128::rows(r0, r1, r2, r3))
+        vector256::twice(vector128::packed_rows(r0, r1, r2, r3))
     }
 
     #[inline(always)]
@@ -106,7 +106,7 @@ impl Word for u8x32 {
     }
 
     #[inline(always)]
-    fn bitslice(output: &mut [u8x32; 8], input: &Blocks16) {
+    fn pack(output: &mut [u8x32; 8], input: &Blocks16) {
         let rows = [
             vector256::by_rows(input.get(0), input.get(8)),
             vector256::by_rows(input.get(1), input.get(9)),
@@ -121,7 +121,7 @@ impl Word for u8x32 {
     }
 
     #[inline(always)]
-    fn inv_bitslice(input: &[u8x32; 8]) -> Blocks16 {
+    fn unpack(input: &[u8x32; 8]) -> Blocks16 {
         let [r0, r1, r2, r3, r4, r5, r6, r7] = transpose(*input);
         Blocks {
             blocks: [

@@ -9,7 +9,7 @@ ghost use Rattle.aes_planes.specs.Words.{word_bits};
 
 use super::Word;
 use super::batch::{Batch, Block, Blocks, Blocks2};
-use super::rows::row_of;
+use super::rows::row_of_nibble;
 use super::transpose::transpose;
 
 #[tactic(auto, using(crate::proofs::Words::Constants::word_calls))]
@@ -70,10 +70,10 @@ impl Word for u32 {
 
     #[inline(always)]
     fn pack_rows(r0: u8, r1: u8, r2: u8, r3: u8) -> u32 {
-        let x0 = row_of(r0, 2);
-        let x1 = row_of(r1, 2);
-        let x2 = row_of(r2, 2);
-        let x3 = row_of(r3, 2);
+        let x0 = row_of_nibble(r0, 2);
+        let x1 = row_of_nibble(r1, 2);
+        let x2 = row_of_nibble(r2, 2);
+        let x3 = row_of_nibble(r3, 2);
         x0 | x1 << 8 | x2 << 16 | x3 << 24
     }
 
@@ -88,7 +88,7 @@ impl Word for u32 {
     }
 
     #[inline(always)]
-    fn bitslice(output: &mut [u32; 8], input: &Blocks2) {
+    fn pack(output: &mut [u32; 8], input: &Blocks2) {
         let b0 = input.get(0);
         let b1 = input.get(1);
         let w0 = column_of(&b0, 0);
@@ -103,7 +103,7 @@ impl Word for u32 {
     }
 
     #[inline(always)]
-    fn inv_bitslice(input: &[u32; 8]) -> Blocks2 {
+    fn unpack(input: &[u32; 8]) -> Blocks2 {
         let [w0, w1, w2, w3, w4, w5, w6, w7] = transpose(*input);
         let b0 = block_of(w0, w2, w4, w6);
         let b1 = block_of(w1, w3, w5, w7);

@@ -11,7 +11,7 @@ ghost use Rattle.aes_planes.specs.Fips197 as fips;
 
 use super::Word;
 use super::batch::{Batch, Block, Blocks, Blocks4};
-use super::rows::row_of;
+use super::rows::row_of_nibble;
 use super::transpose::transpose;
 use std::simd::prelude::*;
 
@@ -73,10 +73,10 @@ impl Word for u64 {
 
     #[inline(always)]
     fn pack_rows(r0: u8, r1: u8, r2: u8, r3: u8) -> u64 {
-        let x0 = row_of(r0, 4) as u64;
-        let x1 = row_of(r1, 4) as u64;
-        let x2 = row_of(r2, 4) as u64;
-        let x3 = row_of(r3, 4) as u64;
+        let x0 = row_of_nibble(r0, 4) as u64;
+        let x1 = row_of_nibble(r1, 4) as u64;
+        let x2 = row_of_nibble(r2, 4) as u64;
+        let x3 = row_of_nibble(r3, 4) as u64;
         x0 | x1 << 16 | x2 << 32 | x3 << 48
     }
 
@@ -96,7 +96,7 @@ impl Word for u64 {
     }
 
     #[inline(always)]
-    fn bitslice(output: &mut [u64; 8], input: &Blocks4) {
+    fn pack(output: &mut [u64; 8], input: &Blocks4) {
         let [even0, odd0] = columns_apart(input.get(0));
         let [even1, odd1] = columns_apart(input.get(1));
         let [even2, odd2] = columns_apart(input.get(2));
@@ -105,7 +105,7 @@ impl Word for u64 {
     }
 
     #[inline(always)]
-    fn inv_bitslice(input: &[u64; 8]) -> Blocks4 {
+    fn unpack(input: &[u64; 8]) -> Blocks4 {
         let [even0, even1, even2, even3, odd0, odd1, odd2, odd3] = transpose(*input);
         let b0 = columns_together(even0, odd0);
         let b1 = columns_together(even1, odd1);

@@ -61,8 +61,8 @@ impl PlaneCipher for Encrypt {
         let periods = (rounds - 2) / period;
         let mut planes = *state;
         add_key(&mut planes, round_keys, 0);
-        'turns: for turn in 0..periods {
-            let done = period * turn;
+        'whole_periods: for past in 0..periods {
+            let done = period * past;
             round::<W, Deferred1>(&mut planes, round_keys, done + 1, layers);
             if period == 4 {
                 round::<W, Deferred2>(&mut planes, round_keys, done + 2, layers);
@@ -116,8 +116,8 @@ impl PlaneCipher for Decrypt {
             inv_shift_rows_2(&mut planes);
         }
         inv_round::<W, Deferred1>(&mut planes, round_keys, odd, layers);
-        'turns: for turn in 0..periods {
-            let number = period * (periods - turn);
+        'whole_periods: for past in 0..periods {
+            let number = period * (periods - past);
             inv_round::<W, Deferred0>(&mut planes, round_keys, number, layers);
             if period == 4 {
                 inv_round::<W, Deferred3>(&mut planes, round_keys, number - 1, layers);
@@ -132,8 +132,8 @@ impl PlaneCipher for Decrypt {
     }
 }
 
-// Processes each block of a batch. Inlined, so that the compiler removes most copies of blocks
-// where there are many blocks.
+// Processes each block of a batch. Inlined: in a loop over many batches the compiler can then
+// remove most copies of blocks.
 #[tactic(auto, using(crate::proofs::Slots::batch_processed))]
 #[inline(always)]
 pub(crate) fn process<W: Word, L: Layout, D: PlaneCipher>(
@@ -155,9 +155,9 @@ pub(crate) fn process<W: Word, L: Layout, D: PlaneCipher>(
     ensures layers { layers.new ≡ layers.old + rounds }
 {
     let mut state = [W::zero(); 8];
-    W::bitslice(&mut state, input);
+    W::pack(&mut state, input);
     D::process_planes::<W, L>(round_keys, rounds, &mut state, layers);
-    W::inv_bitslice(&state)
+    W::unpack(&state)
 }
 
 // Processes each block of a batch in a call that is not inlined. This is quicker for a single block

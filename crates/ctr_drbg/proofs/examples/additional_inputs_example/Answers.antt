@@ -3,7 +3,7 @@
 use Rattle.std.proofs.Common.{◌≡◌, ℕ, List, ◌∙◌, ap, take}
 use Rattle.aes_planes.specs.BigEndian.{bytes}
 use Rattle.aes_planes.specs.Fips197.{build, build_from}
-use Rattle.ctr_drbg.specs.CtrDrbg.{State, seed_padded, exclusive_or, v_plus_one, v_after, temp_after, turns}
+use Rattle.ctr_drbg.specs.CtrDrbg.{State, seed_padded, exclusive_or, v_plus_one, v_after, temp_after, blocks_for}
 use Rattle.ctr_drbg.specs.CtrDrbg.{output, update, prepared, returned_bits, generate}
 use Rattle.ctr_drbg.proofs.OnLiterals.{updated_by}
 use Rattle.ctr_drbg.proofs.examples.additional_inputs_example.Goals as goal
@@ -54,7 +54,7 @@ second_prepared = record {
 }
 
 pub returns-clause-first : goal.returns-clause-first
-unfolding bytes build build_from seed_padded exclusive_or v_plus_one v_after turns prepared generate
+unfolding bytes build build_from seed_padded exclusive_or v_plus_one v_after blocks_for prepared generate
 returns-clause-first c =
     let known = c.encrypted_with_inputs.ensures in
     let count : State → State = λ s. record s { reseed_counter = 2 } in
@@ -70,7 +70,7 @@ returns-clause-first c =
     1 known.updated_one known.updated_two known.updated_three)
 
 pub returns-clause-second : goal.returns-clause-second
-unfolding bytes build build_from seed_padded exclusive_or v_plus_one v_after temp_after turns output prepared returned_bits
+unfolding bytes build build_from seed_padded exclusive_or v_plus_one v_after temp_after blocks_for output prepared returned_bits
 returns-clause-second c =
     let known = c.encrypted_with_inputs.ensures in
     let before : prepared second_input before_second ≡ second_prepared =

@@ -2,7 +2,7 @@
 use Rattle.std.proofs.Common.{ap, take, replicate}
 use Rattle.aes_planes.specs.BigEndian.{bytes}
 use Rattle.aes_planes.specs.Fips197.{build, build_from}
-use Rattle.ctr_drbg.specs.CtrDrbg.{State, seed_padded, exclusive_or, v_plus_one, v_after, temp_after, turns}
+use Rattle.ctr_drbg.specs.CtrDrbg.{State, seed_padded, exclusive_or, v_plus_one, v_after, temp_after, blocks_for}
 use Rattle.ctr_drbg.specs.CtrDrbg.{output, instantiate, prepared, returned_bits, generate}
 use Rattle.ctr_drbg.proofs.OnLiterals.{updated_by}
 use Rattle.ctr_drbg.proofs.examples.two_requests_example.Goals as goal
@@ -17,7 +17,7 @@ returns-clause-seeded c =
     (bytes 16 0x726003ca37a62a74d1a2f58e7506358e) 1 known.one known.two known.three
 
 pub returns-clause-first : goal.returns-clause-first
-unfolding bytes build build_from seed_padded exclusive_or v_plus_one v_after turns prepared generate
+unfolding bytes build build_from seed_padded exclusive_or v_plus_one v_after blocks_for prepared generate
 returns-clause-first c =
     let known = c.encrypted_blocks.ensures in
     let count : State → State = λ s. record s { reseed_counter = 2 } in
@@ -28,9 +28,9 @@ returns-clause-first c =
     (bytes 16 0xe86f6d07dfb551cebad80e6bf6830ac4) 1 known.five known.six known.seven)
 
 pub returns-clause-second : goal.returns-clause-second
-unfolding bytes v_plus_one v_after temp_after turns output prepared returned_bits
+unfolding bytes v_plus_one v_after temp_after blocks_for output prepared returned_bits
 returns-clause-second c = ap (take 16) c.encrypted_blocks.ensures.first
 
 pub returns-clause-short : goal.returns-clause-short
-unfolding bytes v_plus_one v_after temp_after turns output prepared returned_bits
+unfolding bytes v_plus_one v_after temp_after blocks_for output prepared returned_bits
 returns-clause-short c = ap (take 5) c.encrypted_blocks.ensures.first

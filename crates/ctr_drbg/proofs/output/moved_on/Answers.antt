@@ -1,11 +1,11 @@
 -- V plus a number of blocks is V after as many turns, also where it wraps.
 use Rattle.std.proofs.Common.{◌≡◌, ◌∙◌, ◌+◌, ◌/◌, ap, arith}
-use Rattle.ctr_drbg.specs.CtrDrbg.{v_after, turns}
+use Rattle.ctr_drbg.specs.CtrDrbg.{v_after, blocks_for}
 use Rattle.ctr_drbg.proofs.Keystream.{v_after_any}
 use Rattle.ctr_drbg.proofs.output.moved_on.Goals as goal
 
 pub returns : goal.returns
-unfolding turns
+unfolding blocks_for
 returns c =
     let v = c.args.v.now in
     let number = c.number_of_block.ensures in

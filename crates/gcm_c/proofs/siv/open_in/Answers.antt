@@ -12,11 +12,11 @@ unfolding tag text
 returns-clause-accepted g c =
     let h : ℕ = from_le_bytes w128
     (authentication_key (key_in c.args.siv.now) c.args.nonce.now) in
-    let right = c.open-is_right.ensures.accepted h c.prepare.ensures.small
-    (ap g.R.ProductRoom.subkey c.value-2.ensures ∙ c.prepare.ensures.authentication) in
+    let right = c.open-is_right.ensures.accepted h c.derive_and_prepare.ensures.small
+    (ap g.R.ProductRoom.subkey c.value-2.ensures ∙ c.derive_and_prepare.ensures.authentication) in
     let same = ap (λ k. tag_under (key_expansion k) h c.args.nonce.now c.args.additional.now
     (text_under (key_expansion k) c.args.tag.now c.args.text.now))
-    (c.cipher_of.ensures.key ∙ ap key_in c.value.ensures ∙ c.prepare.ensures.encryption) in
+    (c.cipher_of.ensures.key ∙ ap key_in c.value.ensures ∙ c.derive_and_prepare.ensures.encryption) in
     (λ e. right.0 e ∙ same, λ is. right.1 (is ∙ sym same))
 
 pub returns-clause-decrypted : goal.returns-clause-decrypted
@@ -24,4 +24,4 @@ unfolding text
 returns-clause-decrypted g c = λ yes.
     c.open-is_right.ensures.decrypted yes
     ∙ ap (λ k. text_under (key_expansion k) c.args.tag.now c.args.text.now)
-    (c.cipher_of.ensures.key ∙ ap key_in c.value.ensures ∙ c.prepare.ensures.encryption)
+    (c.cipher_of.ensures.key ∙ ap key_in c.value.ensures ∙ c.derive_and_prepare.ensures.encryption)

@@ -11,8 +11,8 @@ use Rattle.aes_permute.proofs.rounds.DecryptLaneRounds.round.Goals as goal
 
 pub returns : goal.returns
 returns g c i =
-    let f = c.places_of-at.ensures.first i in
-    let s = c.places_of-at.ensures.second i in
+    let f = c.indices_of-at.ensures.first i in
+    let s = c.indices_of-at.ensures.second i in
     ap (map inv_untower) (summed (c.sum.ensures i) (summed (c.sum-most.ensures i)
     (summed (c.sum-with_key.ensures i) (c.permuted-first.ensures i) refl)
     (summed (c.sum-last_two.ensures i) (c.permuted-third.ensures i) (c.permuted-fourth.ensures i)))

@@ -14,6 +14,6 @@ returns g c i =
     ∙ deferred_last_is c.args.number (g.L.Lanes.block c.args.x i) (g.L.Lanes.block c.args.key i)
     c.requires (c.blocks_have_16_bytes.ensures i)
     (c.blocks_have_16_bytes-2.ensures i).0
-    (through_lanes SBOX_FIRST SBOX_SECOND _ (c.places_of.ensures.first i)
-    (c.places_of.ensures.second i)
+    (through_lanes SBOX_FIRST SBOX_SECOND _ (c.indices_of.ensures.first i)
+    (c.indices_of.ensures.second i)
     (c.looked_up-one.ensures i))

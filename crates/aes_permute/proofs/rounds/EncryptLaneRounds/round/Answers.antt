@@ -20,8 +20,8 @@ permuted-fourth-requires g c = record { are_indices = before_indices c.args.numb
 
 pub returns : goal.returns
 returns g c i =
-    let f = c.places_of-at.ensures.first i in
-    let s = c.places_of-at.ensures.second i in
+    let f = c.indices_of-at.ensures.first i in
+    let s = c.indices_of-at.ensures.second i in
     ap (λ v. shift_times (c.args.number % 4) (map untower v))
     (summed (c.sum.ensures i) (summed (c.sum-most.ensures i)
     (summed (c.sum-with_key.ensures i) (c.permuted-fourth.ensures i) refl) refl)

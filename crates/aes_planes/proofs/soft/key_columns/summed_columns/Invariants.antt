@@ -10,6 +10,6 @@ invariant-planes g l = record {
       ≡ summed xor (λ e. at (g.W.Word.bits (slice_index_or l.before m d))
       (place g.W.Word.BLOCKS r e k)) (at
       (g.W.Word.bits (slice_index_or l.start m d))
-      ((place g.W.Word.BLOCKS r 0 k + l.idx_ror) % g.W.Word.BITS)) c;
+      ((place g.W.Word.BLOCKS r 0 k + l.rotation) % g.W.Word.BITS)) c;
   same_length : length l.sums ≡ 8;
 }

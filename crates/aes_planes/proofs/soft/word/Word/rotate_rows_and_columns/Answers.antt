@@ -5,7 +5,7 @@ use Rattle.std.proofs.lemmas.Bool.{cases_lt}
 use Rattle.aes_planes.specs.Bits.{at}
 use Rattle.aes_planes.specs.Planes.{place}
 use Rattle.aes_planes.proofs.Planes.Held.{place_lt, column_of}
-use Rattle.aes_planes.proofs.Mixing.Turns.{turned_place, wrapped_place, stay_bit, masked_turn}
+use Rattle.aes_planes.proofs.Mixing.Rotations.{rotated_place, wrapped_place, stay_bit, masked_rotation}
 use Rattle.aes_planes.proofs.soft.word.Word.rotate_rows_and_columns.Goals as goal
 
 pub returns-then-cols-eq0 : goal.returns-then-cols-eq0
@@ -17,7 +17,7 @@ returns-then-cols-eq0 g c = λ r q k h l kn.
     let p = place n r q k in
     let low : p < B = omega (arith, laws.sixteen, place_lt n r q k h l kn) in
     c.ror.ensures p low ∙ (λ t. at x ((p + c.ror_distance.ensures t) % B))
-    ∙ ap (at x) (turned_place laws r q k c.args.rows 0 h (omega arith) kn c.requires.four_rows)
+    ∙ ap (at x) (rotated_place laws r q k c.args.rows 0 h (omega arith) kn c.requires.four_rows)
     ∙ ap (λ v. at x (place n ((r + c.args.rows) % 4) ((q + v) % 4) k)) (sym c.if-cols-eq0.true)
 
 pub returns : goal.returns
@@ -38,9 +38,9 @@ returns g c = λ r q k h l kn.
       c.uniform_row-stays.ensures p low,
       column_of n _ _ r q k laws.four laws.one h l kn,
     )
-    (masked_turn _ _ _ _ (q + cols) (stay_bit cols q c.requires.four_columns l)
+    (masked_rotation _ _ _ _ (q + cols) (stay_bit cols q c.requires.four_columns l)
     (λ lt. c.ror-ahead.ensures p low ∙ (λ t. at x ((p + c.ror_distance-2.ensures t) % B))
-    ∙ ap (at x) (turned_place laws r q k rows cols h lt kn c.requires.four_rows))
+    ∙ ap (at x) (rotated_place laws r q k rows cols h lt kn c.requires.four_rows))
     (λ le. c.ror-wrapped.ensures p low ∙ (λ t. at x ((p + c.ror_distance-3.ensures t) % B))
     ∙ ap (at x) (wrapped_place laws r q k rows cols h l le kn c.requires.some_rows
     c.requires.four_rows

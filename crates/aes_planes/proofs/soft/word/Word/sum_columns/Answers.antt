@@ -17,14 +17,14 @@ returns g c = λ r q k h l kn.
     λ q l. omega (arith, laws.sixteen, place_lt n r q k h l kn) in
     let col : (q : ℕ) → q < 4 → at q % w.ROW_BITS / w.QUARTER_ROW ≡ q =
     λ q l. column_of n _ _ r q k laws.four laws.one h l kn in
-    columns_right n w.BITS c.args.idx_ror r k (w.bits c.args.self) (w.bits c.args.start)
+    columns_right n w.BITS c.args.rotation r k (w.bits c.args.self) (w.bits c.args.start)
     (w.bits c.bit_xor-first.result)
     (w.bits c.bit_xor-pairs.result) (w.bits c.bit_xor.result)
     (λ q l. rw (
       c.bit_xor-first.ensures (at q) (low q l),
       c.bit_and-first_column.ensures (at q) (low q l),
       c.uniform_row-column0.ensures (at q) (low q l),
-      c.ror-turned.ensures (at q) (low q l),
+      c.ror-rotated.ensures (at q) (low q l),
       col q l,
     ) refl)
     (λ q l. rw (

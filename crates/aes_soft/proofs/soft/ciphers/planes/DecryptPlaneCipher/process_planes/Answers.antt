@@ -3,7 +3,7 @@
 use Rattle.std.proofs.Common.{◌≡◌, ℕ, ◌+◌, ◌-◌, ◌*◌, ◌/◌, map, refl, ap, subst, ◌∙◌, arith}
 use Rattle.aes_planes.specs.Fips197.{inv_shift_times}
 use Rattle.aes_planes.specs.Planes.{held}
-use Rattle.aes_soft.proofs.Rounds.{Run, turn_of, turns_of, ReachedBack, inv_started, inv_shifted}
+use Rattle.aes_soft.proofs.Rounds.{Run, period_of, periods_of, ReachedBack, inv_started, inv_shifted}
 use Rattle.aes_soft.proofs.Rounds.{inv_round, two_rounds_back, inv_ended}
 use Rattle.aes_soft.proofs.soft.ciphers.planes.DecryptPlaneCipher.process_planes.Given.{Over}
 use Rattle.aes_soft.proofs.soft.ciphers.planes.DecryptPlaneCipher.process_planes.Goals.{After-add_key}
@@ -28,16 +28,16 @@ call g c = record {
   is_keyed = c.requires.is_schedule;
 }
 
-pub turns-init : goal.turns-init
+pub whole_periods-init : goal.whole_periods-init
 unfolding inv_shift_times
-turns-init g c =
+whole_periods-init g c =
     let rounds = c.args.rounds in
     let q = c.PERIOD-period.result in
     let periods : ℕ = (rounds - 2) / q in
     let odd : ℕ = q * periods + 1 in
     let m : ℕ = rounds - 1 - odd in
-    let run = call g (goal.at.turns-init g c).After-add_key in
-    let turns = turns_of rounds c.requires.ten_at_least c.requires.even _ q c.PERIOD-period.ensures
+    let run = call g (goal.at.whole_periods-init g c).After-add_key in
+    let whole = periods_of rounds c.requires.ten_at_least c.requires.even _ q c.PERIOD-period.ensures
     g.L.Layout.two_or_four in
     let all : periods - 0 ≡ periods = omega arith in
     let left : q * (periods - 0) ≡ q * periods = ap (λ v. q * v) all in
@@ -46,11 +46,11 @@ turns-init g c =
     elim c.if-odd-rounds.branch [
       | then-odd-rounds t ↦
           let more = t.if-odd-rounds.true in
-          let ends = turns.all (omega (arith, more)) in
+          let ends = whole.all (omega (arith, more)) in
           ap (λ v. held g.W.Word.BLOCKS (map g.W.Word.bits v)) t.planes-is
           ∙ two_rounds_back run _ _ _ 0 m (rounds - 1) (rounds - 2) (omega (arith, ends))
-          (turns.three (omega (arith, more)))
-          (omega (arith, ends, turns.two (omega (arith, more))))
+          (whole.three (omega (arith, more)))
+          (omega (arith, ends, whole.two (omega (arith, more))))
           start t.inv_round.ensures.blocks t.inv_round-then-odd-rounds.ensures.blocks
       | else-odd-rounds t ↦
           let none : 0 ≡ m = omega (arith, t.if-odd-rounds.false) in
@@ -62,68 +62,68 @@ turns-init g c =
     record {
       blocks =
           inv_round run 2 _ _ m (rounds - 1 - q * (periods - 0)) odd
-          (omega (arith, turns.room, turns.one, left)) two
+          (omega (arith, whole.room, whole.one, left)) two
           c.inv_round-2.ensures.blocks;
       layers = elim c.if-odd-rounds.branch [
-        | then-odd-rounds t ↦ omega (arith, left, turns.all (omega (arith, t.if-odd-rounds.true)))
-        | else-odd-rounds t ↦ omega (arith, left, turns.room, t.if-odd-rounds.false)
+        | then-odd-rounds t ↦ omega (arith, left, whole.all (omega (arith, t.if-odd-rounds.true)))
+        | else-odd-rounds t ↦ omega (arith, left, whole.room, t.if-odd-rounds.false)
       ];
     }
 
-pub turns-preserved : goal.turns-preserved
+pub whole_periods-preserved : goal.whole_periods-preserved
 unfolding inv_shift_times
-turns-preserved g c =
+whole_periods-preserved g c =
     let rounds = c.args.rounds in
     let q = c.PERIOD-period.result in
-    let left : ℕ = (rounds - 2) / q - (c.turns.turn + 1) in
-    let i : ℕ = q * ((rounds - 2) / q - c.turns.turn) in
+    let left : ℕ = (rounds - 2) / q - (c.whole_periods.past + 1) in
+    let i : ℕ = q * ((rounds - 2) / q - c.whole_periods.past) in
     let m : ℕ = rounds - 1 - i in
     let end : ℕ = m + q - 1 in
-    let run = call g (goal.at.turns-preserved g c).After-add_key in
-    let turn = turn_of left rounds _ q c.PERIOD-period.ensures g.L.Layout.two_or_four
-    (omega (arith, c.turns-test.true)) in
-    let same : (rounds - 2) / q - c.turns.turn ≡ left + 1 = omega (arith, c.turns-test.true) in
-    let at : i ≡ q * left + q = ap (λ v. q * v) same ∙ turn.next in
+    let run = call g (goal.at.whole_periods-preserved g c).After-add_key in
+    let period = period_of left rounds _ q c.PERIOD-period.ensures g.L.Layout.two_or_four
+    (omega (arith, c.whole_periods-test.true)) in
+    let same : (rounds - 2) / q - c.whole_periods.past ≡ left + 1 = omega (arith, c.whole_periods-test.true) in
+    let at : i ≡ q * left + q = ap (λ v. q * v) same ∙ period.next in
     let one = inv_round run 1 _ _ m (m + 1) i
-    (omega (arith, at, turn.room, turn.least, turn.ended i at))
-    c.turns.invariant.blocks c.inv_round-in-turns.ensures.blocks in
+    (omega (arith, at, period.room, period.least, period.ended i at))
+    c.whole_periods.invariant.blocks c.inv_round-in-whole_periods.ensures.blocks in
     let two : ReachedBack run (map g.W.Word.bits c.if-period-eq4.planes) 2 end =
     elim c.if-period-eq4.branch [
       | then-period-eq4 t ↦
           let four = t.if-period-eq4.true in
           ap (λ v. held g.W.Word.BLOCKS (map g.W.Word.bits v)) t.planes-is
           ∙ two_rounds_back run _ _ _ (m + 1) end (i - 1) (i - 2) (omega (arith, four, at))
-          (turn.own 3 (i - 1) (omega (arith, four)) (omega (arith, at, four)))
+          (period.own 3 (i - 1) (omega (arith, four)) (omega (arith, at, four)))
           (omega (
             arith,
             four,
             at,
-            turn.room,
-            turn.own 2 (i - 2) (omega (arith, four)) (omega (arith, at, four)),
+            period.room,
+            period.own 2 (i - 2) (omega (arith, four)) (omega (arith, at, four)),
           ))
           one t.inv_round-then-period-eq4.ensures.blocks
           t.inv_round-then-period-eq4-2.ensures.blocks
       | else-period-eq4 t ↦
           let next : m + 1 ≡ end =
-          omega (arith, t.if-period-eq4.false, turn.least, turn.even, turn.most) in
+          omega (arith, t.if-period-eq4.false, period.least, period.even, period.most) in
           ap (λ v. held g.W.Word.BLOCKS (map g.W.Word.bits v)) t.planes-is
           ∙ inv_shifted run _ _ end
-          (subst (ReachedBack run (map g.W.Word.bits c.inv_round-in-turns.new.state) 0) next one)
+          (subst (ReachedBack run (map g.W.Word.bits c.inv_round-in-whole_periods.new.state) 0) next one)
           t.inv_shift_rows_2-else-period-eq4.ensures
     ] in
     record {
       blocks = inv_round run 2 _ _ end (rounds - 1 - q * left) (i + 1 - q) (omega (
         arith,
         at,
-        turn.room,
-        turn.least,
-        turn.own 1 (i + 1 - q) (omega (arith, turn.least)) (omega (arith, at)),
+        period.room,
+        period.least,
+        period.own 1 (i + 1 - q) (omega (arith, period.least)) (omega (arith, at)),
       )) two
-          c.inv_round-in-turns-2.ensures.blocks;
+          c.inv_round-in-whole_periods-2.ensures.blocks;
       layers = elim c.if-period-eq4.branch [
-        | then-period-eq4 t ↦ omega (arith, at, turn.room, t.if-period-eq4.true)
+        | then-period-eq4 t ↦ omega (arith, at, period.room, t.if-period-eq4.true)
         | else-period-eq4 t ↦
-            omega (arith, at, turn.room, t.if-period-eq4.false, turn.least, turn.even, turn.most)
+            omega (arith, at, period.room, t.if-period-eq4.false, period.least, period.even, period.most)
       ];
     }
 
@@ -131,9 +131,9 @@ pub returns-clause-blocks : goal.returns-clause-blocks
 unfolding inv_shift_times
 returns-clause-blocks g c =
     let q = c.PERIOD-period.result in
-    let left : ℕ = (c.args.rounds - 2) / q - c.turns.turn in
+    let left : ℕ = (c.args.rounds - 2) / q - c.whole_periods.past in
     let done : left ≡ 0 = omega arith in
     let none : q * left ≡ q * 0 = ap (λ v. q * v) done in
     inv_ended (call g (goal.at.returns-clause-blocks g c).After-add_key) _ _
     (c.args.rounds - 1 - q * left)
-    (omega (arith, none)) c.turns.invariant.blocks c.add_key-2.ensures
+    (omega (arith, none)) c.whole_periods.invariant.blocks c.add_key-2.ensures

@@ -4,9 +4,9 @@ use Rattle.aes_planes.specs.Planes.{held}
 use Rattle.aes_soft.specs.Stored.{deferred, key_of, key_size}
 use Rattle.aes_soft.proofs.soft.ciphers.planes.DecryptPlaneCipher.process_planes.Given as goal
 
-abbrev pub invariant-turns : goal.invariant-turns
-invariant-turns g l =
-    let left = l.period * (l.periods - l.turn) in
+abbrev pub invariant-whole_periods : goal.invariant-whole_periods
+invariant-whole_periods g l =
+    let left = l.period * (l.periods - l.past) in
     record {
       blocks : held g.W.Word.BLOCKS (map g.W.Word.bits l.planes)
           ≡ map (λ b. inv_shift_times 1
