@@ -34,9 +34,15 @@ has_header() { echo "#include <$2>" | $1 -E - > /dev/null 2>&1 || skipped "$3" "
 skipped() { echo "skipped: $1 ($2 is not installed${3:+: apt-get install $3})" | tee -a "$work/parts" && return 1; }
 try_by() { ! has "$1" "$2" || try "${@:2}"; } # PROGRAMS WHAT COMMAND ..
 end() {
+    # A host may keep only the end of what is printed, so that has what failed.
+    [[ ! -s $work/failures ]] || { echo '== what failed' && cat "$work/failures"; }
     echo "$passed passed, $failed failed"
     [[ $failed -eq 0 ]]
     exit
+}
+# Prints the lines of a part that say what failed: these have a word in capitals, or are its last ones.
+what_failed() { # HOW MANY
+    { grep -aE 'NOT |FAILED|MISSED' "$work/part" || true; tail -n $(($1 + 1)) "$work/part"; } | awk '!seen[$0]++'
 }
 # Runs a part, and adds what its last line says. A part that ends in another way has failed, whatever it said.
 part() { # COMMAND ..
@@ -46,8 +52,9 @@ part() { # COMMAND ..
     cat "$work/part" >> "$work/parts"
     if [[ $(tail -n 1 "$work/part") =~ ^([0-9]+)\ (passed|proved|refused),\ ([0-9]+)\ (failed|missed)$ ]]; then
         passed=$((passed + BASH_REMATCH[1])) failed=$((failed + BASH_REMATCH[3]))
+        [[ ${BASH_REMATCH[3]} -eq 0 ]] || what_failed "${BASH_REMATCH[3]}" >> "$work/failures"
         [[ $status -eq 0 || ${BASH_REMATCH[3]} -gt 0 ]] && return
     fi
-    echo "failed: $* ended with status $status, and not with a line 'N passed, M failed' that says why"
+    echo "failed: $* ended with status $status, and not with a line 'N passed, M failed' that says why" | tee -a "$work/failures"
     failed=$((failed + 1))
 }
