@@ -3,6 +3,7 @@ has its own process. Run it as `make prove` in dist. The README says what it sho
 import argparse
 import itertools
 import os
+import pickle
 import re
 import shutil
 import sys
@@ -21,6 +22,7 @@ from tasks import compare_forms, pool_of, run_all
 
 KEY_SIZES = 16, 32, 24
 LEVELS = "", "builds", "all"  # values of PROVE: which builds and which lengths are proved (cases.py)
+COVERED = "covered.pickle"  # what the cases of a run covered, for --again
 # Exports that need no key, which are only proved once.
 KEYLESS = r"fotsgure_\w+_(?:version|wipe|wipe_message|(?:equiv_inv_)?cipher_round(?:_par)?|(?:inv_)?mix_columns)"
 
@@ -114,6 +116,7 @@ def options_of(description, level=os.environ.get("PROVE", "")):
     parser.add_argument("--keys", type=lambda s: [int(n) for n in s.split(",")], default=KEY_SIZES)
     parser.add_argument("--only", default="", help="calls, or faults, that have this in their name")
     parser.add_argument("--record", action="store_true", help="with the level builds: writes what stays uncovered into uncovered.tsv")
+    parser.add_argument("--again", action="store_true", help="judges, or records, what the last run below --out covered, and proves nothing")
     parser.add_argument("--lines", action="store_true", help="a line for each case")
     parser.add_argument("--jobs", type=int, default=os.cpu_count())
     options = parser.parse_args()
@@ -168,9 +171,19 @@ def say_cases(cases):
     return len(cases) - wrong, wrong
 
 
+def judge_again(options):
+    """Judges what the last run covered, without proving it again. Gives whether anything isn't as recorded."""
+    with open(os.path.join(options.out, COVERED), "rb") as file:
+        faults = say_what_ran(pickle.load(file), options)
+    print("%d faults" % faults)
+    return faults != 0
+
+
 def main():
     """Proves all cases, prints the results, and gives whether anything failed."""
     options = options_of(__doc__)
+    if options.again:
+        return judge_again(options)
     start, tasks = time.time(), []
     vectors = pinned(Domain())
     all_built = libraries_of(options)
@@ -184,6 +197,8 @@ def main():
             proved, failed, vectors = proved + task.proved, failed + task.failed, vectors + task.vectors
             tasks.append(task)
         forms, lacking, differed = compare_forms(pool, tasks)
+    with open(os.path.join(options.out, COVERED), "wb") as file:
+        pickle.dump(tasks, file)
     alike, unlike = say_cases(kept_cases(tasks))
     proved, failed = proved + alike, failed + unlike + differed + say_what_ran(tasks, options)
     print("%d forms of instructions; not confirmed by the processor: %s" % (
