@@ -10,8 +10,8 @@ import subprocess
 import sys
 import time
 
-import crates
-from crates import CACHE, TOP
+from tools import crates
+from tools.crates import CACHE, TOP
 
 RIGHT, WRONG, BLIND, STOPPED, PARTIAL = range(5)
 MEASUREMENTS = TOP / "docs" / "MEASUREMENTS.md"

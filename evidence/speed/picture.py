@@ -3,9 +3,9 @@ The colours follow the reader's theme. A time is a length, of at most 1, and the
 from html import escape
 from pathlib import Path
 
-import shared
-import tables
-from page_parts.reports import Report
+from evidence import shared
+from evidence.speed import tables
+from tools.page_parts.reports import Report
 
 HERE = Path(__file__).resolve().parent
 # The panels: the call of each, and its number of blocks.

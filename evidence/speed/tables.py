@@ -3,7 +3,7 @@ import csv
 import re
 import subprocess
 
-import shared
+from evidence import shared
 
 # The peers: the package of each, and the flags to link it. Its file is compiled with those that begin with -I.
 PEERS = {

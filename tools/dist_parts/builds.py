@@ -5,8 +5,8 @@ import re
 import shutil
 import sys
 
-import toolchain
-from crates import TOP, run, sum_of
+from tools import toolchain
+from tools.crates import TOP, run, sum_of
 
 from . import targets
 from .headers import Header

@@ -4,7 +4,7 @@ evidence/WRONG_BODIES.md says what counts. A refusal for an unknown reason doesn
 """
 import re
 
-from crates import TOP
+from tools.crates import TOP
 
 # How the gate says that it found nothing but missing names, and what the prover says of one.
 NAME_ALONE = "only because a proof file names what the edit took away"

@@ -2,7 +2,7 @@
 0 to 17 blocks: two batches of eight and a tail, and every length below."""
 import itertools
 
-from exports.expand import TABLES, rows
+from evidence.exports.expand import TABLES, rows
 
 SIZES, DIRECTIONS = TABLES["SIZE"], TABLES["DIRECTION"]
 CRATES, MODES, WRAPS, ANSWERS = ([row[it] for row in TABLES[it]] for it in ("CRATE", "MODE", "WRAP", "ANSWER"))
