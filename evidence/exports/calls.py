@@ -69,11 +69,11 @@ class Calls:
         self.body.append("    { " + " ".join(lines) + " }")
 
     def schedules(self):
-        """Schedules and ciphers of both layouts on every word, and widened round keys."""
+        """Schedules and ciphers of the full layout on every word, and widened round keys."""
         for size, word in itertools.product(SIZES, TABLES["WORD"]):
             given = ("u32", word["NUMBER"]), ("s", size["KEY"]), *(blocks(kind, word["BLOCKS"]) for kind in "soo")
-            for layout in ("full", "compact", *(["widened"] if word in TABLES["WIDE"] else [])):
-                self.call(f"ev_{layout}_{size['SIZE']}", *given, label=word["WORD"])
+            for of in ("full", *(["widened"] if word in TABLES["WIDE"] else [])):
+                self.call(f"ev_{of}_{size['SIZE']}", *given, label=word["WORD"])
 
     def types(self):
         """The nine types of each crate."""

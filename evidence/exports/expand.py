@@ -27,7 +27,6 @@ TABLES = {
                   ("dec", "Decrypt", "Dec", "${FORM_DEC}")),
     # How many blocks the planes of a word hold.
     "WORD": table("WORD NUMBER BLOCKS", ("u16", 0, 1), ("u32", 1, 2), ("u64", 2, 4), ("u128", 3, 8)),
-    "LAYOUT": table("LAYOUT", ["full"], ["compact"]),
     # The modes that make a tag, those that have a type with one call for a whole message, and what is unwrapped again.
     "MODE": table("MODE", ["ccm"], ["cmac"], ["gcm"], ["gcm_siv"], ["pieces"]),
     "WHOLE": table("MODE TYPE", ("gcm", "Gcm"), ("gcm_siv", "GcmSiv")),
