@@ -1,5 +1,5 @@
-"""Makes calls.h: a C function that makes each call once, on secret keys, round keys, blocks and data (README.md). A slice has
-0 to 17 blocks: two batches of eight and a tail, and every length below."""
+"""Makes calls.h: a C function that makes each call once, on secret keys, round keys, blocks and data (README.md). A slice has 0 to 17
+blocks: two batches of eight and a tail, and every length below."""
 import itertools
 
 from evidence.exports.expand import TABLES, rows

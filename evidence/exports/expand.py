@@ -32,8 +32,8 @@ TABLES = {
     "WHOLE": table("MODE TYPE", ("gcm", "Gcm"), ("gcm_siv", "GcmSiv")),
     "WRAP": table("WRAP GIVEN", ("wrap", "wrapped"), ("wrap_padded", "cut(wrapped)")),
     "ANSWER": table("ANSWER CHANGE RIGHT", ("opened", 0, "true"), ("refused", 1, "false")),
-    # Calls after which the stack is searched: what they use and how that ends, for those that are alike; then all, with the forms that
-    # they are over, and the blocks or bytes that they are given.
+    # Calls after which the stack is searched: what they use and how that ends, for those that are alike; then all, with the forms that they
+    # are over, and the blocks or bytes that they are given.
     "USED": table("USED GIVEN CALL", ("value", "block: &mut Block", "encrypt_block(block)"),
                   ("slice", "blocks: &mut [Block]", "encrypt_blocks(blocks)")),
     "ENDED": table("ENDED MUT WIPE", ("dropped", "", ""), ("zeroized", "mut ", "cipher.zeroize();")),

@@ -1,5 +1,5 @@
-"""Draws the picture of a run, as SVG: bars of time, one row per engine, in groups by the kind of software.
-The colours follow the reader's theme. A time is a length, of at most 1, and the text beside it."""
+"""Draws the picture of a run, as SVG: bars of time, one row per engine, in groups by the kind of software. The colours follow the reader's
+theme. A time is a length, of at most 1, and the text beside it."""
 from html import escape
 from pathlib import Path
 
@@ -40,8 +40,8 @@ def row(name, kind, times, y):
 
 
 def times_of(rows):
-    """The least nanoseconds a block of each engine, in each panel: {(kind, peer, how): times}. This library's are of
-    the process that also has its build for AVX2."""
+    """The least nanoseconds a block of each engine, in each panel: {(kind, peer, how): times}. This library's are of the process that also
+    has its build for AVX2."""
     times = {}
     for r in rows:
         call = r["call"], r["amount"]
