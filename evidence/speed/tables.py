@@ -24,8 +24,8 @@ OURS, FOR_AVX2, BOTH_KEYS = "this library", "for AVX2", "both keys"
 # The tables of docs/MEASUREMENTS.md, by a word of their heading: the columns beside this library, and the rows. A row has a call, its
 # amount, and the number of blocks by which its time is divided.
 BLOCKS = {"a key, for both directions": (BOTH_KEYS, 1, 1)}
-BLOCKS |= {f"{n:,} block{'s' * (n > 1)} {direction}ed": (direction, n, 1)
-           for n in (1, 2, 8, 64, 4096) for direction in ("encrypt", "decrypt")}
+DIRECTIONS, COUNTS = ("encrypt", "decrypt"), (1, 2, 8, 64, 4096)
+BLOCKS |= {f"{n:,} block{'s' * (n > 1)} {direction}ed": (direction, n, 1) for n in COUNTS for direction in DIRECTIONS}
 BLOCKS |= {f"counter mode, {it}": ("counter mode", n, 1) for it, n in (("64 bytes", 64), ("1,500 bytes", 1500), ("1 MiB", 1 << 20))}
 GCM = {
     "a key": ("GCM key", 1, 1),
@@ -38,8 +38,9 @@ TABLES = {"it": ((FOR_AVX2, "OpenSSL", "Botan", "Libgcrypt"), BLOCKS), "GCM": ((
 
 
 def summary(rows):
-    """The rows that are published."""
-    return [r for r in rows if r["key_bytes"] == 16 and r["kind"] != "planted"]
+    """The rows that are published: of blocks only the numbers that a page shows."""
+    of_16 = [r for r in rows if r["key_bytes"] == 16 and r["kind"] != "planted"]
+    return [r for r in of_16 if r["call"] not in DIRECTIONS or r["amount"] in COUNTS]
 
 
 def place(row):
