@@ -24,8 +24,8 @@ OURS, FOR_AVX2, BOTH_KEYS = "this library", "for AVX2", "both keys"
 # The tables of docs/MEASUREMENTS.md, by a word of their heading: the columns beside this library, and the rows. A row has a call, its
 # amount, and the number of blocks by which its time is divided.
 BLOCKS = {"a key, for both directions": (BOTH_KEYS, 1, 1)}
-DIRECTIONS, COUNTS = ("encrypt", "decrypt"), (1, 2, 8, 64, 4096)
-BLOCKS |= {f"{n:,} block{'s' * (n > 1)} {direction}ed": (direction, n, 1) for n in COUNTS for direction in DIRECTIONS}
+BLOCKS |= {f"{n:,} block{'s' * (n > 1)} {direction}ed": (direction, n, 1)
+           for n in (1, 2, 8, 64, 4096) for direction in ("encrypt", "decrypt")}
 BLOCKS |= {f"counter mode, {it}": ("counter mode", n, 1) for it, n in (("64 bytes", 64), ("1,500 bytes", 1500), ("1 MiB", 1 << 20))}
 GCM = {
     "a key": ("GCM key", 1, 1),
@@ -35,12 +35,21 @@ GCM = {
     "16 KiB of additional data, a block": ("GCM, additional data", 16384, 1024),
 }
 TABLES = {"it": ((FOR_AVX2, "OpenSSL", "Botan", "Libgcrypt"), BLOCKS), "GCM": ((FOR_AVX2, *PEERS), GCM)}
+# The panels of the picture: the call of each, and its number of blocks.
+PANELS = {"4,096 blocks in one call": ("encrypt", 4096), "one block, the key at hand": ("encrypt", 1),
+          "a key and one block": ("key and block", 1)}
 
 
 def summary(rows):
-    """The rows that are published: of blocks only the numbers that a page shows."""
-    of_16 = [r for r in rows if r["key_bytes"] == 16 and r["kind"] != "planted"]
-    return [r for r in of_16 if r["call"] not in DIRECTIONS or r["amount"] in COUNTS]
+    """The rows that are published: those that a table or the picture shows."""
+    calls = {call[:2] for _, titles in TABLES.values() for call in titles.values()}
+    calls |= {(f"key for {it}", 1) for it in ("encryption", "decryption")}
+
+    def is_shown(row):
+        call, is_in_table = (row["call"], row["amount"]), row["run"] == CONSTANT_TIME or row["peer"] in (OURS, "OpenSSL")
+        return call in PANELS.values() or is_in_table and call in calls
+
+    return [r for r in rows if r["key_bytes"] == 16 and r["kind"] != "planted" and is_shown(r)]
 
 
 def place(row):
