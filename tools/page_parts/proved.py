@@ -5,7 +5,7 @@ import sys
 from tools.crates import TOP
 
 # The second proof is a program of its own, whose modules are found in its folder.
-sys.path.append(f"{TOP}/dist/prove")
+sys.path.insert(0, f"{TOP}/dist/prove")
 import cases
 from gcm_statements.pre_counter import ANY_J_0_NONCE
 from machines.riscv import Riscv32, Riscv64
