@@ -10,8 +10,8 @@ import subprocess
 import sys
 import time
 
-import crates
-from crates import CACHE, TOP
+from tools import crates
+from tools.crates import CACHE, TOP
 
 RIGHT, WRONG, BLIND, STOPPED, PARTIAL = range(5)
 MEASUREMENTS = TOP / "docs" / "MEASUREMENTS.md"
@@ -117,8 +117,8 @@ def parser(description, *parts, flags=()):
 
 
 def begin(parser, needed, *versions):
-    """Reads a command's arguments, stops if a program that it needs is missing (each with its package), and says the conditions, with
-    the versions of some programs. Returns the options, and what is found, which is nothing yet."""
+    """Reads a command's arguments, stops if a program that it needs is missing (each with its package), and says the conditions, with the
+    versions of some programs. Returns the options, and what is found, which is nothing yet."""
     options = parser.parse_args()
     for command, package in needed.items():
         need(command, package)

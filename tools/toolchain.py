@@ -1,9 +1,10 @@
 """All that the scripts use of the toolchain's own module, which may change with each kit: copies of the crates, and proofs and builds over
 the libraries that the gate proved on this machine.
 
-    tools/toolchain.py --jobs                 how many checks run side by side
-    tools/toolchain.py --serve FILE           lets later commands use the libraries that `rt ci` left here; FILE is older than its run
-    tools/toolchain.py --prove TREE CRATE ..  proves crates of a tree for ./release
+    python3 -B -m tools.toolchain --jobs                 how many checks run side by side
+    python3 -B -m tools.toolchain --serve FILE           lets later commands use the libraries that `rt ci` left here; FILE is older than
+                                                         its run
+    python3 -B -m tools.toolchain --prove TREE CRATE ..  proves crates of a tree for ./release
 """
 import os
 import pathlib
@@ -14,7 +15,7 @@ import sys
 import tempfile
 import types
 
-from crates import TOP, read_arguments
+from tools.crates import TOP, read_arguments
 
 # The toolchain's command, which is in the folder bin of the kit, and its module, or None where there is none.
 COMMAND = os.path.realpath(shutil.which("rt") or "/no/rt")

@@ -1,5 +1,5 @@
-// The example of FIPS 197, C.3: a block is encrypted under a key of 32 bytes, and decrypted again. Bare blocks protect
-// no message: see fotsgure_gcm.h.
+// The example of FIPS 197, C.3: a block is encrypted under a key of 32 bytes, and decrypted again. Bare blocks protect no message: see
+// fotsgure_gcm.h.
 #include <fotsgure_aes.hpp>
 
 int main()

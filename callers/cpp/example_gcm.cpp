@@ -1,5 +1,5 @@
-// A message is sealed under the next nonce of a counter, and opened again. A program keeps the key and the counter in a
-// file, under a lock: callers/c/example_gcm.c shows how.
+// A message is sealed under the next nonce of a counter, and opened again. A program keeps the key and the counter in a file, under a lock:
+// callers/c/example_gcm.c shows how.
 #include <fotsgure_gcm.hpp>
 
 #include <iostream>

@@ -1,5 +1,5 @@
-"""Builds the libraries of dist by the C compiler, and puts them into the wheel, beside the modules. Without a compiler, or in
-a copy of this folder without dist, the wheel has none, and the modules load libraries that are installed."""
+"""Builds the libraries of dist by the C compiler, and puts them into the wheel, beside the modules. Without a compiler, or in a copy of
+this folder without dist, the wheel has none, and the modules load libraries that are installed."""
 import atexit
 import os
 import pathlib

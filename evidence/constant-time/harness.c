@@ -1,5 +1,5 @@
-/* Runs calls on secret bytes under valgrind's memcheck. Secrets are marked undefined, so that memcheck reports each branch
-   and each address that depends on one. calls.h, which calls.py writes, has the calls. */
+/* Runs calls on secret bytes under valgrind's memcheck. Secrets are marked undefined, so that memcheck reports each branch and each address
+   that depends on one. calls.h, which exports/calls.py makes, has the calls. */
 #include <stdint.h>
 #include <stdio.h>
 #include <stdlib.h>
@@ -51,8 +51,8 @@ struct buffer { uint8_t *at, *before; size_t bytes; char kind; };
 static struct buffer buffers[MOST_BUFFERS];
 static int held;
 
-/* kind: s a secret that is read, b a secret that is changed in place, o bytes that are written, p public bytes, z a
-   secret that must be zero afterwards. */
+/* kind: s a secret that is read, b a secret that is changed in place, o bytes that are written, p public bytes, z a secret that must be
+   zero afterwards. */
 static void *buffer(char kind, size_t bytes)
 {
     struct buffer *it = &buffers[held++];
@@ -69,8 +69,8 @@ static void *buffer(char kind, size_t bytes)
     return it->at;
 }
 
-/* Says what came of the call. It is vacuous where it did nothing with what it was given: where its answer is not the wanted
-   one, or a block was left as it was, or a byte that it should have written depends on no secret. */
+/* Says what came of the call. It is vacuous where it did nothing with what it was given: where its answer is not the wanted one, or a block
+   was left as it was, or a byte that it should have written depends on no secret. */
 static void end(const char *name, const char *wanted, uint64_t answer, uint64_t right)
 {
     unsigned reports = VALGRIND_COUNT_ERRORS - reports_before;

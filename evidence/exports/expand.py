@@ -27,14 +27,13 @@ TABLES = {
                   ("dec", "Decrypt", "Dec", "${FORM_DEC}")),
     # How many blocks the planes of a word hold.
     "WORD": table("WORD NUMBER BLOCKS", ("u16", 0, 1), ("u32", 1, 2), ("u64", 2, 4), ("u128", 3, 8)),
-    "LAYOUT": table("LAYOUT", ["full"], ["compact"]),
     # The modes that make a tag, those that have a type with one call for a whole message, and what is unwrapped again.
     "MODE": table("MODE", ["ccm"], ["cmac"], ["gcm"], ["gcm_siv"], ["pieces"]),
     "WHOLE": table("MODE TYPE", ("gcm", "Gcm"), ("gcm_siv", "GcmSiv")),
     "WRAP": table("WRAP GIVEN", ("wrap", "wrapped"), ("wrap_padded", "cut(wrapped)")),
     "ANSWER": table("ANSWER CHANGE RIGHT", ("opened", 0, "true"), ("refused", 1, "false")),
-    # Calls after which the stack is searched: what they use and how that ends, for those that are alike; then all, with the forms that
-    # they are over, and the blocks or bytes that they are given.
+    # Calls after which the stack is searched: what they use and how that ends, for those that are alike; then all, with the forms that they
+    # are over, and the blocks or bytes that they are given.
     "USED": table("USED GIVEN CALL", ("value", "block: &mut Block", "encrypt_block(block)"),
                   ("slice", "blocks: &mut [Block]", "encrypt_blocks(blocks)")),
     "ENDED": table("ENDED MUT WIPE", ("dropped", "", ""), ("zeroized", "mut ", "cipher.zeroize();")),

@@ -3,12 +3,9 @@ import os
 import tempfile
 import time
 
-import shared
-
-import crates
-import toolchain
-
-from . import expand
+from evidence import shared
+from evidence.exports import expand
+from tools import crates, toolchain
 
 NAME = "evidence_exports"
 CRATES = "aes_planes aes_cipher aes_soft aes aes_permute aes_hybrid aes_rounds aes_ctr cbc key_wrap cmac ccm gcm gcm_siv ctr_drbg".split()

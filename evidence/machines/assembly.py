@@ -2,8 +2,8 @@
 branch and each address."""
 import re
 
-import shared
-from dist_parts.registers import Registers
+from evidence import shared
+from tools.dist_parts.registers import Registers
 
 # Loads and stores of WebAssembly. The groups have the type of the value above the address, if there is one.
 LOADS = re.compile(r"\t\w+\.load(?!\w*_lane)")

@@ -34,8 +34,8 @@ struct engine {
     void (*seal)(const struct message *m);
     /* AES-GCM-SIV: the same under a key of its own. */
     void (*seal_siv)(const struct message *m);
-    /* EVP: sets a key of a mode; processes a message under it, with an initialization vector of its own, one update and
-       the end, and returns whether it was accepted. GCM decrypts with a wrong tag. */
+    /* EVP: sets a key of a mode; processes a message under it, with an initialization vector of its own, one update and the end, and
+       returns whether it was accepted. GCM decrypts with a wrong tag. */
     void (*mode_key)(enum mode mode, const uint8_t *key);
     int (*process_message)(enum mode mode, const uint8_t *iv, const uint8_t *in, uint8_t *out, size_t length);
 };

@@ -1,5 +1,5 @@
-/* This library as LLVM builds it, and planted engines: two that leave the blocks or the text alone, and one that works
-   twice. With HOW and ADD it is another build, whose calls get other names once this file is compiled. */
+/* This library as LLVM builds it, and planted engines: two that leave the blocks or the text alone, and one that works twice. With HOW and
+   ADD it is another build, whose calls get other names once this file is compiled. */
 #include "engine.h"
 #include "fotsgure_aes.h"
 #include "fotsgure_gcm.h"

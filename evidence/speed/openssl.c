@@ -104,8 +104,7 @@ void ADD(enum run run)
     (void)run;
     add(&(struct engine){"the module", HOW, "hybrid", BLOCKS, .stream = stream, GCM, MESSAGES});
 #else
-    /* Without AES instructions counter mode and CBC decryption of long inputs are bitsliced, and the rest is by vector
-       permutations. */
+    /* Without AES instructions counter mode and CBC decryption of long inputs are bitsliced, and the rest is by vector permutations. */
     static const char *const how[] = {"AES instructions", "SSSE3 permutations"}, *const kind[] = {"instructions", "permutations"};
     add(&(struct engine){"OpenSSL", how[run], kind[run], BLOCKS, .stream = stream, GCM, MESSAGES});
 #endif

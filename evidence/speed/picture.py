@@ -1,16 +1,13 @@
-"""Draws the picture of a run, as SVG: bars of time, one row per engine, in groups by the kind of software.
-The colours follow the reader's theme. A time is a length, of at most 1, and the text beside it."""
+"""Draws the picture of a run, as SVG: bars of time, one row per engine, in groups by the kind of software. The colours follow the reader's
+theme. A time is a length, of at most 1, and the text beside it."""
 from html import escape
 from pathlib import Path
 
-import shared
-import tables
-from page_parts.reports import Report
+from evidence import shared
+from evidence.speed import tables
+from tools.page_parts.reports import Report
 
 HERE = Path(__file__).resolve().parent
-# The panels: the call of each, and its number of blocks.
-PANELS = {"4,096 blocks in one call": ("encrypt", 4096), "one block, the key at hand": ("encrypt", 1),
-          "a key and one block": ("key and block", 1)}
 # Each kind of engine: its title, and the colour of its bars on light ground and on dark.
 KINDS = {
     "hybrid": ("Permutations and bit planes", "#0b7a75", "#2fb8ad"),
@@ -40,15 +37,15 @@ def row(name, kind, times, y):
 
 
 def times_of(rows):
-    """The least nanoseconds a block of each engine, in each panel: {(kind, peer, how): times}. This library's are of
-    the process that also has its build for AVX2."""
+    """The least nanoseconds a block of each engine, in each panel: {(kind, peer, how): times}. This library's are of the process that also
+    has its build for AVX2."""
     times = {}
     for r in rows:
         call = r["call"], r["amount"]
-        if call in PANELS.values() and (r["peer"] != tables.OURS or r["run"] == tables.CONSTANT_TIME):
+        if call in tables.PANELS.values() and (r["peer"] != tables.OURS or r["run"] == tables.CONSTANT_TIME):
             best_so_far = times.setdefault((r["kind"], r["peer"], r["how"]), {})
             best_so_far[call] = min(r["nanoseconds"] / r["amount"], best_so_far.get(call, 1e30))
-    return {engine: [best.get(call) for call in PANELS.values()] for engine, best in times.items()}
+    return {engine: [best.get(call) for call in tables.PANELS.values()] for engine, best in times.items()}
 
 
 def cell(kind, time, most, ours):
@@ -65,7 +62,7 @@ def svg_of(rows):
     most = [max(filter(None, times_of_panel)) for times_of_panel in zip(*times.values())]
     ours = next(times_of_engine for engine, times_of_engine in times.items() if engine[2] == tables.BASE)
     parts, y = [f'<text x="0" y="14" class="title">{escape(title)}</text>'], 62
-    for at, (head, (_, n)) in enumerate(PANELS.items()):
+    for at, (head, (_, n)) in enumerate(tables.PANELS.items()):
         x = NAMES + (BAR + BESIDE) * at
         parts.append(f'<text x="{x}" y="42" class="bold">{escape(head)}</text>')
         parts.append(f'<text x="{x}" y="58" class="soft">nanoseconds{" a block" if n > 1 else ""}, less is faster</text>')
@@ -77,7 +74,7 @@ def svg_of(rows):
             y += ROW
             cells = [cell(kind, *scale) for scale in zip(times[engine], most, ours)]
             parts += row(OURS.get(engine[2], f"{engine[1]}, {engine[2]}"), kind, cells, y)
-    width, height = NAMES + (BAR + BESIDE) * len(PANELS), y + 10
+    width, height = NAMES + (BAR + BESIDE) * len(tables.PANELS), y + 10
     return "\n".join([
         f'<svg xmlns="http://www.w3.org/2000/svg" viewBox="0 0 {width} {height}" width="{width}" height="{height}" role="img">',
         f"<title>{escape(title)}</title>",

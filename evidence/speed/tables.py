@@ -3,7 +3,7 @@ import csv
 import re
 import subprocess
 
-import shared
+from evidence import shared
 
 # The peers: the package of each, and the flags to link it. Its file is compiled with those that begin with -I.
 PEERS = {
@@ -35,11 +35,21 @@ GCM = {
     "16 KiB of additional data, a block": ("GCM, additional data", 16384, 1024),
 }
 TABLES = {"it": ((FOR_AVX2, "OpenSSL", "Botan", "Libgcrypt"), BLOCKS), "GCM": ((FOR_AVX2, *PEERS), GCM)}
+# The panels of the picture: the call of each, and its number of blocks.
+PANELS = {"4,096 blocks in one call": ("encrypt", 4096), "one block, the key at hand": ("encrypt", 1),
+          "a key and one block": ("key and block", 1)}
 
 
 def summary(rows):
-    """The rows that are published."""
-    return [r for r in rows if r["key_bytes"] == 16 and r["kind"] != "planted"]
+    """The rows that are published: those that a table or the picture shows."""
+    calls = {call[:2] for _, titles in TABLES.values() for call in titles.values()}
+    calls |= {(f"key for {it}", 1) for it in ("encryption", "decryption")}
+
+    def is_shown(row):
+        call, is_in_table = (row["call"], row["amount"]), row["run"] == CONSTANT_TIME or row["peer"] in (OURS, "OpenSSL")
+        return call in PANELS.values() or is_in_table and call in calls
+
+    return [r for r in rows if r["key_bytes"] == 16 and r["kind"] != "planted" and is_shown(r)]
 
 
 def place(row):

@@ -1,6 +1,6 @@
-/* Times every engine of one run, a round at a time: a line on standard input asks for a round, or for the answers. The
-   least of all rounds counts, in ticks of the time stamp counter a call. ENGINES names the libraries, as X(openssl) .. With
-   ONLY_MESSAGES nothing but messages by EVP is timed. */
+/* Times every engine of one run, a round at a time: a line on standard input asks for a round, or for the answers. The least of all rounds
+   counts, in ticks of the time stamp counter a call. ENGINES names the libraries, as X(openssl) .. With ONLY_MESSAGES nothing but messages
+   by EVP is timed. */
 #include "engine.h"
 #include <stdio.h>
 #include <stdlib.h>
@@ -169,8 +169,8 @@ static void one_round(void)
                     measure(i, w, size);
 }
 
-/* Whether an engine's answers are this library's, which are the standard's by its proof. BearSSL's are compared as what they
-   are: counter mode from 0, and CBC. */
+/* Whether an engine's answers are this library's, which are the standard's by its proof. BearSSL's are compared as what they are: counter
+   mode from 0, and CBC. */
 static int answers_right(const struct engine *e, size_t bytes)
 {
     enum { N = 21, BYTES = 16 * N };

@@ -4,8 +4,8 @@ import os
 import pathlib
 import subprocess
 
-import tables
-import shared
+from evidence import shared
+from evidence.speed import tables
 
 HERE = pathlib.Path(__file__).resolve().parent
 # What the builds are called, by the suffix of their files.

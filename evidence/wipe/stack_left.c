@@ -1,6 +1,6 @@
-/* Makes calls on a stack of its own, each under several keys and on the same blocks. Then it counts the bytes that differ between the
-   keys (README.md). CALLS names the exports, as X(ev_left_aes_128_value_dropped) .. It prints a line for each export, with tabs: its name,
-   and the largest count of each kind at any length. */
+/* Makes calls on a stack of its own, each under several keys and on the same blocks. Then it counts the bytes that differ between the keys
+   (README.md). CALLS names the exports, as X(ev_left_aes_128_value_dropped) .. It prints a line for each export, with tabs: its name, and
+   the largest count of each kind at any length. */
 #define _GNU_SOURCE
 #include <stdint.h>
 #include <stdio.h>

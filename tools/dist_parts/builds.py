@@ -5,8 +5,8 @@ import re
 import shutil
 import sys
 
-import toolchain
-from crates import TOP, run, sum_of
+from tools import toolchain
+from tools.crates import TOP, run, sum_of
 
 from . import targets
 from .headers import Header
@@ -30,8 +30,8 @@ OF_PRODUCTS = (
     ("specs/Form.antt", "List (List ℕ) → Type 0\nIsRoom = IsAlone\n", "List ℕ → Type 0\nIsRoom = AreSubkeyWords\n"),
     ("specs/Form.antt", "List (List ℕ) → ℕ\nsubkey_of = subkey_alone\n", "List ℕ → ℕ\nsubkey_of = subkey_of_words\n"),
 )
-# For a processor without a byte shuffle the prover's compiler stores tables in memory, and reads them at secret places. So an assembly
-# file has shuffles, or is of a build that uses none.
+# For a processor without a byte shuffle the prover's compiler stores tables in memory, and reads them at secret places. So an assembly file
+# has shuffles, or is of a build that uses none.
 SHUFFLES = re.compile(r"^\t(?:(?:v?pshufb|tbl|vrgather\.vv)\t|i8x16\.swizzle)", re.M)
 # The kit's clang compiles the module that the prover's compiler writes.
 KIT_CLANG = toolchain.KIT / "toolchain/bin/clang"

@@ -2,7 +2,7 @@
 import re
 import textwrap
 
-from crates import TOP
+from tools.crates import TOP
 
 DIST = TOP / "dist"
 TYPES = {"uint8_t": "u8", "uint32_t": "u32", "uint64_t": "u64", "size_t": "usize"}

@@ -9,7 +9,7 @@ import dataclasses
 import re
 import sys
 
-import crates
+from tools import crates
 
 from . import symbols
 from .headers import DIST, Header

@@ -51,8 +51,8 @@ define internal <16 x i8> @byte_shuffle(<16 x i8> %table, <16 x i8> %places) alw
 # The two registers that memset may save, emptied.
 EMPTIES = 'call void asm sideeffect "xorl %edi, %edi; xorl %esi, %esi", "~{rdi},~{rsi},~{flags}"()'
 # What GNU's assembler doesn't know: the versions of RISC-V's extensions, and the second version of Windows' tables. (variant_cc is for
-# calls through the loader, and no export has it.) And what an assembly file doesn't say of itself: for which processor of ARM it
-# is, and how its callers pass floating-point numbers. The assembler is told the one, and no call has the other.
+# calls through the loader, and no export has it.) And what an assembly file doesn't say of itself: for which processor of ARM it is, and
+# how its callers pass floating-point numbers. The assembler is told the one, and no call has the other.
 LEFT_OUT = re.compile(r"^\t\.(?:attribute|variant_cc|seh_startepilogue|seh_endepilogue|eabi_attribute|cpu|fpu|arch)\b.*\n", re.M)
 # Functions that small code has once each, where the quick code has them in each caller: the circuits of the S-boxes, the column mixing of
 # each round of a period, the exchanges of bits, the steps of the key expansion, and those of counter mode.

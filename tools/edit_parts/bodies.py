@@ -25,8 +25,8 @@ class Function:
         self.module = module[:-1] if module[-1] in ("mod", "lib", "main") else module
 
     def prover_path(self):
-        """Its path as the prover accepts it, if the text shows it, or else the path of its module. A method's path is in the module of
-        its type, wherever the impl is. So a method is named by the end of its path."""
+        """Its path as the prover accepts it, if the text shows it, or else the path of its module. A method's path is in the module of its
+        type, wherever the impl is. So a method is named by the end of its path."""
         if self.type:
             return f"{self.folder}::{self.name}" if self.folder else self.module_path()
         return "::".join([*self.module, self.name])
@@ -118,8 +118,8 @@ class Edit:
                 self.pairs.append((path, old, text.removeprefix(" ")))
 
     def planted(self, folder, texts, changes=None):
-        """The given texts of files of a crate's folder with this edit made too, or None if an 'old:' isn't in its file exactly once.
-        What it changes is added to `changes`: a file, its text, and the pair."""
+        """The given texts of files of a crate's folder with this edit made too, or None if an 'old:' isn't in its file exactly once. What
+        it changes is added to `changes`: a file, its text, and the pair."""
         changed = dict(texts)
         for path, old, new in self.pairs:
             if path not in changed:
@@ -133,8 +133,8 @@ class Edit:
         return changed
 
     def place(self, folder):
-        """Notes the functions that have to refuse it in a crate's folder, and whether it changes nothing but their bodies, or why it
-        can't be made. Where no function is known, each of the crate may refuse it."""
+        """Notes the functions that have to refuse it in a crate's folder, and whether it changes nothing but their bodies, or why it can't
+        be made. Where no function is known, each of the crate may refuse it."""
         self.functions, self.is_within, changes = {}, True, []
         try:
             is_made = self.planted(folder, {}, changes)

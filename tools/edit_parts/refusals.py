@@ -4,19 +4,19 @@ evidence/WRONG_BODIES.md says what counts. A refusal for an unknown reason doesn
 """
 import re
 
-from crates import TOP
+from tools.crates import TOP
 
 # How the gate says that it found nothing but missing names, and what the prover says of one.
 NAME_ALONE = "only because a proof file names what the edit took away"
 # It writes 'record `R`', and on the next line, which the log doesn't have, that R has no such field.
 MISSING = re.compile(r"has no field|is not in scope|has no `|is no name|was not admitted|error: `[^`]*`: record `")
 NOT_COVERED = re.compile(r"does not cover|is not made yet|has no proof")
-# The goal that the bounds of a slice hold, whose line may also say that `search` found no proof; and a law or a definition that
-# cites itself.
+# The goal that the bounds of a slice hold, whose line may also say that `search` found no proof; and a law or a definition that cites
+# itself.
 BOUND = re.compile(r"\(`slice_bounds-[^`]*`\)")
 CYCLE = re.compile(r"import cycle|expected a measure")
-# A goal that is left open at a place of the code, a law that doesn't hold of its members, and a written proof of a goal that
-# no longer fits it.
+# A goal that is left open at a place of the code, a law that doesn't hold of its members, and a written proof of a goal that no longer fits
+# it.
 PLACE = r"(?:\./)?\S+:\d+:\d+: "
 GOAL = re.compile(rf"^: note: {PLACE}(?:it is not proved that |the law does not hold|no proof of the law was found)")
 PROOF = re.compile(r"^: (?:\./)?(?:proofs|specs|src)/\S+:\d+:\d+: error: `")

@@ -1,8 +1,12 @@
 """Makes dist/prove/CASES.md, the list of what dist/prove proves, from its cases. So the page always has the right ones."""
 import itertools
+import sys
 
+from tools.crates import TOP
+
+# The second proof is a program of its own, whose modules are found in its folder.
+sys.path.insert(0, f"{TOP}/dist/prove")
 import cases
-from crates import TOP
 from gcm_statements.pre_counter import ANY_J_0_NONCE
 from machines.riscv import Riscv32, Riscv64
 

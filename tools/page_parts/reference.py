@@ -5,7 +5,7 @@ the one that encrypts.
 import re
 import textwrap
 
-from crates import TOP
+from tools.crates import TOP
 
 from .reports import Report
 

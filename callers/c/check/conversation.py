@@ -1,7 +1,6 @@
-"""Runs the programs of conversation.c and conversation.py with somebody in between who changes, repeats, sends back,
-lengthens or cuts what is sent, or plays an earlier conversation again. Each of these has to end with status 1 and words, and
-nothing but the right answers may be printed. (If a message is left out, both sides wait.) The last line is
-`N passed, M failed`.
+"""Runs the programs of conversation.c and conversation.py with somebody in between who changes, repeats, sends back, lengthens or cuts what
+is sent, or plays an earlier conversation again. Each of these has to end with status 1 and words, and nothing but the right answers may be
+printed. (If a message is left out, both sides wait.) The last line is `N passed, M failed`.
 
     conversation.py FOLDER KEY COMMAND ..    FOLDER is empty; each COMMAND is one word
 """

@@ -1,6 +1,5 @@
-// The wrapper for C++: FIPS 197, appendix C; slices of 0 to 40 blocks against single calls; SP 800-38A, F.5, cut at
-// every place, and F.2.1 (CBC); wrapped keys of RFC 3394 and RFC 5649; what has bytes; what it throws. The last line is
-// `N passed, M failed`.
+// The wrapper for C++: FIPS 197, appendix C; slices of 0 to 40 blocks against single calls; SP 800-38A, F.5, cut at every place, and F.2.1
+// (CBC); wrapped keys of RFC 3394 and RFC 5649; what has bytes; what it throws. The last line is `N passed, M failed`.
 #include "fotsgure_aes.hpp"
 
 #include <algorithm>

@@ -1,6 +1,6 @@
-// GCM and AES-GCM-SIV in the wrapper for C++: test case 4 of the submission of GCM (McGrew and Viega, appendix B), and a
-// message of RFC 8452, appendix C.1; texts of 0 to 300 bytes there and back; messages in pieces; keys that move; what it throws.
-// The last line is `N passed, M failed`.
+// GCM and AES-GCM-SIV in the wrapper for C++: test case 4 of the submission of GCM (McGrew and Viega, appendix B), and a message of RFC
+// 8452, appendix C.1; texts of 0 to 300 bytes there and back; messages in pieces; keys that move; what it throws. The last line is
+// `N passed, M failed`.
 #include "fotsgure_gcm.hpp"
 
 #include <algorithm>

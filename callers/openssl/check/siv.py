@@ -1,5 +1,5 @@
-"""AESGCMSIV of the package cryptography over the provider: messages of RFC 8452, appendix C.1 and C.2, random ones there and
-back, and what is refused. The last line is `N messages`."""
+"""AESGCMSIV of the package cryptography over the provider: messages of RFC 8452, appendix C.1 and C.2, random ones there and back, and what
+is refused. The last line is `N messages`."""
 import os
 import sys
 

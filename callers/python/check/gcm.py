@@ -1,6 +1,6 @@
-"""The modules for Python, fotsgure.gcm and fotsgure.aead. It tries test cases 2, 4 and 16 of the submission of GCM (McGrew and
-Viega, appendix B); texts of 0 to 300 bytes there and back; every refusal; arguments that are no bytes; threads and forks. It
-compares AESGCM with that of the package cryptography 48 if it is installed. The last line is `N passed, M failed`."""
+"""The modules for Python, fotsgure.gcm and fotsgure.aead. It tries test cases 2, 4 and 16 of the submission of GCM (McGrew and Viega,
+appendix B); texts of 0 to 300 bytes there and back; every refusal; arguments that are no bytes; threads and forks. It compares AESGCM with
+that of the package cryptography 48 if it is installed. The last line is `N passed, M failed`."""
 import array
 import copy
 import ctypes
@@ -199,8 +199,8 @@ for name in ("libc.so.6", "libm.so.6", os.devnull):
                            env={**os.environ, "FOTSGURE_GCM": name})
     expect(ended.stderr.splitlines()[-1].startswith("ImportError: "), f"FOTSGURE_GCM={name}: {ended.stderr}")
 
-# A counter and a message are of one process: a child that was forked may not go on with them. It doesn't wait for locks
-# that another thread held when it was forked, and what belongs to no process works.
+# A counter and a message are of one process: a child that was forked may not go on with them. It doesn't wait for locks that another thread
+# held when it was forked, and what belongs to no process works.
 busy, done, message = threading.Event(), threading.Event(), gcm.begin(NONCE)
 
 
@@ -296,8 +296,8 @@ def into(call, data, place):
     return call(NONCE, data, None, place), bytes(place)
 
 
-# Calls of a class, and what they come to: recorded of cryptography 48.0.0, which is asked here if it is installed. The words
-# of a ValueError and a BufferError are its own too; those of a TypeError name its types.
+# Calls of a class, and what they come to: recorded of cryptography 48.0.0, which is asked here if it is installed. The words of a
+# ValueError and a BufferError are its own too; those of a TypeError name its types.
 WRONG_NONCE = ValueError, "Nonce must be between 8 and 128 bytes"
 WRONG_BITS = ValueError, "bit_length must be 128, 192, or 256"
 WRONG_KEY = ValueError, "AESGCM key must be 128, 192, or 256 bits."

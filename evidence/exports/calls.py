@@ -1,8 +1,8 @@
-"""Makes calls.h: a C function that makes each call once, on secret keys, round keys, blocks and data (README.md). A slice has
-0 to 17 blocks: two batches of eight and a tail, and every length below."""
+"""Makes calls.h: a C function that makes each call once, on secret keys, round keys, blocks and data (README.md). A slice has 0 to 17
+blocks: two batches of eight and a tail, and every length below."""
 import itertools
 
-from exports.expand import TABLES, rows
+from evidence.exports.expand import TABLES, rows
 
 SIZES, DIRECTIONS = TABLES["SIZE"], TABLES["DIRECTION"]
 CRATES, MODES, WRAPS, ANSWERS = ([row[it] for row in TABLES[it]] for it in ("CRATE", "MODE", "WRAP", "ANSWER"))
@@ -69,11 +69,11 @@ class Calls:
         self.body.append("    { " + " ".join(lines) + " }")
 
     def schedules(self):
-        """Schedules and ciphers of both layouts on every word, and widened round keys."""
+        """Schedules and ciphers of the full layout on every word, and widened round keys."""
         for size, word in itertools.product(SIZES, TABLES["WORD"]):
             given = ("u32", word["NUMBER"]), ("s", size["KEY"]), *(blocks(kind, word["BLOCKS"]) for kind in "soo")
-            for layout in ("full", "compact", *(["widened"] if word in TABLES["WIDE"] else [])):
-                self.call(f"ev_{layout}_{size['SIZE']}", *given, label=word["WORD"])
+            for of in ("full", *(["widened"] if word in TABLES["WIDE"] else [])):
+                self.call(f"ev_{of}_{size['SIZE']}", *given, label=word["WORD"])
 
     def types(self):
         """The nine types of each crate."""
