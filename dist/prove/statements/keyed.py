@@ -147,11 +147,11 @@ class Keyed:
 
     def key_length(self):
         """Returns how many bytes the key has: 16, 24 or 32"""
-        return Call(self.prefix + "_key_length", [self.schedule()], self.key_size, self.address)
+        return Call(self.prefix + "_key_length", [self.schedule()], self.key_size, size=self.address)
 
     def key_length_of_none(self):
         """.. or 0 if *aes holds no key."""
-        return Call(self.prefix + "_key_length", [self.no_key()], 0, self.address)
+        return Call(self.prefix + "_key_length", [self.no_key()], 0, size=self.address)
 
     def version(self, number):
         """Returns the version of the library"""
