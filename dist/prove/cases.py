@@ -7,13 +7,13 @@ from aes_statements import aes, cmac_ccm
 from gcm_statements import gcm, siv
 from gcm_statements.gcm_header import ADDITIONAL, ENCRYPTING, MOST, MOST_ADDITIONAL, MOST_NONCE, PHASES, SHORT_TAGS, VERIFYING
 from gcm_statements.pre_counter import ANY_J_0_NONCE, CarryTo
-from linked.headers import version
-from linked.linking import takes_few
+from linked.builds import takes_few
 from machines.riscv import Riscv
 from remainders import AMONG_REMAINDERS, DIRECTIONS, EVERY, FEW, LENGTHS, LONGEST_CCM, PAIRS, TABLES, AtLengths
+from statements.headers import version
 
 # A statement (a method of KeyedAes, KeyedGcm or KeyedSiv, or one of TABLES), a description of its arguments, and lists of these. The page
-# says which builds and keys have a list. All builds have `most`, except those that takes_few (linking.py) names: these are compiled
+# says which builds and keys have a list. All builds have `most`, except those that takes_few (builds.py) names: these are compiled
 # from the sources of the others. Keys of 24 and 32 bytes have each call once, and the code that loops over round keys. Only the builds of
 # FIRST have `remainders` and `lengths_24_32`. These are other remainders of lengths, and each call at every length with keys of 24 and 32
 # bytes.

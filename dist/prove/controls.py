@@ -13,8 +13,9 @@ from cases import LIBRARIES, statements
 from covered import uncovered, uncovered_record
 from covered.code_places import Places
 from covered.noted import joined_coverage
+from linked.builds import BUILDS, source, takes_few
 from linked.directives import refuse_lines
-from linked.linking import BUILDS, assemble, source, takes_few
+from linked.linking import assemble
 from machines.native import NEVER_ALONE, compare_all
 from machines.processors import MEANINGS, PROCESSORS
 from planted.faults import BUILDS_WITH_FAULTS, faults_of, is_unreached

@@ -5,7 +5,8 @@ import gc
 import time
 
 from cases import FIRST, LIBRARIES, statements
-from linked.linking import BUILDS, is_windows, narrow_word, program_of, takes_few
+from linked.builds import BUILDS, is_windows, narrow_word, takes_few
+from linked.linking import program_of
 from linked.program import Program
 from machines.native import compare_all
 from machines.operands import lanes

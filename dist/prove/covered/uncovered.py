@@ -183,8 +183,8 @@ def summary(program, found):
         set().union(*some) for some in zip(*found.values())) if found else [set()] * 7
     jumps, values = ("%d of %d" % (len(some - idle - once), len(some)) for some, once in zip(kinds, (one_way, one_value)))
     return ("%d of %d instructions ran; %s conditional jumps and adds with carry led both ways; %s conditions chose both values; "
-            "%d comparisons not at their border; %d results always the same; %d look-ups of constants; %d results that follow a number" % (
-                len(all_ - idle), len(all_), jumps, values, *map(len, (apart, same, look_ups, follows))))
+            "%d comparisons never tried at their border; %d results always the same; %d look-ups of constants; "
+            "%d results that follow a number" % (len(all_ - idle), len(all_), jumps, values, *map(len, (apart, same, look_ups, follows))))
 
 
 def entries(all_, assembly, name):

@@ -95,6 +95,11 @@ class Elf:
         return {r.offset: r.symbol.name for all_ in self.relocations.values() for r in all_ if r.symbol.section == UNDEFINED}
 
 
+def exports_of(path, suffix):
+    """Gives {name without the suffix: name} of an object's exports."""
+    return {name.removesuffix(suffix): name for name in Elf(path).exports}
+
+
 # A relocation has three parts here: the bits of four bytes that the linker sets, what they say, and a function that computes this from the
 # four bytes and their own address. They say an "address", or the higher bits of one ("page"), or the lowest twelve ("low").
 def signed(number, bits):

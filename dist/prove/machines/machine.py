@@ -39,7 +39,6 @@ from dataclasses import dataclass
 
 from covered.borders import Borders
 from covered.constant_results import Results
-from linked.program import LIBC
 from loops.linear import Linear, is_number
 from loops.unknowns import Unknowns
 from machines.access import Access
@@ -51,7 +50,7 @@ from machines.secret_bytes import SecretBytes
 from machines.stack_use import StackUse
 from symbols.bits import PUBLIC, Pause, Undefined, Unproved
 
-
+LIBC = "memcpy", "memmove", "memset"  # the functions of others that the code calls
 # A run with more instructions is refused: a loop may not end. The longest cases have fewer.
 MOST_STEPS = 10000000
 MOST_NOTED = 16  # bytes that are noted of what a function of libc writes

@@ -3,7 +3,7 @@ import re
 import subprocess
 
 from gcm_statements import gcm_header, siv
-from linked.linking import BUILDS, library_of
+from linked.builds import BUILDS, library_of
 from machines.riscv import Riscv
 from machines.x86_64 import X86_64
 from statements import keyed
