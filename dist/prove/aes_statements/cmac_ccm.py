@@ -283,17 +283,18 @@ class CmacCcm:
         """NO_KEY, TAG_LENGTH, NONCE_LENGTH or TOO_LONG, the first of them that applies"""
         n, a, t, k = (unknown(name) for name in ("nonce", "additional", "text", "tag"))
         sizes = {f for x in (n, a, t, k) for f in facts_of_range(x, 0, self.highest)}
-        right = sizes | facts_of_range(k, 0, len(CCM_TAGS) - 1), CCM_TAGS[0] + 2 * k  # every tag's length
+        right_facts, right_tag = sizes | facts_of_range(k, 0, len(CCM_TAGS) - 1), CCM_TAGS[0] + 2 * k  # every tag's length
         wrong = self.lengths_but(CCM_TAGS, "length")
         if self.program.machine.relaxed:
             # RISC-V's code adds a tag's lowest bit to a comparison: of a number that isn't known this says nothing.
             others = 17, 18, 2 ** 8 + 8, 2 ** 16 + 8, 2 ** 31 + 8, 2 ** 32 + 8, self.highest - 7
-            right, wrong = (sizes, CCM_TAGS[-1]), [*wrong[:-1], *((length, set()) for length in others if length <= self.highest)]
+            right_facts, right_tag = sizes, CCM_TAGS[-1]
+            wrong = [*wrong[:-1], *((length, set()) for length in others if length <= self.highest)]
         refusals = [(self.no_key(), n, k, NO_KEY, sizes)]
         refusals += [(self.schedule(), n, length, TAG_LENGTH, sizes | facts) for length, facts in wrong]
-        refusals += [(self.schedule(), length, right[1], NONCE_LENGTH, right[0] | facts)
+        refusals += [(self.schedule(), length, right_tag, NONCE_LENGTH, right_facts | facts)
                      for length, facts in self.lengths_but(NONCES, "length")]
-        refusals += [(self.schedule(), length, right[1], TOO_LONG, right[0] | facts_of_range(t, 1 << 8 * (15 - length), self.highest))
+        refusals += [(self.schedule(), length, right_tag, TOO_LONG, right_facts | facts_of_range(t, 1 << 8 * (15 - length), self.highest))
                      for length in NONCES[1:] if self.highest >> 8 * (15 - length)]
         for (aes, nonce, tag, status, facts), call in itertools.product(refusals, ("seal", "open")):
             yield Call("aes_ccm_" + call, [aes, unused_buffer("nonce", False), nonce, unused_buffer("additional", False), a,

@@ -5,6 +5,9 @@ from gcm_statements.gcm_header import ADDITIONAL, MOST, MOST_ADDITIONAL
 from loops.linear import unknown
 from statements.standards import number
 
+# The numbers of a message in pieces: how many bytes of additional data and of text came, how many were decrypted, and its phase.
+Counts = namedtuple("Counts", "additional text decrypted phase")
+
 
 class Came(namedtuple("Came", "words number rest facts")):
     """Says how many bytes came before a call: 16 n + `rest` for every n. It has the words of that number, the number, and facts of
@@ -41,10 +44,10 @@ def with_more(keyed, m, n, count):
     return n._replace(words=[low + count - carries * (keyed.highest + 1), *(word + carries for word in high)])
 
 
-def bytes_of_counts(keyed, *numbers):
-    """Gives the bytes of numbers of 64 bits, which may be unknown."""
+def bytes_of_counts(keyed, counts):
+    """Gives the bytes of Counts in a message. Each is a number of 64 bits, which may be unknown."""
     words = lambda n: n.words if isinstance(n, Came) else [n]
-    return [b for n in numbers for b in (number(n, 8)[::-1] if isinstance(n, int) else keyed.words(words(n)))]
+    return [b for n in counts for b in (number(n, 8)[::-1] if isinstance(n, int) else keyed.words(words(n)))]
 
 
 def length_in_bits(keyed, m, n):

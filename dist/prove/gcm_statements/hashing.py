@@ -1,10 +1,13 @@
 """Has GHASH (SP 800-38D, 6.4) for statements of GCM and of AES-GCM-SIV. When a call has made a value of it, that becomes an arbitrary
 block."""
 import functools
+from collections import namedtuple
 
 from statements.keyed import Keyed
 from statements.standards import ZEROS, number, padded, product
 from symbols.bits import DATA, KEY, PUBLIC
+
+Sizes = namedtuple("Sizes", "additional text")  # how many bytes of both a message has
 
 
 def in_groups(blocks, many=3):
@@ -130,9 +133,9 @@ class KeyedHash(Keyed):
         if phase > 1:
             return "nothing", (), ()
         if phase == 0:
-            return self.any_group(m, ZEROS, self.additional_bytes, sizes[0], many, [], middle)
-        before = ZEROS if m.known(sizes[0]) == 0 else middle
-        return self.any_group(m, before, self.hashed_text, sizes[1], many, [self.any_lengths(m, sizes)], last)
+            return self.any_group(m, ZEROS, self.additional_bytes, sizes.additional, many, [], middle)
+        before = ZEROS if m.known(sizes.additional) == 0 else middle
+        return self.any_group(m, before, self.hashed_text, sizes.text, many, [self.any_lengths(m, sizes)], last)
 
     def any_lengths(self, m, sizes):
         return [b for n in sizes for b in m.to_bytes(m.known(n) * 8, 8)[::-1]]

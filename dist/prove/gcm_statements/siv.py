@@ -5,7 +5,7 @@ POLYVAL, the round keys of the other key, each value of POLYVAL, the block that 
 import functools
 
 from gcm_statements.gcm_header import DONE, NO_KEY, REFUSED, TOO_LONG, UNEQUAL_LENGTHS
-from gcm_statements.hashing import Hashing, KeyedHash, in_groups
+from gcm_statements.hashing import Hashing, KeyedHash, Sizes, in_groups
 from loops.linear import unknown
 from machines.operands import Number
 from statements.calls import Buffer, Call, Stream, compare
@@ -169,7 +169,7 @@ class KeyedSiv(KeyedHash):
         return super().any_lengths(m, sizes[::-1])
 
     def blocks_at_once(self, m, sizes):
-        return 1 if m.is_below(m.known(sizes[0] + sizes[1]), FEW + 1) else super().blocks_at_once(m, sizes)
+        return 1 if m.is_below(m.known(sizes.additional + sizes.text), FEW + 1) else super().blocks_at_once(m, sizes)
 
     def any_seal(self, additional, text, way=""):
         sizes, plain, sealed, tag = self.any_texts(additional, text)
@@ -193,7 +193,8 @@ class KeyedSiv(KeyedHash):
         """Gives the sizes, the patterns of a plain text and of the encrypted text, and the tag."""
         plain = self.pattern(self.text)
         sealed = self.aes.xor(plain, self.pattern(self.own_stream))
-        return (unknown("a") * 48 + additional, unknown("n") * 768 + text), plain, sealed, self.made_once("any own tag", self.any_own_tag)
+        sizes = Sizes(unknown("a") * 48 + additional, unknown("n") * 768 + text)
+        return sizes, plain, sealed, self.made_once("any own tag", self.any_own_tag)
 
     def any_message(self, name, way, sizes, content, want, first, last, tag, plain, **more):
         """Gives a call. Its steps derive the keys, then come those of `first`, those of GHASH, and those of `last`."""
@@ -202,9 +203,9 @@ class KeyedSiv(KeyedHash):
                 return self.any_hash(m, m.phase - 1, sizes)
             phase = [*self.derivation(self.blocks_at_once(m, sizes) == 1), *first] if m.phase == 0 else last(m) if m.phase == 3 else []
             return phase[m.steps_found] if m.steps_found < len(phase) else ("nothing", (), ())
-        additional = Stream("additional", sizes[0], self.pattern(self.additional_bytes))
-        arguments = [self.schedule(), Buffer("nonce", self.nonce), additional, sizes[0],
-                     *self.streams_of(way, "text", sizes[1], sizes[1], content, want), tag]
+        additional = Stream("additional", sizes.additional, self.pattern(self.additional_bytes))
+        arguments = [self.schedule(), Buffer("nonce", self.nonce), additional, sizes.additional,
+                     *self.streams_of(way, "text", sizes.text, sizes.text, content, want), tag]
         return Call("gcm_siv_" + name + way, arguments, DONE, steps=steps, counter=COUNTER, plain=self.in_all_blocks(plain),
                     facts={unknown("a"), unknown("n"), *(MOST - size for size in sizes)}, **more)
 
