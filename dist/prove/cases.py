@@ -281,7 +281,9 @@ def name_of(row, values):
 
 def statements(keyed, options, part, parts):
     """Gives the cases of one part as (what, Call). set_key was proved before."""
-    program, number, refusals = keyed.program, itertools.count(), collections.Counter()
+    program = keyed.program
+    number = itertools.count()
+    refusals = collections.Counter()
     for row in [*common_rows(keyed.library, version(options.dist, keyed.library)), *rows_of(keyed.library, program.machine)]:
         for values in arguments_taken(row, program.build, keyed.key_size, options.level):
             values = as_tuple(values)

@@ -173,7 +173,9 @@ class CmacCcm:
         """Decrypts `text_length` bytes in place if the tag is right (6.2). The tag can be compared only once the text is decrypted. So
         a refused text is encrypted again, and is unchanged when the call returns. .. REFUSED; else DONE"""
         message = self.ccm_message(nonce_length, additional_length, text_length, tag_length)
-        nonce, text, tag = self.nonce[:nonce_length], message.text, self.tag[:tag_length]
+        nonce = self.nonce[:nonce_length]
+        text = message.text
+        tag = self.tag[:tag_length]
         sealed = self.in_blocks(self.sealed, text_length, 16 * message.start)
         opened, stream = self.ccm_crypted(nonce, sealed)
 
@@ -197,7 +199,9 @@ class CmacCcm:
         return self.aes.cipher([14 - len(nonce)] + nonce[:7] + low, self.round_key_words)
 
     def ccm_counter_word(self, nonce, size):
-        of, high, low = 15 - len(nonce), [14 - len(nonce)] + nonce[:7], nonce[7:] + [0] * (15 - len(nonce))
+        of = 15 - len(nonce)
+        high = [14 - len(nonce)] + nonce[:7]
+        low = nonce[7:] + [0] * (15 - len(nonce))
         words = {tuple(low[::-1]): Pointer("CCM low, %d" % of, 0), tuple(high[::-1]): Pointer("CCM high, %d" % of, 0)}
         return CounterWord("CCM low, %d" % of, 1, NEVER, size.divided(16)[0] + 2 + BATCH, words)
 
@@ -221,7 +225,9 @@ class CmacCcm:
     def any_ccm(self, nonce_length, additional, rest, tag_length, encoded=2):
         """Gives a message of any length. It has no additional data, or 16 a + `additional` bytes for every a, whose length is `encoded`
         bytes long (A.2.2)."""
-        nonce, size, length = self.nonce[:nonce_length], unknown("n") * 256 + rest, unknown("a") * 16 + additional
+        nonce = self.nonce[:nonce_length]
+        size = unknown("n") * 256 + rest
+        length = unknown("a") * 16 + additional
         stream = self.pattern(self.made_once(("CCM counters", nonce_length), lambda: self.ccm_counters(nonce)))
         text, cells = self.pattern(self.block_bytes, -1), self.fresh_block("additional data", True)
         first, middle, last_value = (self.fresh_block(name) for name in ("first value", "value after additional data", "last value"))
@@ -271,7 +277,8 @@ class CmacCcm:
     # Calls that are refused, for all their arguments.
     def cmac_refused(self):
         """NO_KEY; TAG_LENGTH if it has fewer or more"""
-        n, k, tag = unknown("n"), unknown("k"), unused_buffer("tag", False)
+        n, k = unknown("n"), unknown("k")
+        tag = unused_buffer("tag", False)
         sizes = facts_of_range(n, 0, self.highest) | facts_of_range(k, 0, self.highest)
         message = [unused_buffer("message", False), n]
         yield Call("aes_cmac", [self.no_key(), *message, unused_buffer("tag")], NO_KEY, facts=sizes)

@@ -78,7 +78,9 @@ class KeyWrap:
         way = "encrypt" if wraps else "decrypt"
 
         def steps(m):
-            i, n, turn = m.steps_found, m.known(count), m.phase - start
+            i = m.steps_found
+            n = m.known(count)
+            turn = m.phase - start
             final = 0 if n == 1 else 5
             number = lambda t: m.to_bytes(t if wraps else 6 * n - t, 8)[::-1]
             if turn < 0:
@@ -148,7 +150,8 @@ class KeyWrap:
         n, r = -(-length // 8), self.block_bytes[8:]
         start, last = ICV2 + number(length, 4), r[:8 - 8 * n + length] + [0] * (8 * n - length)
         if n == 1:
-            steps, key, wrapped = None, last, self.cipher_of(start + last)
+            steps, key = None, last
+            wrapped = self.cipher_of(start + last)
         else:
             steps, key, wrapped = self.wrap_string(start, n, last)
         output = Buffer("output", self.undefined(8 * n + 8), wrapped)
@@ -161,7 +164,9 @@ class KeyWrap:
         DONE *key_length is 0. One branch judges what comes before the length, and what follows the key. `wrong_length` is a wrong length
         instead of the right one: then everything is refused. With `any_byte`, that byte of the length may have any value, and the same
         branch judges it."""
-        n, padding, r = -(-length // 8), -length % 8, self.block_bytes[8:]
+        n = -(-length // 8)
+        padding = -length % 8
+        r = self.block_bytes[8:]
         start = self.in_block(self.block_bytes[:4], 6 * n) + number(length if wrong_length is None else wrong_length, 4)
         reveals = self.aes.xor(start[:4], ICV2)
         if any_byte is not None:

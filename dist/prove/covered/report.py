@@ -16,7 +16,8 @@ KEYLESS = r"fotsgure_\w+_(?:version|wipe|wipe_message|(?:equiv_inv_)?cipher_roun
 def print_what_ran(tasks, options):
     """Prints how much of each assembly file is covered; with --lines also for each function. Gives the number of faults of those assembly
     files whose cases all ran. Faults are exports without a case, and places that aren't covered and not in the lists of uncovered.py."""
-    tasks_of, whole, faults = {}, {}, []
+    tasks_of, whole = {}, {}
+    faults = []
     for task in (task for task in tasks if task.covered):
         tasks_of.setdefault(assembly_of(task.build), []).append(task)
     for assembly, own in tasks_of.items():

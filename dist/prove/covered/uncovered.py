@@ -147,8 +147,11 @@ def recorded_name(name):
 def uncovered_functions(program, covered, by_accepted=False):
     """Gives {a function: Uncovered} of a program whose cases cover this (noted.Covered). Functions that are covered are left out. With
     `by_accepted` the ways of refusals don't count."""
-    run_addresses, same, follows = covered.run_addresses, covered.results, covered.following
-    ways, sides, out, read = {}, {}, {}, [address for address, _ in covered.looked_up]
+    run_addresses = covered.run_addresses
+    same = covered.results
+    follows = covered.following
+    ways, sides, out = {}, {}, {}
+    read = [address for address, _ in covered.looked_up]
     many_places = {address for address, times in collections.Counter(read).items() if times > 1}
     for address, way, accepts in covered.ways:
         if accepts or not by_accepted:

@@ -44,7 +44,9 @@ class AnyPiece:
 
     def next_step(self, m):
         """Gives the next step of GHASH."""
-        keyed, (groups, left), value = self.keyed, self.groups(m), functools.partial(self.value, m)
+        keyed = self.keyed
+        groups, left = self.groups(m)
+        value = functools.partial(self.value, m)
         block = lambda k: keyed.at_block(m, self.bytes, k)
         blocks = lambda group: [block(group * self.many + 1 + k) for k in range(self.many)]
         group, full = m.steps_found - 2, keyed.full_block()

@@ -19,7 +19,8 @@ class Came(namedtuple("Came", "words number rest facts")):
 
 def any_came(keyed, name, most, rest):
     """Makes a number of bytes that came before, `most` at most: 16 n + `rest` for every n."""
-    blocks, high, base = unknown("blocks of " + name), unknown("higher word of " + name), keyed.highest + 1
+    blocks, high = unknown("blocks of " + name), unknown("higher word of " + name)
+    base = keyed.highest + 1
     low, sizes = blocks * 16 + rest, keyed.domain.sizes
     sizes[blocks] = (min(most, keyed.highest) // 16).bit_length()
     if most < base:

@@ -26,7 +26,8 @@ class Hashing:
     blocks."""
 
     def __init__(self, keyed, value, made=0):
-        self.keyed, self.value, self.plan, self.made = keyed, value, [], made
+        self.keyed, self.value, self.made = keyed, value, made
+        self.plan = []
 
     def add_groups(self, groups):
         """Adds these groups to the plan. A group of zeros before which there are only zeros changes nothing."""
@@ -129,7 +130,8 @@ class KeyedHash(Keyed):
 
     def any_hash(self, m, phase, sizes):
         """Gives the next step of GHASH of additional data (phase 0) and of a text, of these sizes."""
-        middle, last, many = self.middle_value(), self.last_value(), self.blocks_at_once(m, sizes)
+        middle, last = self.middle_value(), self.last_value()
+        many = self.blocks_at_once(m, sizes)
         if phase > 1:
             return "nothing", (), ()
         if phase == 0:

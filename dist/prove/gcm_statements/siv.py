@@ -26,7 +26,9 @@ def little(n, size):
 
 class KeyedSiv(KeyedHash):
     """The statements for AES-GCM-SIV. keyed.py has those for wipe and for what set_key refuses."""
-    library, prefix, key_sizes = "siv", "gcm_siv", (16, 32)
+    library = "siv"
+    prefix = "gcm_siv"
+    key_sizes = 16, 32
 
     def size_of_struct(self):
         return self.kept_size
@@ -182,7 +184,9 @@ class KeyedSiv(KeyedHash):
     def any_open(self, additional, text, way=""):
         """The decrypted text becomes arbitrary bytes. Adding the keystream again gives the encrypted text."""
         sizes, plain, undone, tag = self.any_texts(additional, text)
-        sealed, place, right = self.pattern(self.sealed), "output" if way else "text", lambda m: self.tagged(self.any_sum(m, sizes))
+        sealed = self.pattern(self.sealed)
+        place = "output" if way else "text"
+        right = lambda m: self.tagged(self.any_sum(m, sizes))
         opened, zeros = self.aes.xor(sealed, self.pattern(self.own_stream)), [("whole", place, (sealed, ZEROS, True))] * bool(way)
         return self.any_message(
             "open", way, sizes, sealed, opened, [self.first_counter(tag), ("whole", place, (plain, undone, True))],
@@ -211,7 +215,9 @@ class KeyedSiv(KeyedHash):
 
     def refused(self):
         """TOO_LONG or NO_KEY: .. A call that doesn't return DONE has changed nothing. With _to: UNEQUAL_LENGTHS, TOO_LONG or NO_KEY"""
-        a, t, k, none, key = unknown("additional"), unknown("text"), unknown("output"), self.no_key(), self.schedule()
+        a, t, k = unknown("additional"), unknown("text"), unknown("output")
+        none = self.no_key()
+        key = self.schedule()
         most = min(MOST, self.highest)
         fits, long = facts_of_range(a, 0, most) | facts_of_range(t, 0, most), []
         if self.highest > MOST:  # (else no buffer is too long)

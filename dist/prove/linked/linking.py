@@ -20,7 +20,9 @@ class Built:
     """The libraries for one machine, which the user has built, or which the Makefile builds here. `folder` has the assembly."""
 
     def __init__(self, dist, out, folder, by_user=None):
-        self.folder, self.machine, self.out = folder, MACHINES[folder], by_user or "%s/built/%s" % (out, folder)
+        self.folder = folder
+        self.machine = MACHINES[folder]
+        self.out = by_user or "%s/built/%s" % (out, folder)
         self.members = "%s/members/%s" % (out, folder)
         if not by_user:  # (without the user's CFLAGS, which may be for another compiler)
             what = ["static"] if self.machine is Windows else ["static", "shared"]
