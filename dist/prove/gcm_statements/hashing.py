@@ -8,6 +8,7 @@ from statements.standards import ZEROS, number, padded, product
 from symbols.bits import DATA, KEY, PUBLIC
 
 Sizes = namedtuple("Sizes", "additional text")  # how many bytes of both a message has
+PlannedStep = namedtuple("PlannedStep", "value group after")  # a value of GHASH, a group, and the block that the next value becomes
 
 
 def in_groups(blocks, many=3):
@@ -21,9 +22,8 @@ def block_of_lengths(additional, text):
 
 
 class Hashing:
-    """Computes GHASH (6.4) from a value on, group by group. Each value that depends on the key becomes an arbitrary block.
-    `plan` has the steps. Each is the value before a group, the group, and the block that the next value becomes. `made` counts these
-    blocks."""
+    """Computes GHASH (6.4) from a value on, group by group. Each value that depends on the key becomes an arbitrary block. `plan` has the
+    PlannedSteps. `made` counts the blocks that values become."""
 
     def __init__(self, keyed, value, made=0):
         self.keyed, self.value, self.made = keyed, value, made
@@ -35,13 +35,13 @@ class Hashing:
             if any(self.value) or any(map(any, group)):
                 self.made += 1
                 after = self.keyed.in_block(self.keyed.hash_value, self.made)
-                self.plan.append((self.value, group, after))
+                self.plan.append(PlannedStep(self.value, group, after))
                 self.value = after
         return self
 
     def end_as(self, block):
         """Lets the last value become this block."""
-        self.plan[-1] = *self.plan[-1][:2], block
+        self.plan[-1] = self.plan[-1]._replace(after=block)
         return self
 
     def steps(self, begin=0, end=None):

@@ -3,6 +3,7 @@
 A call derives two keys for a message, and these become arbitrary bytes. So does each value that is then computed: the powers of the key for
 POLYVAL, the round keys of the other key, each value of POLYVAL, the block that is encrypted to the tag, and the tag."""
 import functools
+from collections import namedtuple
 
 from gcm_statements.gcm_header import DONE, NO_KEY, REFUSED, TOO_LONG, UNEQUAL_LENGTHS
 from gcm_statements.hashing import Hashing, KeyedHash, Sizes, in_groups
@@ -17,6 +18,7 @@ STRUCTS = {"fotsgure_gcm_siv": (484, {"key_length": 0, "round_keys": 4})}
 MOST = 2 ** 36
 COUNTER = CounterWord("counter of the tag, at any length", 0, NEVER, None)
 FEW = 160  # the code hashes up to this number of bytes block by block, and more in groups of three blocks
+Tagged = namedtuple("Tagged", "block any_block tag")  # a block, arbitrary bytes for it, and Cipher of these, which is the tag
 
 
 def little(n, size):
@@ -95,12 +97,11 @@ class KeyedSiv(KeyedHash):
         return few, hashing.add_groups(groups)
 
     def tagged(self, value):
-        """Gives the block that is encrypted to the tag: the sum of this value and the nonce, with the highest bit 0. Also gives arbitrary
-        bytes for that block, and Cipher of these."""
+        """Gives, as Tagged, the block that is encrypted to the tag: the sum of this value and the nonce, with the highest bit 0."""
         block = self.aes.xor(value[::-1], self.nonce + [0] * 4)
         block[15] = self.domain.and_byte(block[15], 127)
         any_ = [b if b < 256 else t for b, t in zip(block, self.tag_input)]
-        return block, any_, self.made_once(("tag", *any_), lambda: self.aes.cipher(any_, self.message_w))
+        return Tagged(block, any_, self.made_once(("tag", *any_), lambda: self.aes.cipher(any_, self.message_w)))
 
     def first_counter(self, tag):
         """Gives the step that makes the first counter block, which is the tag with its highest bit set."""
@@ -187,11 +188,12 @@ class KeyedSiv(KeyedHash):
         sealed = self.pattern(self.sealed)
         place = "output" if way else "text"
         right = lambda m: self.tagged(self.any_sum(m, sizes))
+        tag_step = lambda m: ("memory", right(m).block, right(m).any_block)
         opened, zeros = self.aes.xor(sealed, self.pattern(self.own_stream)), [("whole", place, (sealed, ZEROS, True))] * bool(way)
         return self.any_message(
             "open", way, sizes, sealed, opened, [self.first_counter(tag), ("whole", place, (plain, undone, True))],
-            lambda m: [("memory", *right(m)[:2]), self.first_counter(tag), *zeros], Buffer("tag", tag), plain + opened,
-            reveals=lambda m: self.aes.xor(tag, right(m)[2]), refused=REFUSED, undone=True, other_blocks=self.in_all_blocks(undone))
+            lambda m: [tag_step(m), self.first_counter(tag), *zeros], Buffer("tag", tag), plain + opened,
+            reveals=lambda m: self.aes.xor(tag, right(m).tag), refused=REFUSED, undone=True, other_blocks=self.in_all_blocks(undone))
 
     def any_texts(self, additional, text):
         """Gives the sizes, the patterns of a plain text and of the encrypted text, and the tag."""
