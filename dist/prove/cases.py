@@ -1,23 +1,26 @@
 """Lists the cases: a table of statements, their arguments, and the builds and keys that have them. tools/pages makes CASES.md of it."""
 import collections
 import itertools
-import re
 
 from aes_statements import aes, cmac_ccm
 from gcm_statements import gcm, siv
 from gcm_statements.gcm_header import ADDITIONAL, ENCRYPTING, MOST, MOST_ADDITIONAL, MOST_NONCE, PHASES, SHORT_TAGS, VERIFYING
 from gcm_statements.pre_counter import ANY_J_0_NONCE, CarryTo
-from linked.headers import version
-from linked.linking import takes_few
+from linked.builds import takes_few
 from machines.riscv import Riscv
 from remainders import AMONG_REMAINDERS, DIRECTIONS, EVERY, FEW, LENGTHS, LONGEST_CCM, PAIRS, TABLES, AtLengths
+from statements.headers import version
 
 # A statement (a method of KeyedAes, KeyedGcm or KeyedSiv, or one of TABLES), a description of its arguments, and lists of these. The page
-# says which builds and keys have a list. All builds have `most`, except those that takes_few (linking.py) names: these are compiled
+# says which builds and keys have a list. All builds have `most`, except those that takes_few (builds.py) names: these are compiled
 # from the sources of the others. Keys of 24 and 32 bytes have each call once, and the code that loops over round keys. Only the builds of
 # FIRST have `remainders` and `lengths_24_32`. These are other remainders of lengths, and each call at every length with keys of 24 and 32
-# bytes.
-Row = collections.namedtuple("Row", "name what each most first remainders keys_24_32 lengths_24_32 all_", defaults=[()] * 7)
+# bytes. left_out(word, values) says whether builds for RISC-V, with words of so many bytes, leave these arguments out.
+Row = collections.namedtuple("Row", "name what each most first remainders keys_24_32 lengths_24_32 all_ left_out",
+                             defaults=[()] * 7 + [lambda word, values: False])
+LISTS = Row._fields[2:-1]
+ON_RISCV, ON_RISCV_32 = lambda word, values: True, lambda word, values: word == 4
+ANY_COUNTER_ON_RISCV_32 = lambda word, values: word == 4 and None in values
 ONCE = [()]  # no arguments
 FIRST = "x86_64/aes", "x86_64/siv", "x86_64/gcm"  # the builds that have `first` with PROVE=builds
 
@@ -32,15 +35,17 @@ AES_ROWS = [
         most=[(way, rest) for way in DIRECTIONS for rest in range(16) if rest != 7]
              + [(way, *more) for way in DIRECTIONS for more in ((1, "_to"), (7, "_with"))],
         first=[(way, rest, "_to") for way in DIRECTIONS for rest in (0, 2, 14)],
-        lengths_24_32=[(way, 7, to) for way in DIRECTIONS for to in ("", "_to", "_with")]),
+        lengths_24_32=[(way, 7, to) for way in DIRECTIONS for to in ("", "_to", "_with")],
+        left_out=lambda word, values: word == 4 and "_to" in values),
     Row("blocks", "the direction and the number of blocks", each=[("encrypt", 2), ("encrypt", 1, "_with")],
         most=[("encrypt", n) for n in (0, 16, 17)],
         first=[(way, n, to) for way in DIRECTIONS for to in ("_to", "_with") for n in (6, 7, 8, 14, 15)],
         keys_24_32=[(way, n, to) for way in DIRECTIONS for n, to in ((2, ""), (32, ""), (1, "_to"), (1, "_with"))]),
     Row("any_low_keystream", "at 16 k + s for every k, 128 n + r bytes for every n: s, r; for every initial counter block whose low half "
         "doesn't carry", each=[(5, 122)], first=[(0, 0, "_with"), (5, 122, "_to")], remainders=EVERY["keystream"],
-        lengths_24_32=[(5, 122, way) for way in ("", "_to", "_with")]),
-    Row("any_keystream", "the same where the low half carries anywhere or nowhere", most=[(0, 0)], all_=[(5, 122), (3, 45, "_to")]),
+        lengths_24_32=[(5, 122, way) for way in ("", "_to", "_with")], left_out=ON_RISCV_32),
+    Row("any_keystream", "the same where the low half carries anywhere or nowhere", most=[(0, 0)], all_=[(5, 122), (3, 45, "_to")],
+        left_out=ON_RISCV_32),
     Row("add_keystream", "the position, the number of bytes, and before which block the low half of the counter carries, if anywhere",
         each=[(0, 33), (0, 5), (0, 15), (2 ** 64 - 21, 20), (5, 40, 2), (21, 40, 1), (21, 40, 2), (16, 64, 1), (0, 16, BLOCK_AFTER_TEXT),
              (3, 33, NO_CARRY, "_to"), (3, 33, NO_CARRY, "_with"), *FEW["add_keystream"]],
@@ -52,34 +57,37 @@ AES_ROWS = [
         first=[*((2 ** 64 - 21, 20, NO_CARRY, way) for way in ("_to", "_with")),
                *((0, n, NO_CARRY, "_to") for n in (*range(1, 9), 31, 32, 33)), *((0, n) for n in range(1, 131)),
                *((5, n) for n in (*range(1, 41), 59, 60, *range(120, 141), *range(200, 206)))],
-        all_=[(0, 33, 5)], keys_24_32=[(0, 33), (3, 33, NO_CARRY, "_to"), (3, 33, NO_CARRY, "_with")]),
+        all_=[(0, 33, 5)], keys_24_32=[(0, 33), (3, 33, NO_CARRY, "_to"), (3, 33, NO_CARRY, "_with")],
+        left_out=lambda word, values: word == 4 and values[0] >= 2 ** 36),
     Row("any_cbc_encrypt", "every number of blocks", each=ONCE, lengths_24_32=ONCE),
     Row("any_cbc_decrypt", "64 n + r blocks for every n: r", most=[9], remainders=[r * 9 % 64 for r in range(8) if r != 1],
         lengths_24_32=[9], all_=[0]),
     Row("cbc_encrypt", "the number of blocks", most=[1, 2], keys_24_32=[1]),
     Row("cbc_decrypt", "the number of blocks", each=[9], most=[0, 1, 3, 4, 8, 17, 47], first=[7, 63, 64, 65, 71, 72], keys_24_32=[1]),
-    Row("any_wrap", "a key of every number of semiblocks", most=ONCE, lengths_24_32=ONCE),
-    Row("any_unwrap", "a key of every number of semiblocks, also of what is refused", most=ONCE, lengths_24_32=ONCE),
+    Row("any_wrap", "a key of every number of semiblocks", most=ONCE, lengths_24_32=ONCE, left_out=ON_RISCV_32),
+    Row("any_unwrap", "a key of every number of semiblocks, also of what is refused", most=ONCE, lengths_24_32=ONCE,
+        left_out=ON_RISCV_32),
     Row("any_wrap_padded", "a key of 16 n + r bytes for every n: r", most=[3], first=[7, 9, 15, 16],
-        remainders=[rest for rest in range(1, 15) if rest not in (3, 7, 9)], lengths_24_32=[3]),
+        remainders=[rest for rest in range(1, 15) if rest not in (3, 7, 9)], lengths_24_32=[3], left_out=ON_RISCV_32),
     Row("any_unwrap_padded", "a key of 8 n + r bytes for every n, also of what is refused: r", most=[3], first=[1, 2, *range(4, 9)],
-        lengths_24_32=[3]),
+        lengths_24_32=[3], left_out=ON_RISCV_32),
     Row("wrap", "the number of semiblocks", each=[2], keys_24_32=[2]),
     Row("unwrap", "the number of semiblocks, also of what is refused", each=[3], keys_24_32=[3]),
     Row("wrap_padded", "the number of bytes", each=[7, 8, 9, 15], keys_24_32=[1]),
     Row("unwrap_padded", "the number of bytes, also of what is refused", each=[9], keys_24_32=[1]),
     Row("unwrap_padded_refused", "a wrong length of a key of n semiblocks: one of the three higher bytes has any value; one more, one "
         "less, 2^k and 2^k - 1 for every s-th k: n, s", most=[(1, 8)], first=[(2, 16)], all_=[(1, 1)]),
-    Row("any_cmac", "16 n + r bytes for every n: r", each=[1, 16], first=range(2, 16), lengths_24_32=[1, 16]),
+    Row("any_cmac", "16 n + r bytes for every n: r", each=[1, 16], first=range(2, 16), lengths_24_32=[1, 16], left_out=ON_RISCV_32),
     Row("any_cmac_verify", "the same, also of what is refused: r and the tag's length", each=[(1, 16)],
-        first=[*((1, tag) for tag in cmac_ccm.CMAC_TAGS[:-1]), *((rest, 16) for rest in range(2, 17))], lengths_24_32=[(1, 16)]),
+        first=[*((1, tag) for tag in cmac_ccm.CMAC_TAGS[:-1]), *((rest, 16) for rest in range(2, 17))], lengths_24_32=[(1, 16)],
+        left_out=ON_RISCV_32),
     Row("cmac", "the number of bytes", most=[0, 1, 16, 23], keys_24_32=[1]),
     Row("cmac_verify", "the number of bytes and the tag's length, also of what is refused", each=FEW["cmac_verify"],
         most=[(n, tag) for n in (0, 17) for tag in cmac_ccm.CMAC_TAGS], keys_24_32=[(0, 4)]),
     *(Row(call, "16 a + b bytes of additional data, none if b is 0, and 256 n + r of text for every a and n: the lengths of nonce, b, r, "
           "tag; the encoded length of additional data has 2 bytes, or 6 or 10 if the case names that", most=[*most, (13, 15, 255, 8)],
           first=[*first, *LONGEST_CCM], remainders=EVERY[call], lengths_24_32=[(12, 15, 33, 8)],
-          all_=[(13, 0, 16, 16), (9, 15, 255, 4, 6), (11, 9, 0, 6, 10)])
+          all_=[(13, 0, 16, 16), (9, 15, 255, 4, 6), (11, 9, 0, 6, 10)], left_out=ON_RISCV_32)
       for call, most, first in (("any_ccm_seal", (), [(8, 15, 33, 8), (8, 16, 33, 8, 6), (8, 16, 33, 8, 10)]),
                                 ("any_ccm_open", [(12, 15, 33, 8)], ()))),
     *(Row(call, "the lengths of nonce, additional data, text and tag", each=[(13, 8, 33, 8)],
@@ -95,8 +103,9 @@ NONCES = (8,), (1,), (60,), (16,), (32,)  # lengths other than 12, so that J_0 i
 FEW_COUNTERS = [None, CarryTo(3)]  # of `_next`; None: any without a carry
 CARRIES = [*map(CarryTo, (2, 1, 0)), 2 ** 96 - 2]
 MANY = 2 ** 35  # bytes, so that counts and positions don't fit into 32 bits
-SAYS_SAME, AROUND = "the same, on both sides of borders of comparisons", (15, 16, 17, 31, 32, 33)
-# Lengths of texts on both sides of the borders of comparisons: of words, blocks and batches.
+SAYS_LENGTHS = "the lengths of additional data and text, also on both sides of borders of comparisons"
+# Lengths on both sides of the borders of comparisons; those of texts are of words, blocks and batches.
+AROUND = 15, 16, 17, 31, 32, 33
 BORDERING = [*range(1, 6), *(n + by for n in (16, 32, 48, 64, 80, 112, 128, 144, 208, 256) for by in (-1, 0, 1))]
 # The lengths of additional data and text of AES-GCM-SIV; up to 160 bytes both are in one buffer.
 SHORT = [(*lengths, *way) for way in ((), ("_to",)) for lengths in ((0, 160), (0, 161), (160, 0), (161, 0), (1, 3), (1, 4))]
@@ -114,25 +123,26 @@ GCM_ROWS = [
     Row("wipe_message", "", each=ONCE), Row("set_key_of", "", each=ONCE, keys_24_32=ONCE),
     Row("set_key_of_none", "", each=ONCE),
     Row("any_seal", SAYS_WHOLE + SAYS_NONCE, each=[(13, 33)], most=[(0, 129), LONGEST], first=[(13, 33, "", 8), *LONGEST_TOO],
-        lengths_24_32=[(13, 33), (13, 33, "_to")], all_=[(0, 0), (47, 767), (13, 33, "_to"), *OTHER_NONCES]),
+        remainders=EVERY["any_seal"], lengths_24_32=[(13, 33), (13, 33, "_to")],
+        all_=[(0, 0), (47, 767), (13, 33, "_to"), *OTHER_NONCES], left_out=ON_RISCV_32),
     Row("any_open", SAYS_WHOLE + SAYS_NONCE + "; also of what is refused", most=[(13, 33), LONGEST], first=[(13, 33, "_to"), *LONGEST_TOO],
-        lengths_24_32=[(13, 33), (13, 33, "_to")], all_=[(0, 0), (47, 767), (13, 33, "", 8), *OTHER_NONCES]),
-    *(Row("any_" + call, "the same", remainders=EVERY["any_" + call]) for call in ("seal", "open")),
-    Row("any_seal_next", SAYS_WHOLE, first=[(13, 33), LONGEST], lengths_24_32=[(13, 33)], all_=[(0, 129)]),
+        remainders=EVERY["any_open"], lengths_24_32=[(13, 33), (13, 33, "_to")],
+        all_=[(0, 0), (47, 767), (13, 33, "", 8), *OTHER_NONCES], left_out=ON_RISCV_32),
+    Row("any_seal_next", SAYS_WHOLE, first=[(13, 33), LONGEST], lengths_24_32=[(13, 33)], all_=[(0, 129)], left_out=ON_RISCV_32),
     Row("any_begin", "a nonce of 48 k + r bytes for every k: r", most=[8, LONGEST[0]],
-        remainders=[19 * k % 48 for k in range(16) if k not in (5, 8)], lengths_24_32=[8], all_=[0, 12, 33, 47]),
+        remainders=[19 * k % 48 for k in range(16) if k not in (5, 8)], lengths_24_32=[8], all_=[0, 12, 33, 47],
+        left_out=ON_RISCV_32),
     *(Row("any_" + call, SAYS_PIECE % (step, ", and 7 of additional data" * (call != "additional")), first=[(3, 46)],
-          lengths_24_32=[(3, 46)], all_=[(15, 48)])
+          lengths_24_32=[(3, 46)], all_=[(15, 48)], left_out=ON_RISCV)
       for call, step in (("additional", 48), ("verify", 48), ("encrypt", 768), ("decrypt", 768), ("decrypt_unverified", 768))),
-    Row("seal", "the lengths of additional data and text, and a nonce of another length", each=[(13, 33), (13, 33, (), "_to")],
+    Row("seal", SAYS_LENGTHS + ", and a nonce of another length", each=[(13, 33), (13, 33, (), "_to"), *FEW["seal"]],
         most=[(0, 0), (0, 5), (1, 1), (13, 0), (16, 16), (20, 64), (32, 32), (49, 1), (0, 449, ANY_J_0_NONCE), (0, 0, (), "_to"),
               *((5, 20, nonce) for nonce in NONCES)],
-        first=[*((n, 0) for n in (*AROUND, 47, 48, 49)), *((13, n, (), "_to") for n in (3, 4, 31, 32))],
+        first=[*((n, 0) for n in (*AROUND, 47, 48, 49)), *((13, n, (), "_to") for n in (3, 4, 31, 32)),
+               *((13, n, ANY_J_0_NONCE) for n in (*BORDERING, 131))],
         all_=[*((5, 40, nonce) for nonce in NONCES), *((5, n, (60,)) for n in (0, 129, 300))],
         keys_24_32=[(13, 481, ANY_J_0_NONCE), (0, 0, (), "_to")]),
-    Row("seal", SAYS_SAME, first=[(13, n, ANY_J_0_NONCE) for n in (*BORDERING, 131)]),
-    *(Row(call, "at each remainder by 16, in one of both calls", each=FEW[call]) for call in ("seal", "open")),
-    Row("open", "the same, also of what is refused", each=[(13, 33), (13, 33, (), "_to")],
+    Row("open", "the same, also of what is refused", each=[(13, 33), (13, 33, (), "_to"), *FEW["open"]],
         most=[(0, 0), (13, 0), (20, 64), (0, 0, (), "_to"), (3, 20, ANY_J_0_NONCE)],
         first=[(13, n, (), "_to") for n in (3, 4, 31, 32)], all_=[(3, 20, nonce) for nonce in NONCES[1:]],
         keys_24_32=[(13, 33), (0, 0, (), "_to")]),
@@ -140,31 +150,33 @@ GCM_ROWS = [
     Row("seal_next", "the lengths of additional data and text, and the counter: if a carry comes to a byte, this byte has any value, those "
         "after it are 255, and those before it are 0",
         each=[(3, 1, counter) for counter in FEW_COUNTERS], most=[(3, 1, counter) for counter in CARRIES],
-        keys_24_32=[(3, 1, counter) for counter in FEW_COUNTERS]),
-    Row("begin_next", "the counter, as above", each=FEW_COUNTERS, most=CARRIES, keys_24_32=FEW_COUNTERS),
+        keys_24_32=[(3, 1, counter) for counter in FEW_COUNTERS], left_out=ANY_COUNTER_ON_RISCV_32),
+    Row("begin_next", "the counter, as above", each=FEW_COUNTERS, most=CARRIES, keys_24_32=FEW_COUNTERS,
+        left_out=ANY_COUNTER_ON_RISCV_32),
     Row("additional", "how many bytes came before, and how many come: it also runs beside a processor", each=[(3, 13)],
         keys_24_32=[(3, 13)]),
     Row("any_then_additional", "after 16 k + s bytes for every k, and any J_0: s, and how many bytes come", each=[(3, 13)],
         most=[(3, 5), (3, 12), (3, 100), (0, 0), (0, 5), (0, 48), (13, 13), (0, 7)],
         first=[*((s, 1) for s in range(16)), (12, 13), *((3, n) for n in range(2, 50) if n != 12)],
-        all_=[(s, n) for s in range(16) for n in (0, 16, 32)]),
-    Row("any_then_piece", "the first piece: the call; " + SAYS_CAME + ", and how many bytes come", each=[
-        (call, ADDITIONAL, 5, 0, 3) for call in PHASES],
-        most=[(call, ADDITIONAL, *numbers) for call in PHASES for numbers in ((0, 0, 16), (0, 0, 3), (5, 0, 0))],
-        all_=[(call, ADDITIONAL, s, 0, 1) for call in PHASES for s in range(16)],
-        keys_24_32=[(call, ADDITIONAL, 5, 0, 3) for call in PHASES]),
-    Row("any_then_piece", "another piece", each=[("encrypt", ENCRYPTING, 5, 0, n) for n in (64, 500)],
-        first=[("encrypt", ENCRYPTING, 5, 7, n) for n in (*range(1, 28), 57, 121)],
-        most=[(call, phase, 5, *numbers) for call, phase in PHASES.items() for numbers in ((4, 50), (7, 9), (4, 3))]),
-    Row("any_then_piece", "the same", most=[
-        *((call, phase, *numbers) for call, phase in PHASES.items() for numbers in ((5, 4, 300), (5, 11, 20), (0, 0, 0))),
-        ("encrypt", ENCRYPTING, 5, 5, 4), ("verify", VERIFYING, 0, 0, 9)],
-        first=[(call, phase, 5, t, 1) for call, phase in PHASES.items() for t in range(16)],
-        all_=[(call, phase, 5, t, n) for call, phase in PHASES.items() for t in range(16) for n in (0, 16, 32)]),
+        all_=[(s, n) for s in range(16) for n in (0, 16, 32)], left_out=ON_RISCV_32),
+    Row("any_then_piece", "the call; " + SAYS_CAME + ", and how many bytes come",
+        each=[*((call, ADDITIONAL, 5, 0, 3) for call in PHASES), *(("encrypt", ENCRYPTING, 5, 0, n) for n in (64, 500))],
+        most=[*((call, ADDITIONAL, *numbers) for call in PHASES for numbers in ((0, 0, 16), (0, 0, 3), (5, 0, 0))),
+              *((call, phase, 5, *numbers) for call, phase in PHASES.items() for numbers in (
+                  (4, 50), (7, 9), (4, 3), (4, 300), (11, 20))),
+              *((call, phase, 0, 0, 0) for call, phase in PHASES.items()),
+              ("encrypt", ENCRYPTING, 5, 5, 4), ("verify", VERIFYING, 0, 0, 9)],
+        first=[*(("encrypt", ENCRYPTING, 5, 7, n) for n in (*range(1, 28), 57, 121)),
+               *((call, phase, 5, t, 1) for call, phase in PHASES.items() for t in range(16))],
+        all_=[*((call, ADDITIONAL, s, 0, 1) for call in PHASES for s in range(16)),
+              *((call, phase, 5, t, n) for call, phase in PHASES.items() for t in range(16) for n in (0, 16, 32))],
+        keys_24_32=[(call, ADDITIONAL, 5, 0, 3) for call in PHASES],
+        left_out=lambda word, values: word == 4 and values[1] != ADDITIONAL),
     Row("any_then_decrypt", "after 16 k + s bytes of additional data and 16 m + t of a text of any length for every k and m, and any J_0: "
         "s, t, and how many bytes come",
         each=[(3, 7, 20)], most=[(3, *numbers) for numbers in ((7, 0), (7, 9), (5, 4), (0, 68), (11, 20))],
-        first=[(3, t, 1) for t in range(16)], all_=[(3, t, n) for t in range(16) for n in (0, 16, 32)], keys_24_32=[(3, 7, 20)]),
+        first=[(3, t, 1) for t in range(16)], all_=[(3, t, n) for t in range(16) for n in (0, 16, 32)], keys_24_32=[(3, 7, 20)],
+        left_out=ON_RISCV_32),
     *(Row("any_" + call, SAYS_CAME + also,
           each=[(phase, 0, 7), *each], most=[*((ADDITIONAL, n, 0) for n in (0, 5)), (phase, 5, 0), *most],
           keys_24_32=[(phase, 0, 7), *each, *((phase, 5, n) for n in ENDS)],
@@ -175,7 +187,7 @@ GCM_ROWS = [
            [(VERIFYING, 0, 7, 12), *((ADDITIONAL, 5, 0, n) for n in SHORT_TAGS)],
            [(VERIFYING, 0, 7, n) for n in SHORT_TAGS if n != 12])))]
 
-# Where calls of every length aren't proved (left_out). Some have one longer length.
+# Where calls of every length aren't proved (Row.left_out). Some have one longer length.
 LONG = 2048  # bytes
 OF_SHORT_WORDS = {
     "aes": [
@@ -187,29 +199,27 @@ OF_SHORT_WORDS = {
     "gcm": [
         Row("seal", "as above", most=[(13, LONG)]),
         Row("additional", "as above", most=[(3, 5), (3, 100), (0, 0), (0, 5), (32, 48), (2 ** 32 - 3, 13), (MANY, 7)]),
-        Row("piece", "the call; " + SAYS_STATE + "; the number of bytes; and a nonce of another length",
-            each=[("encrypt", ENCRYPTING, 5, MANY, n, (12,)) for n in (64, 500)],
-            most=[(call, phase, 5, *numbers) for call, phase in PHASES.items() for numbers in ((20, 50), (7, 9), (4, 3))]),
-        Row("piece", "the same", most=[
-            *((call, phase, *numbers) for call, phase in PHASES.items() for numbers in ((5, 20, 300), (0, 0, 0))),
-            ("encrypt", ENCRYPTING, 5, 5, 4), ("verify", VERIFYING, MANY, MANY, 9, (12,))]),
-        Row("piece", "the same, across 2^32 bytes, and up to the longest text", most=[
-            (call, phase, 5, *numbers, (12,)) for call, phase in PHASES.items() for numbers in ((2 ** 32 - 5, 20), (MOST - 9, 9))]),
+        Row("piece", "the call; " + SAYS_STATE + "; the number of bytes; and a nonce of another length; also across 2^32 bytes, and up "
+            "to the longest text", each=[("encrypt", ENCRYPTING, 5, MANY, n, (12,)) for n in (64, 500)],
+            most=[*((call, phase, 5, *numbers) for call, phase in PHASES.items() for numbers in (
+                      (20, 50), (7, 9), (4, 3), (20, 300), (2 ** 32 - 5, 20, (12,)), (MOST - 9, 9, (12,)))),
+                  *((call, phase, 0, 0, 0) for call, phase in PHASES.items()),
+                  ("encrypt", ENCRYPTING, 5, 5, 4), ("verify", VERIFYING, MANY, MANY, 9, (12,))]),
         Row("decrypt", "the length of the text, how many bytes of it came before, and how many come", each=[(100, 7, 20)],
             most=[(100, 7, 0), (100, 5, 4), (100, 32, 68), (2 * MANY, MANY - 5, 20, (12,))], keys_24_32=[(100, 7, 20)])]}
 
 SIV_ROWS = [
     Row("any_seal", SAYS_WHOLE + "; both may have 2^36 bytes", most=[(33, 77), (16, 256)],
         first=[(13, 33, "_to"), (16, 256, "_to")], remainders=EVERY["siv any_seal"], lengths_24_32=[(33, 77), (13, 33, "_to")],
-        all_=[(0, 0), (47, 767)]),
+        all_=[(0, 0), (47, 767)], left_out=ON_RISCV),
     Row("any_open", SAYS_WHOLE + "; also of what is refused", most=[(13, 33, "_to"), (13, 225)],
         first=[(16, 256), (16, 256, "_to")], remainders=EVERY["siv any_open"], lengths_24_32=[(13, 33, "_to"), (13, 225)],
-        all_=[(33, 48), (0, 0, "_to")]),
-    Row("seal", "the lengths of additional data and text", each=[(13, 33), (13, 33, "_to")],
+        all_=[(33, 48), (0, 0, "_to")], left_out=ON_RISCV),
+    Row("seal", SAYS_LENGTHS, each=[(13, 33), (13, 33, "_to")],
         most=[(13, 0), (1, 1), (13, 7), (0, 16), *SHORT],
-        first=[(a, n) for n in (0, 161) for a in (1, *AROUND, 47, 48, 49)],
+        first=[*((a, n) for n in (0, 161) for a in (1, *AROUND, 47, 48, 49)),
+               *((a, n) for a in (13, 161) for n in (*BORDERING, 67, 68, 131, 132))],
         keys_24_32=[(13, 33), (13, 33, "_to")]),
-    *(Row("seal", SAYS_SAME, first=[(a, n) for n in (*BORDERING, 67, 68, 131, 132)]) for a in (13, 161)),
     Row("open", "the same, also of what is refused", each=[(1, 1), (13, 33, "_to")], most=[(13, 0), (13, 7), (0, 16), *SHORT],
         keys_24_32=[(1, 1), (13, 33, "_to")])]
 
@@ -239,26 +249,15 @@ def rows_of(library, machine):
     if not issubclass(machine, Riscv):
         return rows
 
-    def kept(row, entries):
-        return [entry for entry in entries if not left_out(library, machine.word, row.name, as_tuple(entry))]
+    def kept(row):
+        return row._replace(**{name: [entry for entry in getattr(row, name) if not row.left_out(machine.word, as_tuple(entry))]
+                               for name in LISTS})
     more = SIV_ON_RISCV if library == "siv" else OF_SHORT_WORDS[library] if machine.word == 4 else []
-    return [Row(row.name, row.what, *(kept(row, entries) for entries in row[2:])) for row in rows] + more
+    return [*map(kept, rows), *more]
 
 
 def as_tuple(entry):
     return entry if isinstance(entry, tuple) else (entry,)
-
-
-def left_out(library, word, name, values):
-    """Whether a build for RISC-V leaves these arguments out."""
-    if name in ("any_finish", "any_accept") or name.startswith("any_then_"):
-        return word == 4 and name.startswith("any_then_") and not (name == "any_then_piece" and values[1] == ADDITIONAL)
-    if name.startswith("any_") and library != "aes":
-        return word == 4 or library == "siv" or name not in ("any_seal", "any_open", "any_seal_next", "any_begin")
-    if word == 4 and library == "aes":
-        is_late = name == "add_keystream" and values[0] >= 2 ** 36
-        return is_late or bool(re.search("any_.*(keystream|wrap|cmac|ccm)", name)) or "_to" in values and name == "any_blocks"
-    return word == 4 and library == "gcm" and None in values and name.endswith("_next")
 
 
 def arguments_taken(row, build, key_size, level):
@@ -281,7 +280,9 @@ def name_of(row, values):
 
 def statements(keyed, options, part, parts):
     """Gives the cases of one part as (what, Call). set_key was proved before."""
-    program, number, refusals = keyed.program, itertools.count(), collections.Counter()
+    program = keyed.program
+    number = itertools.count()
+    refusals = collections.Counter()
     for row in [*common_rows(keyed.library, version(options.dist, keyed.library)), *rows_of(keyed.library, program.machine)]:
         for values in arguments_taken(row, program.build, keyed.key_size, options.level):
             values = as_tuple(values)

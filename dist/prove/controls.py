@@ -13,8 +13,9 @@ from cases import LIBRARIES, statements
 from covered import uncovered, uncovered_record
 from covered.code_places import Places
 from covered.noted import joined_coverage
+from linked.builds import BUILDS, source, takes_few
 from linked.directives import refuse_lines
-from linked.linking import BUILDS, assemble, source, takes_few
+from linked.linking import assemble
 from machines.native import NEVER_ALONE, compare_all
 from machines.processors import MEANINGS, PROCESSORS
 from planted.faults import BUILDS_WITH_FAULTS, faults_of, is_unreached
@@ -127,7 +128,10 @@ def wrong_meaning(right):
     """Makes another meaning for an instruction: the first thing that it changes is off by one. If it changes nothing, the next address is.
     What it changes may be undefined. Then the next try has other values. The stack pointer is off by a word, as it has to be aligned."""
     def meaning(m, name, *operands):
-        general, vectors, flags, written = dict(m.general), list(m.vectors), m.flags, m.last_written
+        general = dict(m.general)
+        vectors = list(m.vectors)
+        flags = m.flags
+        written = m.last_written
         right(m, name, *operands)
         registers = [r for r in m.general if m.general[r] is not general[r]]
         numbers = [n for n, v in enumerate(m.vectors) if v is not vectors[n]]
@@ -171,7 +175,8 @@ def try_wrong_meanings(options, machine):
 
 
 def main():
-    options, refused, missed = options_of(__doc__, "builds"), 0, 0
+    options = options_of(__doc__, "builds")
+    refused, missed = 0, 0
     tries = [(try_faults, build) for build in BUILDS_WITH_FAULTS if build in options.builds]
     if not options.only:
         tries += [(try_wrong_meanings, machine) for machine in set(MEANINGS.values()) if not PROCESSORS[machine].missing()]

@@ -5,7 +5,8 @@ import gc
 import time
 
 from cases import FIRST, LIBRARIES, statements
-from linked.linking import BUILDS, is_windows, narrow_word, program_of, takes_few
+from linked.builds import BUILDS, is_windows, narrow_word, takes_few
+from linked.linking import program_of
 from linked.program import Program
 from machines.native import compare_all
 from machines.operands import lanes
@@ -33,12 +34,15 @@ class Task:
         kept_key          how set_key stores keys; and `covered`: what the cases cover. They are None until all cases have run"""
 
     def __init__(self, options, build, key_size, part, parts):
-        self.options, self.build, self.machine, self.key_size, self.part, self.parts = options, build, BUILDS[build], key_size, part, parts
+        self.options, self.build, self.machine = options, build, BUILDS[build]
+        self.key_size, self.part, self.parts = key_size, part, parts
         self.library = build.split("/")[1][:3]
         self.name = "%s.s, key of %d bytes" % (build, key_size) + ", part %d of %d" % (part + 1, parts) * (parts > 1)
         self.path = "%s/%s_%d_%d" % (options.out, build.replace("/", "_"), key_size, part)
-        self.proved, self.failed, self.vectors = -bool(part), 0, 0  # (set_key counts once)
-        self.used, self.compared, self.calls = {}, set(), set()
+        self.proved = -bool(part)  # (set_key counts once)
+        self.failed, self.vectors = 0, 0
+        self.used = {}
+        self.compared, self.calls = set(), set()
         self.kept_key, self.covered = None, None
 
     def run(self):
@@ -134,7 +138,9 @@ def compare_forms(pool, tasks):
     most_last = sorted(tasks, key=lambda task: len(task.used))  # so that few files are needed for all forms
     forms = {(MEANINGS[task.machine], form): (task.path, address) for task in most_last for form, address in task.used.items()}
     in_calls = {(MEANINGS[task.machine], form) for task in tasks for form in task.compared}
-    programs, lacking, differed = {}, [], 0
+    programs = {}
+    lacking = []
+    differed = 0
     for (machine, form), (path, address) in forms.items():
         programs.setdefault((path, machine), {})[form] = address
     futures = [(pool.submit(compare_each_form, path, machine, dict(part)), path, machine) for (path, machine), used in programs.items()

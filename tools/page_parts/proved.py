@@ -19,8 +19,8 @@ This page is made by `tools/pages` from [cases.py](cases.py). [The first page](R
 
 Each row is a statement: a method of `KeyedAes`, `KeyedGcm` or `KeyedSiv`. Its docstring quotes the header. A statement whose name begins
 with `any_` is proved at every length of the form in its row. Others are proved at the lengths that are listed. A semicolon separates
-entries of a list. `_to` and `_with` are the calls with these endings. If a nonce doesn't have 12 bytes, J_0 is any block. In messages in
-pieces it is any block with every nonce.
+entries of a list. Long lists go on in the next rows. `_to` and `_with` are the calls with these endings. If a nonce doesn't have 12 bytes,
+J_0 is any block. In messages in pieces it is any block with every nonce.
 
 - *Each*: all builds, with keys of 16 bytes.
 - *Most*: with keys of 16 bytes, all builds except `_v1` and those for Windows and RISC-V. Without `PROVE` also not `_v3`.
@@ -40,8 +40,8 @@ RISCV = """
 `riscv32/aes.s` and `riscv32/gcm.s` also have these rows. Below them are the entries of *each* and *most* that RISC-V leaves out.
 """
 TITLES = {"aes": "fotsgure_aes.h", "gcm": "fotsgure_gcm.h", "siv": "fotsgure_gcm.h: AES-GCM-SIV"}
-COLUMNS = cases.Row._fields[2:]
 NONE = "-"
+MOST_CHARACTERS = 300  # of a cell of a table, as tools/pages says
 
 
 def value_in_words(value):
@@ -86,19 +86,29 @@ def runs(entries, place):
 
 
 def list_in_words(values):
+    """Gives the cells of a list: more than one if it is too long for one."""
     entries = [value if isinstance(value, tuple) else (value,) for value in values]
     for place in range(max(map(len, entries), default=0)):
         entries = [*runs(entries, place)]
-    return "; ".join(map(entry_in_words, entries)) or NONE
+    cells = []
+    for entry in map(entry_in_words, entries):
+        if cells and len(cells[-1]) + len("; " + entry) <= MOST_CHARACTERS:
+            cells[-1] += "; " + entry
+        else:
+            cells.append(entry)
+    return cells or [NONE]
 
 
-def line_of_row(row):
-    return f"| `{row.name}` | {row.what or NONE} | " + " | ".join(list_in_words(getattr(row, column)) for column in COLUMNS) + " |"
+def lines_of_row(row):
+    """Gives the lines of a statement. Those after the first one have what is left of long lists."""
+    lists = itertools.zip_longest(*(list_in_words(getattr(row, name)) for name in cases.LISTS), fillvalue=NONE)
+    for what, cells in zip(itertools.chain([row.what or NONE], itertools.repeat("more of these")), lists):
+        yield f"| `{row.name}` | {what} | " + " | ".join(cells) + " |"
 
 
 def table(rows):
     head = "| statement | its arguments | each | most | first | remainders | 24, 32 | lengths 24, 32 | all |"
-    return "\n".join([head, "|---" * 9 + "|", *map(line_of_row, rows)])
+    return "\n".join([head, "|---" * 9 + "|", *(line for row in rows for line in lines_of_row(row))])
 
 
 def left_out_of(library, rows, machine):
@@ -106,8 +116,8 @@ def left_out_of(library, rows, machine):
     kept = {id(row): [*each, *most] for row, (_, _, each, most, *_) in zip(rows, cases.rows_of(library, machine))}
     for row in rows:
         left_out = [values for values in [*row.each, *row.most] if values not in kept[id(row)]]
-        if left_out:
-            yield f"| {8 * machine.word} | {TITLES[library]} | `{row.name}` | {list_in_words(left_out)} |"
+        for cell in list_in_words(left_out) if left_out else ():
+            yield f"| {8 * machine.word} | {TITLES[library]} | `{row.name}` | {cell} |"
 
 
 def report():

@@ -48,7 +48,9 @@ class KeyedAes(SingleRounds, CmacCcm, KeyWrap, Keyed):
                     plain=self.in_all_blocks(plain), facts=facts, **more)
 
     def any_blocks(self, direction, rest, way="", step=16):
-        count, content, want = unknown("n") * step + rest, self.pattern(self.block_bytes), self.pattern(self.ciphers[direction])
+        count = unknown("n") * step + rest
+        content = self.pattern(self.block_bytes)
+        want = self.pattern(self.ciphers[direction])
         return self.call_of_any_count("aes_%s_blocks" % direction, [], content, want, count, count * 16,
                                       content if direction == "encrypt" else want, way)
 
@@ -59,8 +61,12 @@ class KeyedAes(SingleRounds, CmacCcm, KeyWrap, Keyed):
     def any_keystream(self, skip, rest, way="", wrap=unknown("wrap"), step=128):
         """States counter mode at every position 16 k + `skip`, for any initial counter block. The low half carries at any place, or
         nowhere."""
-        before, d, count = unknown("before"), self.domain, unknown("n") * step + rest
-        name, end, places = "counter low, any count", before * 16 + skip + count, range(skip, skip + 16)
+        before = unknown("before")
+        d = self.domain
+        count = unknown("n") * step + rest
+        name = "counter low, any count"
+        end = before * 16 + skip + count
+        places = range(skip, skip + 16)
         low, streams, data = self.counter_blocks()
         d.placed[name] = lambda number, k: d.bits(d.byte_in_block(low[7 - k], number))
         self.key_domain.placed[name] = lambda number, k: None
@@ -81,7 +87,9 @@ class KeyedAes(SingleRounds, CmacCcm, KeyWrap, Keyed):
                                       keystream=self.in_all_blocks(self.pattern(sum(streams, []))))
 
     def any_cbc_decrypt(self, rest, step=64):
-        content, previous, count = self.pattern(self.block_bytes), self.pattern(self.block_bytes, -1), unknown("n") * step + rest
+        content = self.pattern(self.block_bytes)
+        previous = self.pattern(self.block_bytes, -1)
+        count = unknown("n") * step + rest
         between = self.pattern(self.ciphers["decrypt"])
         want = self.aes.xor(between, previous)
         cbc = Buffer("cbc", previous, self.in_last_block(content, count))
@@ -90,7 +98,9 @@ class KeyedAes(SingleRounds, CmacCcm, KeyWrap, Keyed):
 
     def any_cbc_encrypt(self):
         """States CBC encryption of every length. A plain block has the number of the encrypted block before it."""
-        (chain, chained), count, d = self.chain(), unknown("n"), self.domain
+        chain, chained = self.chain()
+        count = unknown("n")
+        d = self.domain
         content, want = self.pattern(self.block_bytes, -1), self.pattern(chain)
 
         def steps(m):
@@ -154,7 +164,9 @@ class KeyedAes(SingleRounds, CmacCcm, KeyWrap, Keyed):
 
         def make():
             places = range(0, 16 - size * (full + 2), size)
-            low, fixed, next_ = word(16 - size, True), [word(at) for at in places], [word(len(places) * size) for _ in range(2)]
+            low = word(16 - size, True)
+            fixed = [word(at) for at in places]
+            next_ = [word(len(places) * size) for _ in range(2)]
             names = self.higher_words(full)
             parts = [(Pointer(names[-1], carry), bytes_) for carry, bytes_ in enumerate(next_)]
             parts += [(Pointer(base, 0), bytes_) for base, bytes_ in zip(names, fixed)] + [(None, low)]
@@ -174,7 +186,9 @@ class KeyedAes(SingleRounds, CmacCcm, KeyWrap, Keyed):
 
     def counter_words(self, domain, first, full=0):
         """Gives the bytes of an `iv` of unknown value, the highest first, and the name of its lowest word."""
-        d, size, low = self.domain, self.address, self.counter_blocks(full)[0]
+        d = self.domain
+        size = self.address
+        low = self.counter_blocks(full)[0]
         name = "counter low, from %d" % first + ", %d full" % full * bool(full)
         d.bits_of_word[name] = lambda offset, k: d.bits(d.byte_in_block(low[size - 1 - k], offset - first + 1))
         words = [[domain.opaque((Pointer(base, 0), k)) for k in range(size)][::-1] for base in (*self.higher_words(full), name)]
@@ -278,8 +292,11 @@ class KeyedAes(SingleRounds, CmacCcm, KeyWrap, Keyed):
         return Buffer("ctr", *2 * [self.data_blocks(1) + self.unknown_number(position)], align=8)
 
     def keystream_refused(self, key, none, sizes):
-        n, k, (position, position_facts) = unknown("n"), unknown("k"), self.number_of_words("position")
-        ctr, sizes, bytes_ = self.ctr(position), sizes | position_facts, unused_buffer("bytes")
+        n, k = unknown("n"), unknown("k")
+        position, position_facts = self.number_of_words("position")
+        ctr = self.ctr(position)
+        sizes = sizes | position_facts
+        bytes_ = unused_buffer("bytes")
         to = lambda aes, n, k: [aes, ctr, unused_buffer("input", False), n, unused_buffer("output"), k]
         passes, stays = {position + n - WORD - 1}, {WORD - position - n}
         for aes, facts, status in ((none, stays, NO_KEY), (none, passes, KEYSTREAM_END), (key, passes, KEYSTREAM_END)):

@@ -173,7 +173,9 @@ class CmacCcm:
         """Decrypts `text_length` bytes in place if the tag is right (6.2). The tag can be compared only once the text is decrypted. So
         a refused text is encrypted again, and is unchanged when the call returns. .. REFUSED; else DONE"""
         message = self.ccm_message(nonce_length, additional_length, text_length, tag_length)
-        nonce, text, tag = self.nonce[:nonce_length], message.text, self.tag[:tag_length]
+        nonce = self.nonce[:nonce_length]
+        text = message.text
+        tag = self.tag[:tag_length]
         sealed = self.in_blocks(self.sealed, text_length, 16 * message.start)
         opened, stream = self.ccm_crypted(nonce, sealed)
 
@@ -197,7 +199,9 @@ class CmacCcm:
         return self.aes.cipher([14 - len(nonce)] + nonce[:7] + low, self.round_key_words)
 
     def ccm_counter_word(self, nonce, size):
-        of, high, low = 15 - len(nonce), [14 - len(nonce)] + nonce[:7], nonce[7:] + [0] * (15 - len(nonce))
+        of = 15 - len(nonce)
+        high = [14 - len(nonce)] + nonce[:7]
+        low = nonce[7:] + [0] * (15 - len(nonce))
         words = {tuple(low[::-1]): Pointer("CCM low, %d" % of, 0), tuple(high[::-1]): Pointer("CCM high, %d" % of, 0)}
         return CounterWord("CCM low, %d" % of, 1, NEVER, size.divided(16)[0] + 2 + BATCH, words)
 
@@ -221,7 +225,9 @@ class CmacCcm:
     def any_ccm(self, nonce_length, additional, rest, tag_length, encoded=2):
         """Gives a message of any length. It has no additional data, or 16 a + `additional` bytes for every a, whose length is `encoded`
         bytes long (A.2.2)."""
-        nonce, size, length = self.nonce[:nonce_length], unknown("n") * 256 + rest, unknown("a") * 16 + additional
+        nonce = self.nonce[:nonce_length]
+        size = unknown("n") * 256 + rest
+        length = unknown("a") * 16 + additional
         stream = self.pattern(self.made_once(("CCM counters", nonce_length), lambda: self.ccm_counters(nonce)))
         text, cells = self.pattern(self.block_bytes, -1), self.fresh_block("additional data", True)
         first, middle, last_value = (self.fresh_block(name) for name in ("first value", "value after additional data", "last value"))
@@ -271,7 +277,8 @@ class CmacCcm:
     # Calls that are refused, for all their arguments.
     def cmac_refused(self):
         """NO_KEY; TAG_LENGTH if it has fewer or more"""
-        n, k, tag = unknown("n"), unknown("k"), unused_buffer("tag", False)
+        n, k = unknown("n"), unknown("k")
+        tag = unused_buffer("tag", False)
         sizes = facts_of_range(n, 0, self.highest) | facts_of_range(k, 0, self.highest)
         message = [unused_buffer("message", False), n]
         yield Call("aes_cmac", [self.no_key(), *message, unused_buffer("tag")], NO_KEY, facts=sizes)
@@ -283,17 +290,18 @@ class CmacCcm:
         """NO_KEY, TAG_LENGTH, NONCE_LENGTH or TOO_LONG, the first of them that applies"""
         n, a, t, k = (unknown(name) for name in ("nonce", "additional", "text", "tag"))
         sizes = {f for x in (n, a, t, k) for f in facts_of_range(x, 0, self.highest)}
-        right = sizes | facts_of_range(k, 0, len(CCM_TAGS) - 1), CCM_TAGS[0] + 2 * k  # every tag's length
+        right_facts, right_tag = sizes | facts_of_range(k, 0, len(CCM_TAGS) - 1), CCM_TAGS[0] + 2 * k  # every tag's length
         wrong = self.lengths_but(CCM_TAGS, "length")
         if self.program.machine.relaxed:
             # RISC-V's code adds a tag's lowest bit to a comparison: of a number that isn't known this says nothing.
             others = 17, 18, 2 ** 8 + 8, 2 ** 16 + 8, 2 ** 31 + 8, 2 ** 32 + 8, self.highest - 7
-            right, wrong = (sizes, CCM_TAGS[-1]), [*wrong[:-1], *((length, set()) for length in others if length <= self.highest)]
+            right_facts, right_tag = sizes, CCM_TAGS[-1]
+            wrong = [*wrong[:-1], *((length, set()) for length in others if length <= self.highest)]
         refusals = [(self.no_key(), n, k, NO_KEY, sizes)]
         refusals += [(self.schedule(), n, length, TAG_LENGTH, sizes | facts) for length, facts in wrong]
-        refusals += [(self.schedule(), length, right[1], NONCE_LENGTH, right[0] | facts)
+        refusals += [(self.schedule(), length, right_tag, NONCE_LENGTH, right_facts | facts)
                      for length, facts in self.lengths_but(NONCES, "length")]
-        refusals += [(self.schedule(), length, right[1], TOO_LONG, right[0] | facts_of_range(t, 1 << 8 * (15 - length), self.highest))
+        refusals += [(self.schedule(), length, right_tag, TOO_LONG, right_facts | facts_of_range(t, 1 << 8 * (15 - length), self.highest))
                      for length in NONCES[1:] if self.highest >> 8 * (15 - length)]
         for (aes, nonce, tag, status, facts), call in itertools.product(refusals, ("seal", "open")):
             yield Call("aes_ccm_" + call, [aes, unused_buffer("nonce", False), nonce, unused_buffer("additional", False), a,

@@ -1,10 +1,15 @@
 """States the calls of fotsgure_aes.h for key wrap (SP 800-38F, 6.1 to 6.3). Each statement quotes the sentence of the header that it
 proves."""
+from collections import namedtuple
+
 from loops.linear import unknown
 from statements.calls import Buffer, Call, Stream
 from statements.keyed import DONE, INVALID_COUNT, NO_KEY, REFUSED, facts_of_range, unused_buffer, unequal
 from statements.standards import ICV1, ICV2, ZEROS, number
 from symbols.bits import DATA
+
+# A and a semiblock before a step, the patterns of semiblocks before and after a turn, and A after each of the six turns.
+Semiblocks = namedtuple("Semiblocks", "a before_step before_turn after_turn a_after_turns")
 
 
 class KeyWrap:
@@ -57,9 +62,10 @@ class KeyWrap:
     # of the block before (at_link). The first semiblock is number 0, or the last one is if W goes backwards. Each semiblock becomes other
     # bytes, which are those of block i. After a turn A becomes arbitrary bytes again.
     def semiblocks(self):
-        """Gives A and a semiblock before a step, the patterns of semiblocks before and after a turn, and A after each turn."""
-        a, r, made = self.block_bytes[:8], self.block_bytes[8:], self.semiblock("semiblock", True)
-        return a, r, self.pattern(r, -1), self.pattern(made), [self.semiblock("turn %d" % k) for k in range(1, 7)]
+        """Gives the Semiblocks of all calls."""
+        a, r = self.block_bytes[:8], self.block_bytes[8:]
+        made = self.semiblock("semiblock", True)
+        return Semiblocks(a, r, self.pattern(r, -1), self.pattern(made), [self.semiblock("turn %d" % k) for k in range(1, 7)])
 
     def semiblock(self, name, *of_block):
         return self.made_once(name, lambda: [self.domain.fresh("%s, byte %d" % (name, i), DATA, *of_block) for i in range(8)])
@@ -72,7 +78,9 @@ class KeyWrap:
         way = "encrypt" if wraps else "decrypt"
 
         def steps(m):
-            i, n, turn = m.steps_found, m.known(count), m.phase - start
+            i = m.steps_found
+            n = m.known(count)
+            turn = m.phase - start
             final = 0 if n == 1 else 5
             number = lambda t: m.to_bytes(t if wraps else 6 * n - t, 8)[::-1]
             if turn < 0:
@@ -92,31 +100,34 @@ class KeyWrap:
         return steps
 
     def any_wrap(self):
-        n, (_, _, key, _, _) = unknown("n"), self.semiblocks()
+        n, key = unknown("n"), self.semiblocks().before_turn
         return self.any_wrapping("aes_wrap", Stream("input", n * 8, key), n, n, ICV1, {n - 2, (1 << 54) - 1 - n})
 
     def any_wrapping(self, name, key, given, count, first, facts, start=0, **more):
-        _, _, _, wrapped, turns = self.semiblocks()
-        output = Stream("output", count * 8, self.undefined(8), **{"after": wrapped, **more}, head=(self.undefined(8), turns[5]))
+        parts = self.semiblocks()
+        last = parts.a_after_turns[-1]
+        output = Stream("output", count * 8, self.undefined(8), **{"after": parts.after_turn, **more}, head=(self.undefined(8), last))
         return Call(name, [self.schedule(), key, given, output, count + 1], DONE, facts=facts, plain=self.in_all_blocks(key.content),
-                    steps=self.any_turns(True, count, first, turns[5], first, start))
+                    steps=self.any_turns(True, count, first, last, first, start))
 
     def any_unwrap(self):
-        n, last = unknown("n"), self.semiblocks()[4][5]
+        n, last = unknown("n"), self.semiblocks().a_after_turns[-1]
         return self.any_unwrapping("aes_unwrap", last, self.aes.xor(last, ICV1), {n - 2, (1 << 54) - 1 - n})
 
     def any_unwrapping(self, name, last, reveals, facts, *more, **refused):
-        n, (a, _, wrapped, key, _) = unknown("n"), self.semiblocks()
-        before = self.aes.xor(a, self.highest_first(n * 6, 8))
-        input_ = Stream("input", n * 8, wrapped, head=(self.pattern(before, -1), None), backwards=True)
+        n, parts = unknown("n"), self.semiblocks()
+        key = parts.after_turn
+        before = self.aes.xor(parts.a, self.highest_first(n * 6, 8))
+        input_ = Stream("input", n * 8, parts.before_turn, head=(self.pattern(before, -1), None), backwards=True)
         output = Stream("output", n * 8, self.undefined(8), key, backwards=True)
         return Call(name, [self.schedule(), input_, n + 1, output, n, *more], DONE, plain=self.in_all_blocks(key), facts=facts,
-                    reveals=reveals, steps=self.any_turns(False, n, a, last, before), refused=REFUSED, **refused)
+                    reveals=reveals, steps=self.any_turns(False, n, parts.a, last, before), refused=REFUSED, **refused)
 
     def any_wrap_padded(self, rest):
         """States key wrap of 16 k + `rest` bytes, since the code fills up two semiblocks at once. `rest` is from 1 to 16."""
-        k, (_, r, key, _, _) = unknown("k"), self.semiblocks()
-        length, n, last = k * 16 + rest, k * 2 + (rest + 7) // 8, self.pattern(r[:(rest - 1) % 8 + 1], -1) + ZEROS
+        k, parts = unknown("k"), self.semiblocks()
+        length, n = k * 16 + rest, k * 2 + (rest + 7) // 8
+        key, last = parts.before_turn, self.pattern(parts.before_step[:(rest - 1) % 8 + 1], -1) + ZEROS
 
         def choose(m, number):
             below = m.is_below(number, m.known(n - 1))
@@ -126,11 +137,11 @@ class KeyWrap:
 
     def any_unwrap_padded(self, rest):
         """States unwrapping of keys of 8 n - 8 + `rest` bytes. `rest` is from 1 to 8."""
-        n, (_, _, _, key, turns) = unknown("n"), self.semiblocks()
+        n, parts = unknown("n"), self.semiblocks()
         length, none = n * 8 - 8 + rest, [0] * self.address
-        start = turns[5][:4] + self.highest_first(length, 4)
+        start = parts.a_after_turns[-1][:4] + self.highest_first(length, 4)
         return self.any_unwrapping(
-            "aes_unwrap_padded", start, self.aes.xor(start[:4], ICV2) + key[rest:], {n - 1, (1 << 32) - 1 - length},
+            "aes_unwrap_padded", start, self.aes.xor(start[:4], ICV2) + parts.after_turn[rest:], {n - 1, (1 << 32) - 1 - length},
             self.length_of_key(start[:3:-1] + [0] * 4), refused_after={"key_length": none})
 
     def wrap_padded(self, length):
@@ -139,7 +150,8 @@ class KeyWrap:
         n, r = -(-length // 8), self.block_bytes[8:]
         start, last = ICV2 + number(length, 4), r[:8 - 8 * n + length] + [0] * (8 * n - length)
         if n == 1:
-            steps, key, wrapped = None, last, self.cipher_of(start + last)
+            steps, key = None, last
+            wrapped = self.cipher_of(start + last)
         else:
             steps, key, wrapped = self.wrap_string(start, n, last)
         output = Buffer("output", self.undefined(8 * n + 8), wrapped)
@@ -152,7 +164,9 @@ class KeyWrap:
         DONE *key_length is 0. One branch judges what comes before the length, and what follows the key. `wrong_length` is a wrong length
         instead of the right one: then everything is refused. With `any_byte`, that byte of the length may have any value, and the same
         branch judges it."""
-        n, padding, r = -(-length // 8), -length % 8, self.block_bytes[8:]
+        n = -(-length // 8)
+        padding = -length % 8
+        r = self.block_bytes[8:]
         start = self.in_block(self.block_bytes[:4], 6 * n) + number(length if wrong_length is None else wrong_length, 4)
         reveals = self.aes.xor(start[:4], ICV2)
         if any_byte is not None:

@@ -87,7 +87,11 @@ class Results(FollowingResults):
     # of those that don't read their first operand. Whole names: those of instructions with two results, of comparisons, of moves, of
     # instructions that give 0 if their operands are the same, and of those that clear all of a vector but the first eight bytes. `implicit`
     # is {name: registers that the operands don't name}.
-    stores, two_results, compares, first_lane, implicit = "(?!)", "(?!)", "(?!)", "(?!)", {}
+    stores = "(?!)"
+    two_results = "(?!)"
+    compares = "(?!)"
+    first_lane = "(?!)"
+    implicit = {}
 
     def run_noted(self, instruction):
         """Runs an instruction, and notes its result."""

@@ -26,8 +26,9 @@ class Noted:
         finished_addresses  where neither results nor what follows is noted any more"""
 
     def __init__(self):
-        self.accepts, self.ways, self.looked_up, self.nearest = True, set(), set(), {}
-        self.results, self.judged_operands, self.finished_addresses, self.changing_results = {}, {}, set(), {}
+        self.accepts = True
+        self.ways, self.looked_up, self.finished_addresses = set(), set(), set()
+        self.nearest, self.results, self.changing_results, self.judged_operands = {}, {}, {}, {}
         self.following, self.earlier_following = {}, {}
 
     def covered(self, run_addresses):

@@ -147,8 +147,11 @@ def recorded_name(name):
 def uncovered_functions(program, covered, by_accepted=False):
     """Gives {a function: Uncovered} of a program whose cases cover this (noted.Covered). Functions that are covered are left out. With
     `by_accepted` the ways of refusals don't count."""
-    run_addresses, same, follows = covered.run_addresses, covered.results, covered.following
-    ways, sides, out, read = {}, {}, {}, [address for address, _ in covered.looked_up]
+    run_addresses = covered.run_addresses
+    same = covered.results
+    follows = covered.following
+    ways, sides, out = {}, {}, {}
+    read = [address for address, _ in covered.looked_up]
     many_places = {address for address, times in collections.Counter(read).items() if times > 1}
     for address, way, accepts in covered.ways:
         if accepts or not by_accepted:
@@ -183,8 +186,8 @@ def summary(program, found):
         set().union(*some) for some in zip(*found.values())) if found else [set()] * 7
     jumps, values = ("%d of %d" % (len(some - idle - once), len(some)) for some, once in zip(kinds, (one_way, one_value)))
     return ("%d of %d instructions ran; %s conditional jumps and adds with carry led both ways; %s conditions chose both values; "
-            "%d comparisons not at their border; %d results always the same; %d look-ups of constants; %d results that follow a number" % (
-                len(all_ - idle), len(all_), jumps, values, *map(len, (apart, same, look_ups, follows))))
+            "%d comparisons never tried at their border; %d results always the same; %d look-ups of constants; "
+            "%d results that follow a number" % (len(all_ - idle), len(all_), jumps, values, *map(len, (apart, same, look_ups, follows))))
 
 
 def entries(all_, assembly, name):

@@ -8,9 +8,8 @@ import os
 
 from covered.code_places import Places
 from covered.uncovered import REASONS, Uncovered, entries, recorded_name
-from linked.linking import PROVE_FOLDER
 
-PATH = os.path.join(PROVE_FOLDER, "uncovered.tsv")
+PATH = os.path.join(os.path.dirname(os.path.dirname(os.path.abspath(__file__))), "uncovered.tsv")
 KINDS = {"idle": "parts that don't run", "one_way": "conditional jumps and adds with carry that go one way",
          "one_value": "conditions that choose the same value", "apart": "comparisons that aren't tried at their border",
          "same": "results that are always the same", "look_ups": "instructions that read constants from several places",

@@ -5,6 +5,9 @@ from gcm_statements.gcm_header import ADDITIONAL, MOST, MOST_ADDITIONAL
 from loops.linear import unknown
 from statements.standards import number
 
+# The numbers of a message in pieces: how many bytes of additional data and of text came, how many were decrypted, and its phase.
+Counts = namedtuple("Counts", "additional text decrypted phase")
+
 
 class Came(namedtuple("Came", "words number rest facts")):
     """Says how many bytes came before a call: 16 n + `rest` for every n. It has the words of that number, the number, and facts of
@@ -16,7 +19,8 @@ class Came(namedtuple("Came", "words number rest facts")):
 
 def any_came(keyed, name, most, rest):
     """Makes a number of bytes that came before, `most` at most: 16 n + `rest` for every n."""
-    blocks, high, base = unknown("blocks of " + name), unknown("higher word of " + name), keyed.highest + 1
+    blocks, high = unknown("blocks of " + name), unknown("higher word of " + name)
+    base = keyed.highest + 1
     low, sizes = blocks * 16 + rest, keyed.domain.sizes
     sizes[blocks] = (min(most, keyed.highest) // 16).bit_length()
     if most < base:
@@ -41,10 +45,10 @@ def with_more(keyed, m, n, count):
     return n._replace(words=[low + count - carries * (keyed.highest + 1), *(word + carries for word in high)])
 
 
-def bytes_of_counts(keyed, *numbers):
-    """Gives the bytes of numbers of 64 bits, which may be unknown."""
+def bytes_of_counts(keyed, counts):
+    """Gives the bytes of Counts in a message. Each is a number of 64 bits, which may be unknown."""
     words = lambda n: n.words if isinstance(n, Came) else [n]
-    return [b for n in numbers for b in (number(n, 8)[::-1] if isinstance(n, int) else keyed.words(words(n)))]
+    return [b for n in counts for b in (number(n, 8)[::-1] if isinstance(n, int) else keyed.words(words(n)))]
 
 
 def length_in_bits(keyed, m, n):

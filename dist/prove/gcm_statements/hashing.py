@@ -1,10 +1,14 @@
 """Has GHASH (SP 800-38D, 6.4) for statements of GCM and of AES-GCM-SIV. When a call has made a value of it, that becomes an arbitrary
 block."""
 import functools
+from collections import namedtuple
 
 from statements.keyed import Keyed
 from statements.standards import ZEROS, number, padded, product
 from symbols.bits import DATA, KEY, PUBLIC
+
+Sizes = namedtuple("Sizes", "additional text")  # how many bytes of both a message has
+PlannedStep = namedtuple("PlannedStep", "value group after")  # a value of GHASH, a group, and the block that the next value becomes
 
 
 def in_groups(blocks, many=3):
@@ -18,12 +22,12 @@ def block_of_lengths(additional, text):
 
 
 class Hashing:
-    """Computes GHASH (6.4) from a value on, group by group. Each value that depends on the key becomes an arbitrary block.
-    `plan` has the steps. Each is the value before a group, the group, and the block that the next value becomes. `made` counts these
-    blocks."""
+    """Computes GHASH (6.4) from a value on, group by group. Each value that depends on the key becomes an arbitrary block. `plan` has the
+    PlannedSteps. `made` counts the blocks that values become."""
 
     def __init__(self, keyed, value, made=0):
-        self.keyed, self.value, self.plan, self.made = keyed, value, [], made
+        self.keyed, self.value, self.made = keyed, value, made
+        self.plan = []
 
     def add_groups(self, groups):
         """Adds these groups to the plan. A group of zeros before which there are only zeros changes nothing."""
@@ -31,13 +35,13 @@ class Hashing:
             if any(self.value) or any(map(any, group)):
                 self.made += 1
                 after = self.keyed.in_block(self.keyed.hash_value, self.made)
-                self.plan.append((self.value, group, after))
+                self.plan.append(PlannedStep(self.value, group, after))
                 self.value = after
         return self
 
     def end_as(self, block):
         """Lets the last value become this block."""
-        self.plan[-1] = *self.plan[-1][:2], block
+        self.plan[-1] = self.plan[-1]._replace(after=block)
         return self
 
     def steps(self, begin=0, end=None):
@@ -126,13 +130,14 @@ class KeyedHash(Keyed):
 
     def any_hash(self, m, phase, sizes):
         """Gives the next step of GHASH of additional data (phase 0) and of a text, of these sizes."""
-        middle, last, many = self.middle_value(), self.last_value(), self.blocks_at_once(m, sizes)
+        middle, last = self.middle_value(), self.last_value()
+        many = self.blocks_at_once(m, sizes)
         if phase > 1:
             return "nothing", (), ()
         if phase == 0:
-            return self.any_group(m, ZEROS, self.additional_bytes, sizes[0], many, [], middle)
-        before = ZEROS if m.known(sizes[0]) == 0 else middle
-        return self.any_group(m, before, self.hashed_text, sizes[1], many, [self.any_lengths(m, sizes)], last)
+            return self.any_group(m, ZEROS, self.additional_bytes, sizes.additional, many, [], middle)
+        before = ZEROS if m.known(sizes.additional) == 0 else middle
+        return self.any_group(m, before, self.hashed_text, sizes.text, many, [self.any_lengths(m, sizes)], last)
 
     def any_lengths(self, m, sizes):
         return [b for n in sizes for b in m.to_bytes(m.known(n) * 8, 8)[::-1]]

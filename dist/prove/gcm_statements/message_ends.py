@@ -2,7 +2,7 @@
 
 Before such a call 16 k + `additional` bytes of additional data and 16 m + `text` bytes of text came, for every k and m. In the first phase
 no text came."""
-from gcm_statements.byte_counts import Came, came_in, length_in_bits
+from gcm_statements.byte_counts import Came, Counts, came_in, length_in_bits
 from gcm_statements.gcm_header import ADDITIONAL, DECRYPTING, MESSAGE, MOST, MOST_ADDITIONAL, REFUSED
 from gcm_statements.pre_counter import any_pre_counter
 from statements.calls import Buffer
@@ -38,7 +38,7 @@ class MessageEnds:
             k = m.steps_found
             return self.group_step(values[k], [blocks[k]], values[k + 1]) if k < len(blocks) else ("nothing", (), ())
         tag = self.aes.xor(self.last_value(), any_pre_counter(self).cipher)
-        before, after = (self.any_before((a, t, 0, p)) for p in (phase, DECRYPTING))
+        before, after = (self.any_before(Counts(a, t, 0, p)) for p in (phase, DECRYPTING))
         return before, after, tag, dict(facts=a.facts | (t.facts if t else set()), steps=steps, any_length=True)
 
     def any_finish(self, phase, additional, text):

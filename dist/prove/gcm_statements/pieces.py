@@ -1,7 +1,7 @@
 """States what calls of fotsgure_gcm.h do for messages in pieces, next to the sentence of the header that each proves.
 
 The value of GHASH before a call may be any, and so may the bytes of a block that came before. The case says how many these are."""
-from gcm_statements.byte_counts import Came, bytes_of_counts, with_more
+from gcm_statements.byte_counts import Came, Counts, bytes_of_counts, with_more
 from gcm_statements.gcm_header import ADDITIONAL, DECRYPTING, DONE, ENCRYPTING, MESSAGE, VERIFYING
 from gcm_statements.hashing import Hashing, in_groups
 from gcm_statements.pre_counter import ANY_J_0_NONCE, any_nonce, any_pre_counter, next_pre_counter, pre_counter_of
@@ -15,7 +15,7 @@ class Pieces:
     def state(self, phase, additional, text, decrypted=0, value=ZEROS, rest=ZEROS, first=None):
         """Gives the bytes of a struct fotsgure_gcm_message. A byte None may be anything."""
         first = first or pre_counter_of(self)
-        return bytes_of_counts(self, additional, text, decrypted, phase) + first.block(0) + value + rest
+        return bytes_of_counts(self, Counts(additional, text, decrypted, phase)) + first.block(0) + value + rest
 
     def any_state(self, phase, additional, text, first, decrypted=0):
         """Gives a message with any value of GHASH and any part of a block, and its Hashing. These numbers of bytes have come."""

@@ -35,7 +35,8 @@ class PreCounter:
 
     def __init__(self, keyed, bytes_, arguments, is_any=False, after_text=False):
         """`is_any`: the last four bytes are a number of unknown value. `after_text`: any number of blocks came before."""
-        self.keyed, self.bytes, self.arguments, self.is_any, self.after_text = keyed, bytes_, arguments, is_any, after_text
+        self.keyed, self.bytes, self.arguments = keyed, bytes_, arguments
+        self.is_any, self.after_text = is_any, after_text
         self.hashing = Hashing(keyed, ZEROS)
 
     def block(self, i):
@@ -86,7 +87,8 @@ def next_pre_counter(keyed, counter=None):
     if isinstance(counter, CarryTo):
         nonce, after, assumes = carried_to(keyed, counter.place)
     elif counter is not None:
-        nonce, after, assumes = number(counter, 12), number(counter + 1, 12), None
+        nonce, after = number(counter, 12), number(counter + 1, 12)
+        assumes = None
     else:
         d.bits_of_word["nonce low"] = lambda offset, k: d.bits(keyed.nonce[11 - k]) if offset == 0 else None
         nonce, after = (keyed.nonce[:4] + [d.opaque((Pointer("nonce low", n), k)) for k in range(8)][::-1] for n in (0, 1))
@@ -98,7 +100,9 @@ def next_pre_counter(keyed, counter=None):
 def carried_to(keyed, place):
     """Gives a counter of nonces in which adding 1 carries to this byte, and the next counter. Also gives bytes that the call may assume not
     to be all 0, because the counter isn't the last one."""
-    d, byte, before = keyed.domain, keyed.nonce[place], [0] * place
+    d = keyed.domain
+    byte = keyed.nonce[place]
+    before = [0] * place
 
     def of_byte(function):
         return d.lookup(tuple(map(function, range(256))), d.bits(byte))

@@ -3,9 +3,10 @@
 A call derives two keys for a message, and these become arbitrary bytes. So does each value that is then computed: the powers of the key for
 POLYVAL, the round keys of the other key, each value of POLYVAL, the block that is encrypted to the tag, and the tag."""
 import functools
+from collections import namedtuple
 
 from gcm_statements.gcm_header import DONE, NO_KEY, REFUSED, TOO_LONG, UNEQUAL_LENGTHS
-from gcm_statements.hashing import Hashing, KeyedHash, in_groups
+from gcm_statements.hashing import Hashing, KeyedHash, Sizes, in_groups
 from loops.linear import unknown
 from machines.operands import Number
 from statements.calls import Buffer, Call, Stream, compare
@@ -17,6 +18,7 @@ STRUCTS = {"fotsgure_gcm_siv": (484, {"key_length": 0, "round_keys": 4})}
 MOST = 2 ** 36
 COUNTER = CounterWord("counter of the tag, at any length", 0, NEVER, None)
 FEW = 160  # the code hashes up to this number of bytes block by block, and more in groups of three blocks
+Tagged = namedtuple("Tagged", "block any_block tag")  # a block, arbitrary bytes for it, and Cipher of these, which is the tag
 
 
 def little(n, size):
@@ -26,7 +28,9 @@ def little(n, size):
 
 class KeyedSiv(KeyedHash):
     """The statements for AES-GCM-SIV. keyed.py has those for wipe and for what set_key refuses."""
-    library, prefix, key_sizes = "siv", "gcm_siv", (16, 32)
+    library = "siv"
+    prefix = "gcm_siv"
+    key_sizes = 16, 32
 
     def size_of_struct(self):
         return self.kept_size
@@ -93,12 +97,11 @@ class KeyedSiv(KeyedHash):
         return few, hashing.add_groups(groups)
 
     def tagged(self, value):
-        """Gives the block that is encrypted to the tag: the sum of this value and the nonce, with the highest bit 0. Also gives arbitrary
-        bytes for that block, and Cipher of these."""
+        """Gives, as Tagged, the block that is encrypted to the tag: the sum of this value and the nonce, with the highest bit 0."""
         block = self.aes.xor(value[::-1], self.nonce + [0] * 4)
         block[15] = self.domain.and_byte(block[15], 127)
         any_ = [b if b < 256 else t for b, t in zip(block, self.tag_input)]
-        return block, any_, self.made_once(("tag", *any_), lambda: self.aes.cipher(any_, self.message_w))
+        return Tagged(block, any_, self.made_once(("tag", *any_), lambda: self.aes.cipher(any_, self.message_w)))
 
     def first_counter(self, tag):
         """Gives the step that makes the first counter block, which is the tag with its highest bit set."""
@@ -169,7 +172,7 @@ class KeyedSiv(KeyedHash):
         return super().any_lengths(m, sizes[::-1])
 
     def blocks_at_once(self, m, sizes):
-        return 1 if m.is_below(m.known(sizes[0] + sizes[1]), FEW + 1) else super().blocks_at_once(m, sizes)
+        return 1 if m.is_below(m.known(sizes.additional + sizes.text), FEW + 1) else super().blocks_at_once(m, sizes)
 
     def any_seal(self, additional, text, way=""):
         sizes, plain, sealed, tag = self.any_texts(additional, text)
@@ -182,18 +185,22 @@ class KeyedSiv(KeyedHash):
     def any_open(self, additional, text, way=""):
         """The decrypted text becomes arbitrary bytes. Adding the keystream again gives the encrypted text."""
         sizes, plain, undone, tag = self.any_texts(additional, text)
-        sealed, place, right = self.pattern(self.sealed), "output" if way else "text", lambda m: self.tagged(self.any_sum(m, sizes))
+        sealed = self.pattern(self.sealed)
+        place = "output" if way else "text"
+        right = lambda m: self.tagged(self.any_sum(m, sizes))
+        tag_step = lambda m: ("memory", right(m).block, right(m).any_block)
         opened, zeros = self.aes.xor(sealed, self.pattern(self.own_stream)), [("whole", place, (sealed, ZEROS, True))] * bool(way)
         return self.any_message(
             "open", way, sizes, sealed, opened, [self.first_counter(tag), ("whole", place, (plain, undone, True))],
-            lambda m: [("memory", *right(m)[:2]), self.first_counter(tag), *zeros], Buffer("tag", tag), plain + opened,
-            reveals=lambda m: self.aes.xor(tag, right(m)[2]), refused=REFUSED, undone=True, other_blocks=self.in_all_blocks(undone))
+            lambda m: [tag_step(m), self.first_counter(tag), *zeros], Buffer("tag", tag), plain + opened,
+            reveals=lambda m: self.aes.xor(tag, right(m).tag), refused=REFUSED, undone=True, other_blocks=self.in_all_blocks(undone))
 
     def any_texts(self, additional, text):
         """Gives the sizes, the patterns of a plain text and of the encrypted text, and the tag."""
         plain = self.pattern(self.text)
         sealed = self.aes.xor(plain, self.pattern(self.own_stream))
-        return (unknown("a") * 48 + additional, unknown("n") * 768 + text), plain, sealed, self.made_once("any own tag", self.any_own_tag)
+        sizes = Sizes(unknown("a") * 48 + additional, unknown("n") * 768 + text)
+        return sizes, plain, sealed, self.made_once("any own tag", self.any_own_tag)
 
     def any_message(self, name, way, sizes, content, want, first, last, tag, plain, **more):
         """Gives a call. Its steps derive the keys, then come those of `first`, those of GHASH, and those of `last`."""
@@ -202,15 +209,17 @@ class KeyedSiv(KeyedHash):
                 return self.any_hash(m, m.phase - 1, sizes)
             phase = [*self.derivation(self.blocks_at_once(m, sizes) == 1), *first] if m.phase == 0 else last(m) if m.phase == 3 else []
             return phase[m.steps_found] if m.steps_found < len(phase) else ("nothing", (), ())
-        additional = Stream("additional", sizes[0], self.pattern(self.additional_bytes))
-        arguments = [self.schedule(), Buffer("nonce", self.nonce), additional, sizes[0],
-                     *self.streams_of(way, "text", sizes[1], sizes[1], content, want), tag]
+        additional = Stream("additional", sizes.additional, self.pattern(self.additional_bytes))
+        arguments = [self.schedule(), Buffer("nonce", self.nonce), additional, sizes.additional,
+                     *self.streams_of(way, "text", sizes.text, sizes.text, content, want), tag]
         return Call("gcm_siv_" + name + way, arguments, DONE, steps=steps, counter=COUNTER, plain=self.in_all_blocks(plain),
                     facts={unknown("a"), unknown("n"), *(MOST - size for size in sizes)}, **more)
 
     def refused(self):
         """TOO_LONG or NO_KEY: .. A call that doesn't return DONE has changed nothing. With _to: UNEQUAL_LENGTHS, TOO_LONG or NO_KEY"""
-        a, t, k, none, key = unknown("additional"), unknown("text"), unknown("output"), self.no_key(), self.schedule()
+        a, t, k = unknown("additional"), unknown("text"), unknown("output")
+        none = self.no_key()
+        key = self.schedule()
         most = min(MOST, self.highest)
         fits, long = facts_of_range(a, 0, most) | facts_of_range(t, 0, most), []
         if self.highest > MOST:  # (else no buffer is too long)

@@ -1,6 +1,6 @@
 """States what calls of fotsgure_gcm.h do for whole messages, next to the sentence of the header that each proves."""
 from gcm_statements.gcm_header import DONE, MOST, MOST_ADDITIONAL, REFUSED
-from gcm_statements.hashing import Hashing, block_of_lengths, in_groups
+from gcm_statements.hashing import Hashing, Sizes, block_of_lengths, in_groups
 from gcm_statements.pre_counter import ANY_J_0, any_nonce, any_pre_counter, next_pre_counter, pre_counter_of
 from loops.linear import unknown
 from statements.calls import Buffer, Call, Stream
@@ -64,7 +64,7 @@ class WholeMessages:
 
         def steps(m, phase):
             return ("whole", "output" if way else "text", (sealed,)) if phase == 0 else self.any_hash(m, phase - 1, sizes)
-        texts = self.streams_of(way, "text", sizes[1], sizes[1], text, [self.aes.xor(text, stream), sealed], lambda m, number: [0] * 16)
+        texts = self.streams_of(way, "text", sizes.text, sizes.text, text, [self.aes.xor(text, stream), sealed], lambda m, number: [0] * 16)
         tag = Buffer("tag", self.undefined(16), lambda m: self.any_tag(m, sizes))
         return self.call_of_any_message(name + way, sizes, any_nonce(self, nonce, first), stream, [*texts, tag], steps, text, **more)
 
@@ -76,7 +76,7 @@ class WholeMessages:
         sizes, _, stream, sealed = self.any_whole(additional, text)
         text = self.aes.xor(sealed, stream)
         tag = self.made_once("any tag", lambda: [self.domain.fresh("tag byte %d" % i, DATA) for i in range(16)])
-        texts = [*self.streams_of(way, "text", sizes[1], sizes[1], sealed, text), Buffer("tag", tag), 16]
+        texts = [*self.streams_of(way, "text", sizes.text, sizes.text, sealed, text), Buffer("tag", tag), 16]
 
         def steps(m, phase):
             return ("refused", "output", (sealed, ZEROS, True)) if way and phase == 2 else self.any_hash(m, phase, sizes)
@@ -85,7 +85,7 @@ class WholeMessages:
 
     def any_whole(self, additional, text):
         """Gives the sizes, and the patterns of a text, of the keystream and of the encrypted text."""
-        sizes = unknown("a") * 48 + additional, unknown("n") * 768 + text
+        sizes = Sizes(unknown("a") * 48 + additional, unknown("n") * 768 + text)
         return sizes, *(self.pattern(b) for b in (self.text, any_pre_counter(self).stream, self.sealed))
 
     def any_tag(self, m, sizes):
@@ -94,12 +94,12 @@ class WholeMessages:
 
     def any_facts(self, sizes):
         """Gives the facts of both sizes. They may be as large as a buffer, and as the standard allows."""
-        return {unknown("a"), PTRDIFF_MAX - sizes[0], MOST_ADDITIONAL - sizes[0], unknown("n"), MOST - sizes[1]}
+        return {unknown("a"), PTRDIFF_MAX - sizes.additional, MOST_ADDITIONAL - sizes.additional, unknown("n"), MOST - sizes.text}
 
     def call_of_any_message(self, name, sizes, nonce, stream, texts, steps, plain, **more):
         """Gives a call on a whole message of every length. `steps` are those after the steps of its nonce."""
-        additional = Stream("additional", sizes[0], self.pattern(self.additional_bytes))
-        return Call(name, [self.schedule(), *nonce.arguments, additional, sizes[0], *texts], DONE, counter=ANY_J_0,
+        additional = Stream("additional", sizes.additional, self.pattern(self.additional_bytes))
+        return Call(name, [self.schedule(), *nonce.arguments, additional, sizes.additional, *texts], DONE, counter=ANY_J_0,
                     steps=lambda m: nonce.steps(m) if m.phase < nonce.phases else steps(m, m.phase - nonce.phases),
                     keystream=self.in_all_blocks(stream), plain=self.in_all_blocks(plain), facts=self.any_facts(sizes) | nonce.facts,
                     **more)

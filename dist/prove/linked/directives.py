@@ -25,7 +25,9 @@ WIDTHS = {"byte": 1, "hword": 2, "short": 2, "word": 4, "long": 4, "quad": 8, "x
 
 def refuse_lines(path, machine):
     """Refuses a file with another line than these, or with constants that a linker may part."""
-    allowed, entry, held, before = re.compile(r"%s\s*(?:%s.*)?" % (LINE, machine.comment)), 0, 0, ""
+    allowed = re.compile(r"%s\s*(?:%s.*)?" % (LINE, machine.comment))
+    entry, held = 0, 0
+    before = ""
     with open(path) as file:
         for number, line in enumerate(file, 1):
             place = "%s:%d" % (path, number)

@@ -10,8 +10,19 @@ Symbol = namedtuple("Symbol", "name binding kind visibility section value")
 Relocation = namedtuple("Relocation", "offset kind symbol addend")
 
 # Kinds of sections.
-CONTENT, SYMBOLS, STRINGS, RELOCATIONS, NOTE, NO_BITS, DYNAMIC_SYMBOLS, RISCV_ATTRIBUTES = 1, 2, 3, 4, 7, 8, 11, 0x70000003
-WRITTEN, LOADED, MERGED, FLAGS = 1, 2, 16, 7  # flags of sections; FLAGS has those for written, loaded and run
+CONTENT = 1
+SYMBOLS = 2
+STRINGS = 3
+RELOCATIONS = 4
+NOTE = 7
+NO_BITS = 8
+DYNAMIC_SYMBOLS = 11
+RISCV_ATTRIBUTES = 0x70000003
+# Flags of sections.
+WRITTEN = 1
+LOADED = 2
+MERGED = 16
+FLAGS = 7  # those for written, loaded and run
 LOCAL, GLOBAL = 0, 1  # of symbols
 DEFAULT, HIDDEN = 0, 2
 UNDEFINED = 0  # instead of the section of a symbol that another file defines
@@ -95,6 +106,11 @@ class Elf:
         return {r.offset: r.symbol.name for all_ in self.relocations.values() for r in all_ if r.symbol.section == UNDEFINED}
 
 
+def exports_of(path, suffix):
+    """Gives {name without the suffix: name} of an object's exports."""
+    return {name.removesuffix(suffix): name for name in Elf(path).exports}
+
+
 # A relocation has three parts here: the bits of four bytes that the linker sets, what they say, and a function that computes this from the
 # four bytes and their own address. They say an "address", or the higher bits of one ("page"), or the lowest twelve ("low").
 def signed(number, bits):
@@ -170,7 +186,8 @@ class Comparison:
         section, address = elf.sections[number], self.placed[elf, number]
         if section.kind == NO_BITS:
             return
-        have, want, targets = bytearray(self.library.bytes_at(address, len(section.content))), bytearray(section.content), {}
+        have, want = bytearray(self.library.bytes_at(address, len(section.content))), bytearray(section.content)
+        targets = {}
         for r in elf.relocations.get(number, ()):
             if r.kind not in self.fields:
                 self.refuse(elf, section, "has a relocation of kind %d" % r.kind)

@@ -5,9 +5,8 @@ import subprocess
 
 from covered.noted import Noted
 from linked.elf import CONTENT, FLAGS, LOADED, Elf
+from machines.machine import LIBC
 from symbols.bits import Unproved
-
-LIBC = "memcpy", "memmove", "memset"
 
 
 class Program:

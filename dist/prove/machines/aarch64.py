@@ -23,19 +23,27 @@ WITH_TARGET = "b", "bl", "cbz", "cbnz", "tbz", "tbnz", "adrp"
 
 class Aarch64(Machine):
     """Describes 64-bit ARM with the AAPCS64. There the stack is aligned to 16 bytes, and nothing below the stack pointer may be used."""
-    tools, objdump, from_v2_and_v3 = "aarch64-linux-gnu-", ("-M", "no-aliases"), None
+    tools = "aarch64-linux-gnu-"
+    objdump = "-M", "no-aliases"
+    from_v2_and_v3 = None
     compiler, linker = (tools + "gcc",), (tools + "ld",)
-    registers, stack_pointer, stack_step = X + ["sp"], "sp", 16
+    registers = X + ["sp"]
+    stack_pointer = "sp"
+    stack_step = 16
     vector_count, vector_size = 32, 16
     arguments, result = X[:8], "x0"
     restored_registers, restored_vectors = X[18:30] + ["sp"], dict.fromkeys(range(8, 16), 8)
     scratch, reserved = X[:18], ("x18",)  # some systems use x18 themselves
-    red_zone, landing_mark, comment = 0, r"hint\s#0x22", "//"
+    red_zone = 0
+    landing_mark = r"hint\s#0x22"
+    comment = "//"
     jumps = r"b(?:\.\w+)?|cbn?z|tbn?z"
     conditional, padding = r"b\.|cbn?z|tbn?z|adcs?\s|sbcs?\s|csinc\s.*, c[cs]\b", "nop|udf"
     sets_flags = "adds|subs|ands|bics|adcs|sbcs|ccmp|ccmn"
     without_result, stores = r"b$|b\.|bl|br|ret|cb|tb|ccmp|hint|prfm", "st"
-    only_writes, moves, cancels = "(?!movk|bfm|ins|usra)", "ldu?r|stu?r|ldp|stp", "eor|sub"
+    only_writes = "(?!movk|bfm|ins|usra)"
+    moves = "ldu?r|stu?r|ldp|stp"
+    cancels = "eor|sub"
     two_results, affine = "ldp", "(add|sub)s?"
     choosing = r"csel|csinc\s(?!.*, c[cs]\b)|csinv|ccmp"
 

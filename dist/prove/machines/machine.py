@@ -39,7 +39,6 @@ from dataclasses import dataclass
 
 from covered.borders import Borders
 from covered.constant_results import Results
-from linked.program import LIBC
 from loops.linear import Linear, is_number
 from loops.unknowns import Unknowns
 from machines.access import Access
@@ -51,7 +50,7 @@ from machines.secret_bytes import SecretBytes
 from machines.stack_use import StackUse
 from symbols.bits import PUBLIC, Pause, Undefined, Unproved
 
-
+LIBC = "memcpy", "memmove", "memset"  # the functions of others that the code calls
 # A run with more instructions is refused: a loop may not end. The longest cases have fewer.
 MOST_STEPS = 10000000
 MOST_NOTED = 16  # bytes that are noted of what a function of libc writes
@@ -67,10 +66,23 @@ class Allowed:
 
 
 class Machine(Arithmetic, Borders, Unknowns, Bytewise, Results, Access):
-    pushed, restored_vectors, shadow, stack_step, also_called, landing_mark, jumps_to_mark, returns = (), {}, 0, 1, (), "", "(?!)", "ret"
+    pushed = ()
+    restored_vectors = {}
+    shadow = 0
+    stack_step = 1
+    also_called = ()
+    landing_mark = ""
+    jumps_to_mark = "(?!)"
+    returns = "ret"
     reserved = ()  # registers that may not change, as a signal's handler or the system may use them at any time
-    word, highest, flag_names = 8, WORD, "czso"
-    start, strict, relaxed, comment, avx512 = 0x123456700000, False, False, "#", b""
+    word = 8
+    highest = WORD
+    flag_names = "czso"
+    start = 0x123456700000
+    strict = False
+    relaxed = False
+    comment = "#"
+    avx512 = b""
 
     def __init__(self, domain, program, regions, entry, arguments):
         """regions: {name: Region}. One is "stack", which has what is below the return address. (`enter` adds the caller's part.)"""
@@ -80,7 +92,9 @@ class Machine(Arithmetic, Borders, Unknowns, Bytewise, Results, Access):
         self.flags = dict.fromkeys(self.flag_names)
         self.distances = {}  # by flags: how far apart the numbers are that were compared (borders.py)
         # The addresses of the next instruction and of the last one, how many ran, and {form of an instruction: where one ran}.
-        self.next_address, self.last, self.steps, self.used = entry, entry, 0, {}
+        self.next_address, self.last = entry, entry
+        self.steps = 0
+        self.used = {}
         self.externals = {program.symbols[n]: n for n in (*LIBC, *self.also_called) if n in program.symbols}
         self.native = None  # the processor beside this machine (native.py)
         self.after_external = None  # the function of libc that has just run, for that processor
@@ -88,7 +102,8 @@ class Machine(Arithmetic, Borders, Unknowns, Bytewise, Results, Access):
         self.answers = {}  # to questions, {flag: 0 or 1}
         self.secret = SecretBytes()
         # How many steps of a call were found, in which phase of it, and what the next one looks for (steps.py).
-        self.steps_found, self.phase, self.expected_step = 0, 0, None
+        self.steps_found, self.phase = 0, 0
+        self.expected_step = None
         self.origins = {}  # what a result depended on, by the (cell, block) that replaced it
         self.last_written = (), 0  # a list of bytes, and where in it
         self.ever_written = {}  # the bytes that were written to each of the caller's buffers, even if they were overwritten later
@@ -193,10 +208,16 @@ class Machine(Arithmetic, Borders, Unknowns, Bytewise, Results, Access):
         """Gives a copy that goes on independently of this machine."""
         m = copy.copy(self)
         m.regions = {name: r.copy() for name, r in self.regions.items()}
-        m.general, m.vectors, m.flags, m.last_written = dict(self.general), list(self.vectors), dict(self.flags), ((), 0)
-        m.registers_at_entry, m.stack, m.secret = dict(self.registers_at_entry), self.stack.copied(), self.secret.copied()
+        m.general = dict(self.general)
+        m.vectors = list(self.vectors)
+        m.flags = dict(self.flags)
+        m.last_written = (), 0
+        m.registers_at_entry = dict(self.registers_at_entry)
+        m.stack = self.stack.copied()
+        m.secret = self.secret.copied()
         m.trace, m.expected_step = list(self.trace), None
-        m.answers, m.origins, m.decided, m.loops = dict(self.answers), dict(self.origins), list(self.decided), dict(self.loops)
+        m.answers, m.origins, m.loops = dict(self.answers), dict(self.origins), dict(self.loops)
+        m.decided = list(self.decided)
         m.ever_written = {name: set(b) for name, b in self.ever_written.items()}
         return m
 

@@ -120,7 +120,9 @@ class Alone:
     they are evaluated once. Symbolic bytes are functions of one cell, so every function of them can be computed."""
 
     def __init__(self, program):
-        self.program, self.random, self.domain = program, random.Random(0), Domain()
+        self.program = program
+        self.random = random.Random(0)
+        self.domain = Domain()
         cell = self.domain.cell("a byte", False, DATA)
         tables = ([self.random.getrandbits(256) for _ in range(8)] for _ in range(256))
         symbols = [self.domain.byte_of_cell(cell, 0, t) for t in tables]
@@ -173,10 +175,15 @@ class Alone:
 
     def compare(self, address):
         """Gives how often the processor agreed with a form of an instruction. Raises if it differs once."""
-        instruction, agreed, tries, k = self.program.instruction_at(address), 0, TRIES, 0
+        instruction = self.program.instruction_at(address)
+        agreed = 0
+        tries = TRIES
+        k = 0
         while k < tries:
             self.random.seed("%s %d" % (instruction.form, k))  # so that a form always has the same values
-            self.constant, self.words, k = k % 2, self.words_of(instruction, k), k + 1
+            self.constant = k % 2
+            self.words = self.words_of(instruction, k)
+            k += 1
             m = self.before(instruction, address)
             flags = m.flags
             beside = Native(m, values=self.values, processor=self.processor)

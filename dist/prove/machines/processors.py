@@ -38,7 +38,13 @@ class Beside:
 
 libc = ctypes.CDLL(None, use_errno=True)
 libc.ptrace.restype, libc.ptrace.argtypes = ctypes.c_long, [ctypes.c_long, ctypes.c_long, ctypes.c_void_p, ctypes.c_void_p]
-TRACEME, SINGLESTEP, GETREGS, SETREGS, GETREGSET, SETREGSET, XSTATE = 0, 9, 12, 13, 0x4204, 0x4205, 0x202
+TRACEME = 0
+SINGLESTEP = 9
+GETREGS = 12
+SETREGS = 13
+GETREGSET = 0x4204
+SETREGSET = 0x4205
+XSTATE = 0x202
 
 
 class Processor(Beside):
@@ -193,11 +199,19 @@ class Emulator(Beside):
 
 
 class EmulatedRiscv64(Emulator):
-    qemu, processor, names, layout, flags = "qemu-riscv64", "rv64", Riscv64.registers + ["next"], "<33Q", {}
+    qemu = "qemu-riscv64"
+    processor = "rv64"
+    names = Riscv64.registers + ["next"]
+    layout = "<33Q"
+    flags = {}
 
 
 class EmulatedRiscv32(Emulator):
-    qemu, processor, names, layout, flags = "qemu-riscv32", "rv32", Riscv32.registers + ["next"], "<33I", {}
+    qemu = "qemu-riscv32"
+    processor = "rv32"
+    names = Riscv32.registers + ["next"]
+    layout = "<33I"
+    flags = {}
 
 
 PROCESSORS = {X86_64: Processor, Windows: Processor, Aarch64: Emulator, Riscv32: EmulatedRiscv32, Riscv64: EmulatedRiscv64}

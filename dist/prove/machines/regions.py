@@ -10,7 +10,8 @@ class Region:
     """A buffer: its bytes, whether a call may write them, and how it is aligned."""
 
     def __init__(self, content, writable=True, align=1):
-        self.content, self.writable, self.align = list(content), writable, align
+        self.content = list(content)
+        self.writable, self.align = writable, align
 
     def copy(self):
         other = copy.copy(self)
@@ -33,8 +34,11 @@ class Window(Region):
 
     def __init__(self, size, initial, want, head=0, backwards=False):
         super().__init__([], want is not None)
-        self.size, self.end, self.initial, self.want, self.origin = size, size, initial, want, 0
-        self.unit, self.head, self.backwards = len(initial), head, backwards
+        self.size, self.end = size, size
+        self.initial, self.want = initial, want
+        self.origin = 0
+        self.unit = len(initial)
+        self.head, self.backwards = head, backwards
         self.turn = 0  # how often it began again
         self.undoes = False  # whether its blocks become again what they were
         self.waits = False  # whether its patterns are of a later domain: a call that expands a key begins in another one
@@ -117,8 +121,12 @@ class Window(Region):
     def begin_again(self, initial, want=None, undoes=False):
         """Lets blocks that are done be read once more, as `initial`. Then they become what `want` says, or nothing more is written. With
         `undoes` they only change in a call that is refused."""
-        self.initial, self.origin, self.content, self.turn = initial, 0, [], self.turn + 1
-        self.writable, self.undoes, self.want = want is not None, undoes, want
+        self.initial = initial
+        self.origin = 0
+        self.content = []
+        self.turn += 1
+        self.writable = want is not None
+        self.undoes, self.want = undoes, want
 
     def fault(self, domain, name, byte):
         """Gives the text of the fault that a block isn't what it has to be."""

@@ -24,19 +24,28 @@ LONG = {"mv": "add\t{0},zero,{1}", "li": "addi\t{0},zero,{1}", "lui": "lui\t{0},
 
 class Riscv(Machine):
     """RISC-V with its ABI. The stack is aligned to 16 bytes, and nothing below the stack pointer may be used."""
-    tools, objdump, from_v2_and_v3 = "riscv64-linux-gnu-", ("-M", "no-aliases"), None
-    registers, stack_pointer, stack_step = NAMES, "sp", 1
+    tools = "riscv64-linux-gnu-"
+    objdump = "-M", "no-aliases"
+    from_v2_and_v3 = None
+    registers = NAMES
+    stack_pointer = "sp"
+    stack_step = 1
     vector_count, vector_size = 0, 0
     arguments, result = A, "a0"
     restored_registers, reserved = ["sp", "gp", "tp", *S], ("gp", "tp")
     scratch = A + ["t%d" % n for n in range(7)]
-    red_zone, strict, relaxed, flag_names = 0, True, True, ""
+    red_zone = 0
+    strict = True
+    relaxed = True
+    flag_names = ""
     jumps, returns = r"(?:c\.)?(?:j|b[a-z]+)|jal(?=\tzero)", r"c\.jr\tra|jalr\tzero,0\(ra\)"
     conditional, padding = r"(c\.)?b(eq|ne|lt|ge)", r"c\.nop|addi\tzero,zero,0"
     choosing = "slt"
     sets_flags = "(?!)"
     without_result, stores = "b(eq|ne|lt|ge)|jal|fence|amo", "s[bhwd]$"
-    only_writes, cancels, affine = "", "xor|sub", "addi?|sub"
+    only_writes = ""
+    cancels = "xor|sub"
+    affine = "addi?|sub"
 
     def enter(self, arguments):
         super().enter(arguments)
@@ -157,7 +166,9 @@ class Riscv32(Riscv):
     """RISC-V of 32 bits with M and C. It has no operating system, so there are no shared libraries."""
     compiler = "riscv64-unknown-elf-gcc", "-march=rv32imc", "-mabi=ilp32"
     linker = Riscv.tools + "ld", "-m", "elf32lriscv"
-    word, highest, start = 4, (1 << 32) - 1, 0x23456000
+    word = 4
+    highest = (1 << 32) - 1
+    start = 0x23456000
     moves = "lw|sw"
 
 
@@ -362,7 +373,9 @@ def store(m, name, source, to):
 
 @TABLE.of("amoswap.w", "amoswap.d")
 def swap(m, name, to, source, at):
-    size, address, v = SIZES[name[-1]], m.address(at), m.get(source)
+    size = SIZES[name[-1]]
+    address = m.address(at)
+    v = m.get(source)
     b = m.load(address, size, size)
     m.put(to, m.from_bytes(b) if size == m.word else extended(m, m.from_bytes(b)))
     m.store(address, m.to_bytes(v, size), size)

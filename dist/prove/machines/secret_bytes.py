@@ -20,7 +20,9 @@ class SecretBytes:
 
     def enter_domain(self, convert):
         """Forgets all facts about bytes of another domain, but not which are lost."""
-        self.equalities, self.any_of, lost, self.lost = {}, {}, self.lost, set()
+        self.equalities, self.any_of = {}, {}
+        lost = self.lost
+        self.lost = set()
         self.lost |= {convert(b) for b in lost}
 
     def forget(self, is_forgotten):

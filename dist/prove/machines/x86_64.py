@@ -23,21 +23,31 @@ ALIGNED, UNALIGNED = ("movdqa", "movaps", "vmovdqa", "vmovaps"), ("movdqu", "mov
 
 class X86_64(Machine):
     """x86-64 with the System V ABI. The stack is aligned to 16 bytes before the return address is pushed."""
-    tools, compiler, linker, objdump = "", ("gcc",), ("ld",), ("-M", "intel")
+    tools = ""
+    compiler = ("gcc",)
+    linker = ("ld",)
+    objdump = "-M", "intel"
     from_v2_and_v3 = "ptest|pshufb|palignr|pblendw|pinsr[bd]|pextr[bq]", "v.*|andn|bzhi|mulx|movbe|shrx"
     registers, stack_pointer = R64, "rsp"
     vector_count, vector_size = 16, 32
-    arguments, result, pushed = "rdi rsi rdx rcx r8 r9".split(), "rax", (RETURN_ADDRESS,)
+    arguments = "rdi rsi rdx rcx r8 r9".split()
+    result = "rax"
+    pushed = (RETURN_ADDRESS,)
     restored_registers = "rbx rsp rbp r12 r13 r14 r15".split()
     scratch = "rcx rdx rsi rdi r8 r9 r10 r11".split()
     red_zone, landing_mark = 128, "endbr64"
-    jumps, conditional, padding = r"j\w+", "j(?!mp)|adc|sbb", r"(data16 |cs )*nop|xchg +ax,ax"
+    jumps = r"j\w+"
+    conditional = "j(?!mp)|adc|sbb"
+    padding = r"(data16 |cs )*nop|xchg +ax,ax"
     choosing = "set|cmov"
     sets_flags = r"(cmp|test|ptest|add|sub|adc|sbb|inc|dec|neg|and|or|xor(?!ps)|shl|shr(?!x)|sar|rol|ror|shld|shrd|bt|bzhi|mul)\b"
     without_result, implicit = "j|call|ret|push|pop|cmp|test|ptest|bt|nop|endbr|vzero|set", {"mul": ("rax", "rdx")}
     only_writes, moves = r"mov(?!s[sd])|v|lea|andn|shrx|bzhi|mulx|pshuf[dlh]|pextr|pmov", r"v?mov(|abs|dq[au]|[au]ps)"
     affine = "add|sub|inc|dec|neg|not|lea|xchg"
-    compares, two_results, cancels, first_lane = "cmp|test", "mulx|xchg", "xor|v?pxor|v?xorps|sub|v?pcmpeq", "v?mov[qd]"
+    compares = "cmp|test"
+    two_results = "mulx|xchg"
+    cancels = "xor|v?pxor|v?xorps|sub|v?pcmpeq"
+    first_lane = "v?mov[qd]"
     # Jumps and calls that have to arrive at a mark; and the first byte of instructions of AVX-512, of which some are named as in AVX2.
     jumps_to_mark, avx512 = r"(rex\.\w+ +)*(jmp|call)\b(?! +[0-9a-f]+ <)", b"\x62"
 
@@ -73,7 +83,10 @@ class Windows(X86_64):
     arguments, shadow = "rcx rdx r8 r9".split(), 32
     restored_registers, restored_vectors = "rbx rsp rbp rsi rdi r12 r13 r14 r15".split(), dict.fromkeys(range(6, 16), 16)
     scratch = "rcx rdx r8 r9 r10 r11".split()
-    red_zone, landing_mark, jumps_to_mark, also_called = 0, "", "(?!)", ("___chkstk_ms",)
+    red_zone = 0
+    landing_mark = ""
+    jumps_to_mark = "(?!)"
+    also_called = ("___chkstk_ms",)
 
 
 def operand(text, name, following):
@@ -165,7 +178,9 @@ def xchg(m, name, a, b):
 def arithmetic(m, name, a, b=1):
     """Computes a sum, or a difference, whose flag c is the borrow. `inc` and `dec` keep that flag, and `cmp` only sets flags."""
     x, y = (0, m.get(a)) if name == "neg" else (m.get(a), m.get(b))
-    old, size, before = m.flags["c"], a.size, m.distances
+    old = m.flags["c"]
+    size = a.size
+    before = m.distances
     carry = m.carried(old) if name in ("adc", "sbb") else 0
     if carry not in (0, 1):
         raise Unproved("adds a carry that depends on the key or on data, or that is undefined")
@@ -202,7 +217,9 @@ def logic(m, name, to, a, b=None):
 @TABLE.of("shl", "shr", "sar")
 def shift(m, name, to, count=1):
     """Shifts by a constant. The flag c is the bit that is shifted out last. A shift by 0 keeps all flags."""
-    n, size, v = constant("the count of a shift", m.get(count)) & (63 if to.size == 8 else 31), 8 * to.size, m.get(to)
+    n = constant("the count of a shift", m.get(count)) & (63 if to.size == 8 else 31)
+    size = 8 * to.size
+    v = m.get(to)
     if n:
         last = size - n if name == "shl" else n - 1  # the bit that is shifted out last
         out = m.bits(v, to.size)[last] if 0 <= last < size and not isinstance(v, Scaled) else None

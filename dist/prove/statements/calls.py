@@ -4,6 +4,8 @@ A statement is a Call, written like the call in C. Its arguments are numbers and
 returns. A Buffer that says nothing may only be read. So "writes nothing but what it says" is part of each statement. machine.Machine says
 what a machine `m` keeps."""
 import functools
+from collections.abc import Callable, Collection, Sequence
+from dataclasses import KW_ONLY, dataclass, field
 
 from loops import lengths
 from loops.linear import implied, is_number, refuted, terms, unknown
@@ -29,7 +31,8 @@ class Buffer:
     def __init__(self, name, content, after=None, secret=(), align=1):
         """Makes a Buffer. `secret` has the kinds of left_behind.MAY_NOT_COME that may come there, as what it holds is as secret as the key.
         `align` is the alignment of a struct."""
-        self.name, self.content, self.after, self.secret, self.align = name, content, after, secret, align
+        self.name, self.content, self.after = name, content, after
+        self.secret, self.align = secret, align
 
     def region(self, machine):
         return Region(self.content, self.after is not None, self.align if machine.strict else 1)
@@ -57,36 +60,38 @@ class Stream(Buffer):
         return [None if k is None else self.after[k][i] for i, k in enumerate(self.choose(m, number))]
 
 
+@dataclass(eq=False)
 class Call:
-    """States one call.
+    """States one call: what it is given, what it returns, and what is known of it. Its Buffers say what it leaves."""
 
-        name, arguments         as in C, without fotsgure_
-        status, size            what it returns (None: anything), and in how many bytes
-        steps                   for a call in which each step depends on the last one: see steps.py
-        reveals                 bytes that are all zero exactly if a wrapped key or a tag is right
-        refused, refused_after  what it returns if they aren't, and by names what Buffers then hold; the others hold what they held before
-        undone                  a refused call may write to a Buffer that has to stay as it was, since it undoes its writes
-        assumes                 bytes of public data that are not all zero
-        later                   for a call that expands a key: turns bytes of the key's own domain into those of any round keys (aes.py)
-        counter                 a word of unknown value (keyed.CounterWord)
-        keystream, other_blocks what is added to the data; other blocks that the cipher gives
-        plain                   what is secret of the data and of the results
-        may_stay                {a kind of secret: how many bytes of it may stay on the stack}, if more than in other calls
-        paths                   calls that share it run the same instructions whenever they return the same
-        facts                   what is known of the unknown arguments: numbers that are 0 or more (linear.py)
-        any_length              whether `steps` is a function of the machine, as with Streams; then it asks only what branches ask"""
+    name: str  # as in C, without fotsgure_
+    arguments: list  # as in C: numbers, which may be unknown, and Buffers
+    status: int  # what it returns (None: anything)
+    _: KW_ONLY
+    size: int = 4  # in how many bytes it returns that
+    steps: Callable = None  # for a call in which each step depends on the last one: see steps.py
+    any_length: bool = False  # whether `steps` is a function of the machine, as with Streams; then it asks only what branches ask
+    reveals: Sequence = None  # bytes (or a function of the machine) that are all zero exactly if a wrapped key or a tag is right
+    refused: int = None  # what it returns if they aren't
+    refused_after: dict = field(default_factory=dict)  # by names what Buffers then hold; the others hold what they held before
+    undone: bool = False  # a refused call may write to a Buffer that has to stay as it was, since it undoes its writes
+    assumes: Sequence = None  # bytes of public data that are not all zero
+    later: Callable = None  # for a call that expands a key: turns bytes of the key's own domain into those of any round keys (aes.py)
+    counter: object = None  # a word of unknown value (keyed.CounterWord)
+    keystream: Sequence = ()  # what is added to the data
+    other_blocks: Sequence = ()  # other blocks that the cipher gives
+    plain: Sequence = ()  # what is secret of the data and of the results
+    may_stay: dict = None  # {a kind of secret: how many bytes of it may stay on the stack}, if more than in other calls
+    paths: dict = None  # calls that share it run the same instructions whenever they return the same
+    facts: Collection = ()  # what is known of the unknown arguments: numbers that are 0 or more (linear.py)
+    named: dict = field(init=False, default_factory=dict)  # {domain: the bits that the statement names} (left_behind.py)
 
-    def __init__(self, name, arguments, status, size=4, steps=None, reveals=None, refused=None, refused_after=None, assumes=None,
-                 later=None, counter=None, keystream=(), plain=(), may_stay=None, paths=None, facts=(),
-                 undone=False, other_blocks=(), any_length=False):
-        self.name, self.arguments, self.status, self.size, self.steps = name, arguments, status, size, steps
-        self.reveals, self.refused, self.refused_after = reveals, refused, refused_after or {}
-        self.assumes, self.later, self.counter = assumes, later, counter
-        self.keystream, self.plain, self.may_stay, self.paths = keystream, plain, may_stay or {}, paths
-        self.facts, self.undone, self.other_blocks, self.named = frozenset(facts), undone, other_blocks, {}
-        self.buffers = [b for a in arguments if isinstance(a, Buffer) for b in (a, a.head) if b]
+    def __post_init__(self):
+        self.may_stay = self.may_stay or {}
+        self.facts = frozenset(self.facts)
+        self.buffers = [b for a in self.arguments if isinstance(a, Buffer) for b in (a, a.head) if b]
         self.streams = [b for b in self.buffers if isinstance(b, Stream)]
-        self.any_length = any_length or bool(self.streams)
+        self.any_length = self.any_length or bool(self.streams)
 
     def written(self, m):
         """Gives each byte that was written to a buffer, with the Buffer. Bytes that were overwritten since count too. In a loop of any

@@ -34,10 +34,15 @@ PTRDIFF_MAX = (1 << 63) - 1
 
 class Keyed:
     """Keeps one build and one key size. `domain` is that of arbitrary round keys, and `key_domain` that of an arbitrary key."""
-    library, prefix, schedules, key_sizes = "aes", "aes", 2, (16, 24, 32)
+    library = "aes"
+    prefix = "aes"
+    schedules = 2
+    key_sizes = 16, 24, 32
 
     def __init__(self, program, key_size):
-        self.program, self.key_size, self.highest, self.address = program, key_size, program.machine.highest, program.machine.word
+        self.program, self.key_size = program, key_size
+        self.highest = program.machine.highest
+        self.address = program.machine.word
         narrow = program.narrow
         self.room, self.word = (120 * narrow, 2 * narrow) if narrow else SCHEDULE
         self.length_size = narrow or 4
@@ -147,11 +152,11 @@ class Keyed:
 
     def key_length(self):
         """Returns how many bytes the key has: 16, 24 or 32"""
-        return Call(self.prefix + "_key_length", [self.schedule()], self.key_size, self.address)
+        return Call(self.prefix + "_key_length", [self.schedule()], self.key_size, size=self.address)
 
     def key_length_of_none(self):
         """.. or 0 if *aes holds no key."""
-        return Call(self.prefix + "_key_length", [self.no_key()], 0, self.address)
+        return Call(self.prefix + "_key_length", [self.no_key()], 0, size=self.address)
 
     def version(self, number):
         """Returns the version of the library"""

@@ -46,7 +46,8 @@ def no_secret_in_buffers(m, call):
 
 def depends(m, *bytes_):
     """Gives what bytes depend on. A byte that replaced a result depends on what the result depended on."""
-    domain, out, pairs = m.domain, 0, 0
+    domain = m.domain
+    out, pairs = 0, 0
     for x in (x for b in bytes_ if domain.symbolic(b) for x in domain.bits(b)):
         linear, products = domain.split(x)
         out, pairs = out | depends_bit(m, linear), pairs | products

@@ -59,17 +59,23 @@ def step_by_step(steps):
         if where == "place":
             content, at = was_written(m, want, m.domain.is_same) or ((), 0)
             if content:
-                content[at:at + len(want)], m.steps_found, m.expected_step = new, m.steps_found + 1, None
+                content[at:at + len(want)] = new
+                m.steps_found += 1
+                m.expected_step = None
             return
         if where == "here" or is_found(m, where, want):
             replace_result(m, where, want, new)
-            m.steps_found, m.expected_step, m.domain.factor_of = m.steps_found + 1, None, {}
+            m.steps_found += 1
+            m.expected_step = None
+            m.domain.factor_of = {}
     return watch
 
 
 def replace_result(m, where, want, new):
     """Replaces a result by other bytes everywhere. They depend on what the result depended on."""
-    replaced, lost, on = {}, None, depends(m, *want) if where == "hash" else 0
+    replaced = {}
+    lost = None
+    on = depends(m, *want) if where == "hash" else 0
     for x, y in zip(want, new):
         if x > 255:
             if replaced.setdefault(x, y) != y:

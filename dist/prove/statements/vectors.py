@@ -100,8 +100,12 @@ def evaluate(keyed, call, key, given):
 
 # These functions give vectors: a call, a key, what the buffers hold before the call, and what they have to hold after it.
 def aes_vectors(k):
-    size, cipher, number = k.key_size, A_CBC[k.key_size], "f0f1f2f3f4f5f6f7f8f9fafbfcfdfeff"
-    key, iv, last = A_KEYS[size], "000102030405060708090a0b0c0d0e0f", {"cbc": A_CBC[size][-32:]}
+    size = k.key_size
+    cipher = A_CBC[k.key_size]
+    number = "f0f1f2f3f4f5f6f7f8f9fafbfcfdfeff"
+    key = A_KEYS[size]
+    iv = "000102030405060708090a0b0c0d0e0f"
+    last = {"cbc": A_CBC[size][-32:]}
     yield k.add_keystream(0, 64), key, {"ctr": number, "bytes": A_PLAIN}, {"bytes": A_COUNTER[size]}
     yield k.add_keystream(16, 48, 1 << 60), key, {"ctr": number, "bytes": A_PLAIN[32:]}, {"bytes": A_COUNTER[size][32:]}
     yield k.cbc_encrypt(4), key, {"cbc": iv, "blocks": A_PLAIN}, dict(last, blocks=cipher)
@@ -124,7 +128,9 @@ def mode_vectors(k):
     for n, tag in zip(CMAC_LENGTHS, CMAC[k.key_size]):
         yield k.cmac(n), A_KEYS[k.key_size], {"message": A_PLAIN[:2 * n]}, {"tag": tag}
     for nonce, more, n, cipher, tag in CCM if k.key_size == 16 else ():
-        key, lengths, text = counted(0x40, 16), (nonce, more, n, len(tag) // 2), counted(0x20, n)
+        key = counted(0x40, 16)
+        lengths = nonce, more, n, len(tag) // 2
+        text = counted(0x20, n)
         given = {"nonce": counted(0x10, nonce), "additional": counted(0, more)}
         yield k.ccm_seal(*lengths), key, dict(given, text=text), {"text": cipher, "tag": tag}
         yield k.ccm_open(*lengths), key, dict(given, text=cipher, tag=tag), {"text": text}
@@ -159,7 +165,9 @@ def gcm_vectors(k):
 def siv_vectors(k):
     for key, nonce, more, plain, cipher, tag in SIV:
         if len(key) == 2 * k.key_size:
-            a, n, given = len(more) // 2, len(plain) // 2, {"nonce": nonce, "additional": more}
+            a = len(more) // 2
+            n = len(plain) // 2
+            given = {"nonce": nonce, "additional": more}
             yield k.seal(a, n), key, dict(given, text=plain), {"text": cipher, "tag": tag}
             yield k.open(a, n), key, dict(given, text=cipher, tag=tag), {"text": plain}
             yield k.seal(a, n, "_to"), key, dict(given, input=plain), {"output": cipher, "tag": tag}

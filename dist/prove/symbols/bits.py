@@ -91,7 +91,9 @@ class Forms:
         # Of cells, by their numbers: names, whether each block has one, and what they depend on.
         self.names, self.of_block, self.depends = [], [], []
         # Forms, ((cell, table), ..), by their numbers; the number of each; whether a form has cells of a block.
-        self.forms, self.ids, self.has_block = [()], {(): 0}, [False]
+        self.forms = [()]
+        self.ids = {(): 0}
+        self.has_block = [False]
         self.xors = {}  # sums that were computed once, by their numbers
         self.bits_of, self.byte_ids = [None] * 256, {bits: byte for byte, bits in enumerate(CONSTANTS)}
         self.blocks_of = {}  # {a byte: its blocks}, of bytes that were asked for them
@@ -110,7 +112,8 @@ class Forms:
         self.of_forgotten = {}  # {what was forgotten: the cell of its byte}; see forget_bits
         # {a cell of a number that is one more in each block: (which byte it is, all bytes, the lowest first)}
         self.numbers = {}
-        self.mixed, self.mixed_ids, self.mixed_xors, self.halves = [], {}, {}, {}
+        self.mixed = []
+        self.mixed_ids, self.mixed_xors, self.halves = {}, {}, {}
         self.undefined = self.opaque(UNDEFINED)
 
     # Cells and bytes.

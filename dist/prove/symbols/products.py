@@ -11,9 +11,13 @@ class Products:
     lower bit's place in its group. The rows follow each other in the order in which they were first needed (`row_keys`)."""
 
     def __init__(self):
-        self.products, self.product_ids, self.product_xors, self.product_ands, self.with_products = [], {}, {}, {}, set()
-        self.linear_tables, self.linear_parts, self.column_parts, self.rows, self.row_keys = {}, {}, {}, {}, []
-        self.sums, self.factor_of, self.factor_cells, self.factor_bits = {}, {}, {}, set()
+        self.products = []
+        self.product_ids, self.product_xors, self.product_ands = {}, {}, {}
+        self.with_products = set()
+        self.linear_tables, self.linear_parts, self.column_parts, self.rows = {}, {}, {}, {}
+        self.row_keys = []
+        self.sums, self.factor_of, self.factor_cells = {}, {}, {}
+        self.factor_bits = set()
 
     def bit_number(self, cell, block, j):
         """Gives the number of bit j of a cell in a block."""
@@ -125,7 +129,8 @@ class Products:
 
     def dot(self, xs, ys):
         """Gives the sum of the products of each x and its y, which are sums of bits of cells."""
-        linear, pairs, rows = 0, 0, self.rows
+        linear, pairs = 0, 0
+        rows = self.rows
         for x, y in zip(xs, ys):
             if not x or not y:
                 continue

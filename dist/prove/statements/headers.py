@@ -3,7 +3,7 @@ import re
 import subprocess
 
 from gcm_statements import gcm_header, siv
-from linked.linking import BUILDS, library_of
+from linked.builds import BUILDS, library_of
 from machines.riscv import Riscv
 from machines.x86_64 import X86_64
 from statements import keyed
@@ -28,7 +28,9 @@ def header_cases(dist, machine=X86_64):
 def riscv_header_cases(dist, builds):
     """Does the same with sizes and places for RISC-V."""
     for build in (build for build in builds if issubclass(BUILDS[build], Riscv) and "siv" not in build):
-        machine, word, library = BUILDS[build], BUILDS[build].word, library_of(build)
+        machine = BUILDS[build]
+        word = machine.word
+        library = library_of(build)
         size = {"aes": 121 * word, "gcm": 500 if word == 4 else 1784}[library]  # (of the 1,784 bytes 984 are used)
         structs = {"aes": {"fotsgure_aes_ctr": keyed.STRUCTS["fotsgure_aes_ctr"]}, "gcm": {
             "fotsgure_gcm_message": gcm_header.STRUCTS["fotsgure_gcm_message"], "fotsgure_gcm_siv": (121 * word, {"round_keys": word})}}
