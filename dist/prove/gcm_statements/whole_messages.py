@@ -2,11 +2,14 @@
 from gcm_statements.gcm_header import DONE, MOST, MOST_ADDITIONAL, REFUSED
 from gcm_statements.hashing import Hashing, block_of_lengths, in_groups
 from gcm_statements.pre_counter import ANY_J_0, any_nonce, any_pre_counter, next_pre_counter, pre_counter_of
-from loops.linear import unknown
+from loops.joints import Part
+from loops.linear import terms, unknown
 from statements.calls import Buffer, Call, Stream
 from statements.keyed import PTRDIFF_MAX
 from statements.standards import ZEROS, padded
 from symbols.bits import DATA
+
+ADDITIONAL, TEXT = "length of additional data", "length of text"  # unknown numbers
 
 
 class WholeMessages:
@@ -60,7 +63,15 @@ class WholeMessages:
 
     # Messages of every length (lengths.py).
     def any_seal(self, additional, text, way="", nonce=None, name="gcm_seal", first=None, **more):
-        sizes, text, stream, sealed = self.any_whole(additional, text)
+        return self.sealed_message((unknown("a") * 48 + additional, unknown("n") * 768 + text), way, nonce, name, first, **more)
+
+    def every_seal(self, way="", nonce=None):
+        """Every pair of lengths, part by part (joints.py)."""
+        parts = Part(TEXT, 256, 2), Part(ADDITIONAL, 48, 3, True), Part(TEXT, 48)
+        return self.sealed_message((unknown(ADDITIONAL), unknown(TEXT)), way, nonce, parts=parts)
+
+    def sealed_message(self, sizes, way, nonce, name="gcm_seal", first=None, **more):
+        text, stream, sealed = self.any_whole()
 
         def steps(m, phase):
             return ("whole", "output" if way else "text", (sealed,)) if phase == 0 else self.any_hash(m, phase - 1, sizes)
@@ -73,7 +84,8 @@ class WholeMessages:
         return self.any_seal(additional, text, name="gcm_seal_next", first=first, assumes=assumes)
 
     def any_open(self, additional, text, way="", nonce=None):
-        sizes, _, stream, sealed = self.any_whole(additional, text)
+        sizes = unknown("a") * 48 + additional, unknown("n") * 768 + text
+        _, stream, sealed = self.any_whole()
         text = self.aes.xor(sealed, stream)
         tag = self.made_once("any tag", lambda: [self.domain.fresh("tag byte %d" % i, DATA) for i in range(16)])
         texts = [*self.streams_of(way, "text", sizes[1], sizes[1], sealed, text), Buffer("tag", tag), 16]
@@ -83,10 +95,9 @@ class WholeMessages:
         return self.call_of_any_message("gcm_open" + way, sizes, any_nonce(self, nonce), stream, texts, steps, text,
                                         reveals=lambda m: self.aes.xor(tag, self.any_tag(m, sizes)), refused=REFUSED)
 
-    def any_whole(self, additional, text):
-        """Gives the sizes, and the patterns of a text, of the keystream and of the encrypted text."""
-        sizes = unknown("a") * 48 + additional, unknown("n") * 768 + text
-        return sizes, *(self.pattern(b) for b in (self.text, any_pre_counter(self).stream, self.sealed))
+    def any_whole(self):
+        """Gives the patterns of a text, of the keystream and of the encrypted text."""
+        return [self.pattern(b) for b in (self.text, any_pre_counter(self).stream, self.sealed)]
 
     def any_tag(self, m, sizes):
         """Gives the right tag."""
@@ -94,7 +105,8 @@ class WholeMessages:
 
     def any_facts(self, sizes):
         """Gives the facts of both sizes. They may be as large as a buffer, and as the standard allows."""
-        return {unknown("a"), PTRDIFF_MAX - sizes[0], MOST_ADDITIONAL - sizes[0], unknown("n"), MOST - sizes[1]}
+        counts = {unknown(name) for size in sizes for name in terms(size)}
+        return {*counts, PTRDIFF_MAX - sizes[0], MOST_ADDITIONAL - sizes[0], MOST - sizes[1]}
 
     def call_of_any_message(self, name, sizes, nonce, stream, texts, steps, plain, **more):
         """Gives a call on a whole message of every length. `steps` are those after the steps of its nonce."""

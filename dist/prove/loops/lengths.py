@@ -307,8 +307,14 @@ def check_instance(m, general, passes):
 
 def differences(m, general, passes):
     """Gives the names of all in which a machine differs from that state."""
-    want, any_ = general.state.copied(), m.domain.opaque(LOST)
+    want = general.state.copied()
     want.replace_unknown(general.name, passes)
+    return differences_from(m, want)
+
+
+def differences_from(m, want):
+    """Gives the names of all in which a machine differs from a state. A byte of which the state says nothing may be any byte."""
+    any_ = m.domain.opaque(LOST)
 
     def same(a, b):
         return len(a) == len(b) and (a == b or all(x == y or x == any_ for x, y in zip(a, b)))
@@ -338,12 +344,12 @@ def described(region):
     return [region.size, region.end, region.origin, region.initial, region.writable] if isinstance(region, Window) else []
 
 
-def check_ends(ends, call):
-    """Checks that runs returned with lengths of all sizes, of each buffer. Else a proof might say nothing about them."""
-    for name in {name for fact in call.facts for name in terms(fact)}:
+def check_ends(ends, facts):
+    """Checks that runs came to an end with lengths of all sizes that these facts allow. Else a proof might say nothing about them."""
+    for name in {name for fact in facts for name in terms(fact)}:
         for value in (*range(40), *(2 ** k + d for k in range(6, 60) for d in (-1, 0, 1))):
             this = {unknown(name) - value, value - unknown(name)}
-            if not refuted(call.facts | this):
+            if not refuted(facts | this):
                 one = next((m for m in ends if may_have(m, this)), None)
                 if one is None:
                     raise Unproved("no run returned with the length that belongs to %s = %d" % (name, value))

@@ -126,8 +126,13 @@ class Unknowns:
 
     def replace_unknown(self, name, by):
         """Replaces an unknown by a number everywhere."""
+        self.replace_numbers(lambda x: replaced(x, name, by))
+        self.replaced = [*self.replaced, (name, by)]
+
+    def replace_numbers(self, other):
+        """Replaces numbers everywhere by those that `other` gives for them, or for a tuple of them."""
         def new(x):
-            y = replaced(x, name, by)
+            y = other(x)
             return y.value() if isinstance(y, Shifted) else y
         self.each_byte(lambda b: self.renumbered(b, new), stay=self.domain.without_numbers)
         self.facts = frozenset(f for f in map(new, self.facts) if not is_int(f) or f < 0)
@@ -138,7 +143,7 @@ class Unknowns:
                 region.size, region.end, region.origin = new(region.size), new(region.end), new(region.origin)
         self.counter, self.steps_found = new(self.counter), new(self.steps_found)
         self.numbers_by_frame = tuple((at, tuple(map(new, numbers))) for at, numbers in self.numbers_by_frame)
-        self.loops, self.replaced, self.expected_step = {}, [*self.replaced, (name, by)], None
+        self.loops, self.expected_step = {}, None
 
     def renumbered(self, b, new):
         """Gives a byte in which `new` replaces numbers. It may be a byte of a number, or be computed from bytes of numbers."""

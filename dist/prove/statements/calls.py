@@ -5,14 +5,14 @@ returns. A Buffer that says nothing may only be read. So "writes nothing but wha
 what a machine `m` keeps."""
 import functools
 
-from loops import lengths
+from loops import joints, lengths
 from loops.linear import implied, is_number, refuted, terms, unknown
 from machines.machine import Allowed
 from machines.native import Native
 from machines.operands import HEAD, Pointer, Question, Verdict, lanes
 from machines.regions import Region, Window
-from statements.left_behind import cells_of_bit, no_secret_in_buffers, nothing_secret, what_is_left
-from statements.steps import step_by_step
+from statements.left_behind import cells_of_bit, kind_of_secret, named_bits, no_secret_in_buffers, nothing_secret, what_is_left
+from statements.steps import NO_STEP, step_by_step
 from symbols.bits import ONES, Pause, Unproved
 
 STACK = 16384  # FOTSGURE_AES_STACK and FOTSGURE_GCM_STACK
@@ -74,11 +74,12 @@ class Call:
         may_stay                {a kind of secret: how many bytes of it may stay on the stack}, if more than in other calls
         paths                   calls that share it run the same instructions whenever they return the same
         facts                   what is known of the unknown arguments: numbers that are 0 or more (linear.py)
-        any_length              whether `steps` is a function of the machine, as with Streams; then it asks only what branches ask"""
+        any_length              whether `steps` is a function of the machine, as with Streams; then it asks only what branches ask
+        parts                   the parts in which a call of several lengths is proved (joints.py)"""
 
     def __init__(self, name, arguments, status, size=4, steps=None, reveals=None, refused=None, refused_after=None, assumes=None,
                  later=None, counter=None, keystream=(), plain=(), may_stay=None, paths=None, facts=(),
-                 undone=False, other_blocks=(), any_length=False):
+                 undone=False, other_blocks=(), any_length=False, parts=()):
         self.name, self.arguments, self.status, self.size, self.steps = name, arguments, status, size, steps
         self.reveals, self.refused, self.refused_after = reveals, refused, refused_after or {}
         self.assumes, self.later, self.counter = assumes, later, counter
@@ -86,7 +87,7 @@ class Call:
         self.facts, self.undone, self.other_blocks, self.named = frozenset(facts), undone, other_blocks, {}
         self.buffers = [b for a in arguments if isinstance(a, Buffer) for b in (a, a.head) if b]
         self.streams = [b for b in self.buffers if isinstance(b, Stream)]
-        self.any_length = any_length or bool(self.streams)
+        self.any_length, self.parts = any_length or bool(self.streams), parts
 
     def written(self, m):
         """Gives each byte that was written to a buffer, with the Buffer. Bytes that were overwritten since count too. In a loop of any
@@ -100,14 +101,17 @@ def prove_call(domain, program, call, seed=None):
     or a tag is right. With a seed, the call also runs on the processor, with one key and data. Gives a machine after the call."""
     if len(domain.products) > MOST_SUMS_OF_PRODUCTS:
         domain.forget_products()
-    m, known = machine_before(domain, program, call), lengths.GeneralStates()
+    m = machine_before(domain, program, call)
+    if call.parts:
+        return prove_parts(m, call)
+    known = lengths.GeneralStates()
     watches = [step_by_step(call.steps if call.any_length else call.steps())] if call.steps else []
     if call.any_length:
         watches.append(functools.partial(lengths.watch, known))
     if call.paths is not None:
         watches.append(lambda m: m.trace.append(m.last))
     if seed is None:
-        return run_to_all_ends(m, call, watches, known)
+        return run_to_all_ends(m, call, watches, known)[-1]
     m.native = Native(m, seed, call.counter)
     try:
         run(m, call, [m.native.watch] + watches)
@@ -148,9 +152,50 @@ def numbers_of(m, call):
                 if is_number(v)}
 
 
+def prove_parts(m, call):
+    """Proves a call part by part. Each part is run from each state in which it may begin, with each remainder of its length."""
+    starts = [m]
+    for number, part in enumerate(call.parts):
+        joint, place = joints.Joint(call, call.parts[:number + 1], may_be_secret(call)), part.phase and place_of_joint(starts, call, part)
+        for start in starts:
+            for rest in joints.remainders_of(start, part):
+                ends = run_part(joints.with_remainder(start, part, rest), call, part, [joints.stopping_at(part, place)] * bool(place))
+                joint.add_all([end for end in ends if not has_returned(end)])
+        starts = list(joint.states.values())
+    return ends[-1]
+
+
+def place_of_joint(starts, call, part):
+    """Gives the place at which a part ends."""
+    scouts = joints.Scouts(part)
+    for start in starts:
+        rests = joints.remainders_of(start, part)
+        for rest in {rests[k] for k in joints.SCOUTED if k < len(rests)}:
+            run_part(joints.with_remainder(start, part, rest), call, part, [scouts.watch])
+    return scouts.place()
+
+
+def run_part(m, call, part, watches):
+    """Runs a part of a call to all its ends."""
+    known = lengths.GeneralStates()
+    steps = step_by_step(lambda m: call.steps(m) if m.phase != part.phase else NO_STEP)
+    return run_to_all_ends(m, call, [steps, *watches, functools.partial(lengths.watch, known)], known)
+
+
+def has_returned(m):
+    return isinstance(m.next_address, Pointer)
+
+
+def may_be_secret(call):
+    """Gives a function that says whether a byte of a machine may depend on a secret."""
+    def is_secret(m, byte):
+        return byte in m.secret.lost or kind_of_secret(m, byte, *named_bits(m, call)) is not None
+    return is_secret
+
+
 def run_to_all_ends(m, call, watches, known):
-    """Runs a call with each answer to each question, and checks each end."""
-    waiting, ends = [m], []
+    """Runs a call with each answer to each question, and checks each end. Gives the machines that returned, or that came to a joint."""
+    waiting, ends, facts = [m], [], m.facts
     while waiting:
         m = waiting.pop()
         m.domain.factor_of = {}
@@ -161,6 +206,9 @@ def run_to_all_ends(m, call, watches, known):
         except lengths.Leads as leads:
             no_secret_in_buffers(m, call)
             waiting += leads.args[0]
+        except joints.Arrived:
+            no_secret_in_buffers(m, call)
+            ends.append(m)
         except lengths.Wrong as wrong:
             general, guesses = wrong.args
             m.forget_nearest(general.name)
@@ -172,8 +220,8 @@ def run_to_all_ends(m, call, watches, known):
             nothing_secret(m, call)
             ends.append(m)
     if call.any_length:
-        lengths.check_ends(ends, call)
-    return ends[-1]
+        lengths.check_ends(ends, facts)
+    return ends
 
 
 def run(m, call, watches):
