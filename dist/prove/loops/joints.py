@@ -21,10 +21,23 @@ SCOUTED = 0, 1, 16, 17, -1  # the remainders with which the place of a joint is 
 #     length    the name of the unknown length whose remainders it has
 #     step      the number of bytes by which they are taken
 #     phase     the phase of the statement that begins when the part ends; None for the last part, which ends with the call
-#     apart     whether the state after it is another one if the length is 0
-Part = namedtuple("Part", "length step phase apart", defaults=[None, False])
+#     cases     sets of facts, of which one holds for each run that comes to its end. Each has a state of its own there
+#     but       a length that isn't meant. It has to be less than `step`
+class Part(namedtuple("Part", "length step phase cases but", defaults=[None, (frozenset(),), None])):
+    __slots__ = ()
+
+    def later(self, phases):
+        """Gives the part if other phases come before its own."""
+        return self._replace(phase=self.phase and self.phase + phases)
+
+
 # Where a part ends: the address after a call, and the stack pointer there.
 Place = namedtuple("Place", "address stack_pointer")
+
+
+def is_empty_or_not(sizes):
+    """Gives the cases that all of these sizes are 0, and that one isn't."""
+    return {-sum(sizes)}, {sum(sizes) - 1}
 
 
 class Arrived(Exception):
@@ -36,7 +49,7 @@ def with_remainder(start, part, rest):
     m = start.copied()
     if isinstance(m.known(unknown(part.length)), Linear):
         m.replace_unknown(part.length, unknown(GROUPS) * part.step + rest)
-        m.facts |= {unknown(GROUPS)}
+        m.facts |= {unknown(GROUPS) - (rest == part.but)}
     return m
 
 
@@ -72,68 +85,56 @@ class Scouts:
                 self.common = [place for place in m.returning if self.common is None or place in self.common]
             raise Arrived
 
-    def place(self):
+    def places(self):
+        """Gives the places to which functions return after the part, in the order in which they were called."""
         if not self.common:
             raise Unproved("no function returns after the part with the length %s" % self.part.length)
-        return self.common[-1]
+        return self.common
 
 
 class Joint:
-    """Keeps the states at a joint: one for each set of lengths that are 0, as far as parts that came before say that this counts."""
+    """Keeps the states at a joint, one for each case."""
 
-    def __init__(self, call, parts, is_secret):
-        """`parts` are those up to the joint. is_secret(m, byte) says whether a byte may depend on a secret."""
-        self.call, self.is_secret = call, is_secret
-        self.lengths = {part.length: None for part in call.parts}
-        self.apart = [part.length for part in parts if part.apart]
-        self.states = {}
+    def __init__(self, call, part, places, is_secret):
+        """`part` is the one that ends there, and `places` are those to which functions return, with the joint as the last one.
+        is_secret(m, byte) says whether a byte may depend on a secret."""
+        self.facts, self.cases, self.is_secret, self.returning = call.facts, part.cases, is_secret, tuple(places[:-1])
+        self.lengths = dict.fromkeys(part.length for part in call.parts)
+        self.states = {}  # by the numbers of their cases
 
     def add_all(self, runs):
         """Adds runs that came to the joint. Those of any length come first, because a state can't be made from another one."""
         def known_lengths(m):
             return sum(is_int(m.known(unknown(name))) for name in self.lengths)
         for m in sorted(runs, key=known_lengths):
-            self.add(m)
+            self.add(without_dead_stack(m, self.is_secret))
 
     def add(self, m):
-        """Adds a run. It has to be an instance of the state that belongs to it."""
-        m = without_dead_stack(m, self.is_secret)
-        case = tuple(self.is_empty(m, name) for name in self.apart)
+        """Adds a run. It has to be an instance of the state of its case."""
+        case = next((k for k, facts in enumerate(self.cases) if all(m.implied(m.known(fact)) for fact in facts)), None)
+        if case is None:
+            raise Unproved("it isn't known which case a run belongs to at the end of a part")
         if case not in self.states:
-            self.states[case] = self.state_of(m)
+            self.states[case] = self.state_of(m, self.cases[case])
         state = self.states[case]
         weaken(state, m, self.instance(state, m))
         wrong = differences_from(m, self.instance(state, m)) + differences_of_windows(m, state)
         if wrong:
             raise Unproved("a part doesn't end in the same state: " + ", ".join(wrong))
 
-    @staticmethod
-    def is_empty(m, name):
-        """Whether a length is 0."""
-        number = m.known(unknown(name))
-        if number != 0 and not m.implied(number - 1):
-            raise Unproved("it isn't known at a joint whether the length %s is 0" % name)
-        return number == 0
-
-    def state_of(self, m):
-        """Guesses the state at the joint from a run."""
-        state, facts = m.copied(), self.call.facts
-        for name in self.lengths:
-            number = m.known(unknown(name))
-            if is_int(number) and not (name in self.apart and number == 0):
-                raise Unproved("no run of any length comes to a joint first")
-            if is_int(number):
-                facts = frozenset(replaced(f, name, number) for f in facts)
-            elif number != unknown(name):
+    def state_of(self, m, case):
+        """Guesses the state of a case from a run."""
+        state = m.copied()
+        numbers = {name: m.known(unknown(name)) for name in self.lengths}
+        for name, number in numbers.items():
+            if not is_int(number) and number != unknown(name):
                 rewrite(state, number, name)
-            if name in self.apart and number != 0:
-                facts |= {unknown(name) - 1}
-        state.facts = frozenset(f for f in facts if not is_int(f) or f < 0)
-        state.replaced = [(name, 0) for name in self.apart if m.known(unknown(name)) == 0]
-        state.decided, state.generals, state.loops = [], (), {}
+        state.facts, state.replaced, state.decided, state.generals, state.loops = self.facts, [], [], (), {}
         state.flags = dict.fromkeys(state.flag_names, SECRET)
         state.ever_written = {name: set() for name in m.ever_written}
-        state.returning = ()
+        state.returning = self.returning
+        for fact in case:
+            state.assume(fact)
         return state
 
     def instance(self, state, m):
@@ -160,6 +161,9 @@ def without_dead_stack(m, is_secret):
 
 def rewrite(state, number, name):
     """Lets an unknown replace this number everywhere. Bytes of numbers that can't be written with it become any bytes."""
+    if len(number.terms) > 1:
+        raise Unproved("a length that depends on several unknown numbers at a joint")
+
     def is_written(x):
         try:
             rewritten(x, number, name)
@@ -190,13 +194,12 @@ def weaken(state, m, want):
             state.general[r] = (any_,) * m.word
     state.vectors = [common(*some) for some in zip(state.vectors, want.vectors, m.vectors)]
     own, other, here = (x.regions["stack"].content for x in (state, want, m))
-    lowest = state.stack.lowest = min(state.stack.lowest, m.stack.lowest)
-    own[lowest:] = common(own[lowest:], other[lowest:], here[lowest:])
-    state.stack.stale |= m.stack.stale
+    state.stack.join(m.stack)
+    begin = state.stack.lowest
+    own[begin:] = common(own[begin:], other[begin:], here[begin:])
     state.origins = {place: state.origins.get(place, 0) | m.origins.get(place, 0) for place in {**state.origins, **m.origins}}
     state.answers = {flag: answer for flag, answer in state.answers.items() if m.answers.get(flag) == answer}
-    for name in m.ever_written:
-        state.ever_written.setdefault(name, set())
+    state.note_buffers(m)
 
 
 def differences_of_windows(m, state):

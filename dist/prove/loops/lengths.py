@@ -242,7 +242,8 @@ def general_state(known, key, visit, now, wrong=frozenset()):
     g.steps_found = generalized(first.steps_found, second.steps_found, passes, g.highest)
     general_registers(g, first, second, passes, wrong)
     general_regions(g, first, second, passes)
-    g.stack.stale, g.stack.lowest = first.stack.stale | second.stack.stale, min(first.stack.lowest, second.stack.lowest)
+    g.stack.join(second.stack)
+    g.note_buffers(second)
     g.flags = general_flags(g, first, second, wrong)
     guesses = frozenset(start + passes * by for start, by in guesses_of(visit.facts, now.facts, wrong) if first.implied(start))
     g.facts = first.facts | guesses | {passes}
@@ -330,9 +331,8 @@ def differences_from(m, want):
     agrees = {
         "a fact": all(m.implied(f) for f in want.facts),
         FLAG: all(flag == SECRET or flag is None and not m.is_secret(m.flags[f]) for f, flag in want.flags.items()),
-        "what may be overwritten": m.stack.stale <= want.stack.stale,
-        "the top": m.stack.top == want.stack.top,
-        "the lowest place": m.stack.lowest >= want.stack.lowest,
+        "the use of the stack": want.stack.includes(m.stack),
+        "the buffers that it wrote to": m.ever_written.keys() <= want.ever_written.keys(),
         "origins": m.origins.items() <= want.origins.items(),
         "answers": want.answers.items() <= m.answers.items(),
         "what was asked of secrets": m.asked_of_secrets() == want.asked_of_secrets()}
@@ -345,7 +345,7 @@ def described(region):
 
 
 def check_ends(ends, facts):
-    """Checks that runs came to an end with lengths of all sizes that these facts allow. Else a proof might say nothing about them."""
+    """Checks that runs came to an end with numbers of all sizes that these facts allow. Else a proof might say nothing about them."""
     for name in {name for fact in facts for name in terms(fact)}:
         for value in (*range(40), *(2 ** k + d for k in range(6, 60) for d in (-1, 0, 1))):
             this = {unknown(name) - value, value - unknown(name)}

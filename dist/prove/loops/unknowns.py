@@ -308,6 +308,10 @@ class Unknowns:
         access."""
         return self.stack.lowest // self.word * self.word if name == "stack" else 0
 
+    def note_buffers(self, other):
+        """Notes to which buffers another machine wrote. (What it wrote is looked at where its run ends.)"""
+        self.ever_written.update((name, set()) for name in other.ever_written.keys() - self.ever_written.keys())
+
     def settle_verdicts(self, differences, equal):
         """Replaces Verdicts of these bytes by numbers, once it is known whether all these bytes are 0."""
         def number(v):

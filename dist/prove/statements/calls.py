@@ -155,24 +155,25 @@ def numbers_of(m, call):
 def prove_parts(m, call):
     """Proves a call part by part. Each part is run from each state in which it may begin, with each remainder of its length."""
     starts = [m]
-    for number, part in enumerate(call.parts):
-        joint, place = joints.Joint(call, call.parts[:number + 1], may_be_secret(call)), part.phase and place_of_joint(starts, call, part)
+    for part in call.parts:
+        places = places_of_joint(starts, call, part) if part.phase else []
+        joint = joints.Joint(call, part, places, may_be_secret(call))
         for start in starts:
             for rest in joints.remainders_of(start, part):
-                ends = run_part(joints.with_remainder(start, part, rest), call, part, [joints.stopping_at(part, place)] * bool(place))
+                ends = run_part(joints.with_remainder(start, part, rest), call, part, [joints.stopping_at(part, at) for at in places[-1:]])
                 joint.add_all([end for end in ends if not has_returned(end)])
         starts = list(joint.states.values())
     return ends[-1]
 
 
-def place_of_joint(starts, call, part):
-    """Gives the place at which a part ends."""
+def places_of_joint(starts, call, part):
+    """Gives the place at which a part ends, after those to which other functions return."""
     scouts = joints.Scouts(part)
     for start in starts:
         rests = joints.remainders_of(start, part)
         for rest in {rests[k] for k in joints.SCOUTED if k < len(rests)}:
             run_part(joints.with_remainder(start, part, rest), call, part, [scouts.watch])
-    return scouts.place()
+    return scouts.places()
 
 
 def run_part(m, call, part, watches):
