@@ -122,8 +122,7 @@ class WholeMessages:
 
     def any_facts(self, sizes):
         """Gives the facts of both sizes. They may be as large as a buffer, and as the standard allows."""
-        counts = {unknown(name) for size in sizes for name in terms(size)}
-        return {*counts, PTRDIFF_MAX - sizes[0], MOST_ADDITIONAL - sizes[0], MOST - sizes[1]}
+        return {*counts_of(sizes), PTRDIFF_MAX - sizes[0], MOST_ADDITIONAL - sizes[0], MOST - sizes[1]}
 
     def call_of_any_message(self, name, sizes, nonce, stream, texts, steps, plain, parts, **more):
         """Gives a call on a whole message of every length. `steps` and `parts` are those after its nonce."""
@@ -132,6 +131,11 @@ class WholeMessages:
                     steps=lambda m: nonce.steps(m) if m.phase < nonce.phases else steps(m, m.phase - nonce.phases),
                     keystream=self.in_all_blocks(stream), plain=self.in_all_blocks(plain), facts=self.any_facts(sizes) | nonce.facts,
                     parts=[*nonce.parts, *(part.later(nonce.phases) for part in parts)], **more)
+
+
+def counts_of(sizes):
+    """Gives the unknown numbers of which sizes are made."""
+    return {unknown(name) for size in sizes for name in terms(size)}
 
 
 def any_sizes(additional, text):

@@ -5,17 +5,19 @@ a part come there with each remainder of one length. A *state at the joint* is t
 without remainders. Nothing is known of what the runs don't have in common, and of what lies below the stack pointer. Each run has to be an
 instance of this state, so that all that is proved from there holds for it. The next part begins in this state, with each remainder of the
 length that it is about. So it doesn't matter how the state is guessed: a wrong guess can only fail."""
+import itertools
 import re
 from collections import namedtuple
 
 from loops.lengths import differences_from
-from loops.linear import Linear, replaced, rewritten, terms, unknown
+from loops.linear import Linear, refuted, rewritten, terms, unknown
 from machines.operands import SECRET, is_int
 from machines.regions import Window
-from symbols.bits import LOST, Unproved
+from symbols.bits import KEY, Unproved
 
-GROUPS = "groups"  # an unknown: how many times a length has the number of bytes by which its remainders are taken
-SCOUTED = 0, 1, 16, 17, -1  # the remainders with which the place of a joint is looked for; -1 is the greatest one
+GROUP_NUMBERS = itertools.count()  # so that each unknown number of groups of bytes has a name of its own
+SCOUTED = 0, 1, 16, 17  # the remainders with which the place of a joint is looked for
+LONGEST_TRAIL = 4000  # how many places are looked at there
 
 # A part of a call:
 #     length    the name of the unknown length whose remainders it has
@@ -48,57 +50,84 @@ def with_remainder(start, part, rest):
     """Gives a machine in which the length of a part leaves this remainder. If the length is known there, it stays as it is."""
     m = start.copied()
     if isinstance(m.known(unknown(part.length)), Linear):
-        m.replace_unknown(part.length, unknown(GROUPS) * part.step + rest)
-        m.facts |= {unknown(GROUPS) - (rest == part.but)}
+        groups = unknown("groups %04d" % next(GROUP_NUMBERS))
+        m.replace_unknown(part.length, groups * part.step + rest)
+        m.facts |= {groups - (rest == part.but)}
     return m
 
 
-def remainders_of(start, part):
-    """Gives all remainders that the length of a part may leave."""
-    return range(part.step) if isinstance(start.known(unknown(part.length)), Linear) else range(1)
+def names_of_lengths(m, part, rest):
+    """Gives the names of unknown numbers whose sizes are looked at where runs with this remainder end: those of its length, and with the
+    first remainder also those of the other lengths."""
+    own = terms(m.known(unknown(part.length)))
+    return own if rest else {name for fact in m.facts for name in terms(fact)}
 
 
-def stopping_at(part, place):
-    """Gives a function that ends a run at a joint. It is called after each instruction."""
+def begins_of(start, part):
+    """Gives (a remainder, the machine in which the length of a part leaves it) for each remainder that it may leave."""
+    for rest in range(part.step) if isinstance(start.known(unknown(part.length)), Linear) else range(1):
+        m = with_remainder(start, part, rest)
+        if not refuted(m.facts):
+            yield rest, m
+
+
+def case_of(m, part):
+    """Gives the number of the case to which a run belongs at the end of a part, or None if that isn't known."""
+    return next((k for k, facts in enumerate(part.cases) if all(m.implied(m.known(fact)) for fact in facts)), None)
+
+
+def here(m):
+    return Place(m.next_address, m.general[m.stack_pointer].offset)
+
+
+def stopping_at(part, places):
+    """Gives a function that ends a run at a joint. It is called after each instruction. `places` are those of the cases."""
+    addresses = {place.address for place in places.values()}
+
     def watch(m):
-        if m.next_address == place.address and m.phase == part.phase and m.general[m.stack_pointer].offset == place.stack_pointer and (
-                re.match(m.returns, m.program.lines[m.last])):
+        if m.next_address in addresses and m.phase == part.phase and here(m) == places.get(case_of(m, part)):
             raise Arrived
     return watch
 
 
-class Scouts:
-    """Looks for the place of a joint: where the innermost function returns that runs at the end of the part, whatever the remainder is."""
+def stopping_in(phase):
+    """Gives a function that ends a run when a phase begins."""
+    def watch(m):
+        if m.phase == phase:
+            raise Arrived
+    return watch
 
-    def __init__(self, part):
-        self.part, self.common = part, None
+
+class Trail:
+    """Notes through which places a run goes after the end of a part, and after which of them a function has just returned."""
+
+    def __init__(self):
+        self.places, self.returned = {}, set()
 
     def watch(self, m):
-        """Follows calls and returns, and notes to which places functions will return when the phase begins."""
-        line = m.program.lines[m.last]
-        if re.match(m.returns, line):
-            m.returning = m.returning[:-1]
-        elif re.match(m.calls, line) and m.next_address in m.program.function_of:
-            m.returning = *m.returning, Place(m.program.next[m.last], m.general[m.stack_pointer].offset + m.word * len(m.pushed))
-        if m.phase == self.part.phase:
-            if m.known(unknown(self.part.length)) != 0:
-                self.common = [place for place in m.returning if self.common is None or place in self.common]
+        if is_int(m.next_address):
+            place = here(m)
+            self.places[place] = None
+            if re.match(m.returns, m.program.lines[m.last]):
+                self.returned.add(place)
+        if len(self.places) > LONGEST_TRAIL:
             raise Arrived
 
-    def places(self):
-        """Gives the places to which functions return after the part, in the order in which they were called."""
-        if not self.common:
-            raise Unproved("no function returns after the part with the length %s" % self.part.length)
-        return self.common
+
+def common_place(trails):
+    """Gives the first place through which all these runs go. If there is one where a function has just returned, it is the first of those."""
+    common = [place for place in trails[0].places if all(place in trail.places for trail in trails)]
+    if not common:
+        raise Unproved("runs have no place in common after a part")
+    return next((place for place in common if place in trails[0].returned), common[0])
 
 
 class Joint:
     """Keeps the states at a joint, one for each case."""
 
-    def __init__(self, call, part, places, is_secret):
-        """`part` is the one that ends there, and `places` are those to which functions return, with the joint as the last one.
-        is_secret(m, byte) says whether a byte may depend on a secret."""
-        self.facts, self.cases, self.is_secret, self.returning = call.facts, part.cases, is_secret, tuple(places[:-1])
+    def __init__(self, call, part, is_secret):
+        """`part` is the one that ends there. is_secret(m, byte) says whether a byte may depend on a secret."""
+        self.facts, self.part, self.is_secret = call.facts, part, is_secret
         self.lengths = dict.fromkeys(part.length for part in call.parts)
         self.states = {}  # by the numbers of their cases
 
@@ -111,11 +140,11 @@ class Joint:
 
     def add(self, m):
         """Adds a run. It has to be an instance of the state of its case."""
-        case = next((k for k, facts in enumerate(self.cases) if all(m.implied(m.known(fact)) for fact in facts)), None)
+        case = case_of(m, self.part)
         if case is None:
             raise Unproved("it isn't known which case a run belongs to at the end of a part")
         if case not in self.states:
-            self.states[case] = self.state_of(m, self.cases[case])
+            self.states[case] = self.state_of(m, self.part.cases[case])
         state = self.states[case]
         weaken(state, m, self.instance(state, m))
         wrong = differences_from(m, self.instance(state, m)) + differences_of_windows(m, state)
@@ -132,7 +161,6 @@ class Joint:
         state.facts, state.replaced, state.decided, state.generals, state.loops = self.facts, [], [], (), {}
         state.flags = dict.fromkeys(state.flag_names, SECRET)
         state.ever_written = {name: set() for name in m.ever_written}
-        state.returning = self.returning
         for fact in case:
             state.assume(fact)
         return state
@@ -197,8 +225,11 @@ def weaken(state, m, want):
     state.stack.join(m.stack)
     begin = state.stack.lowest
     own[begin:] = common(own[begin:], other[begin:], here[begin:])
-    state.origins = {place: state.origins.get(place, 0) | m.origins.get(place, 0) for place in {**state.origins, **m.origins}}
-    state.answers = {flag: answer for flag, answer in state.answers.items() if m.answers.get(flag) == answer}
+    for place, on in m.origins.items():  # (What depends on the key alone may not be left anywhere.)
+        if on != state.origins.setdefault(place, on) and on & state.origins[place] & KEY:
+            state.origins[place] = KEY
+    secret = state.asked_of_secrets()
+    state.answers = {flag: answer for flag, answer in state.answers.items() if flag in secret or m.answers.get(flag) == answer}
     state.note_buffers(m)
 
 

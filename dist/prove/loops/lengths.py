@@ -15,7 +15,7 @@ from loops.linear import is_number, refuted, replaced, terms, unknown, wrapped
 from loops.unknowns import WRAPPED
 from machines.operands import FARTHEST, SECRET, Number, Pointer, is_int, is_pointer, lanes
 from machines.regions import Window
-from symbols.bits import LOST, Unproved
+from symbols.bits import KEY, LOST, Unproved
 
 FLAG = "a flag"  # a difference of two states
 PASS_NUMBERS = itertools.count()  # so that each unknown number of passes has a name of its own
@@ -333,7 +333,7 @@ def differences_from(m, want):
         FLAG: all(flag == SECRET or flag is None and not m.is_secret(m.flags[f]) for f, flag in want.flags.items()),
         "the use of the stack": want.stack.includes(m.stack),
         "the buffers that it wrote to": m.ever_written.keys() <= want.ever_written.keys(),
-        "origins": m.origins.items() <= want.origins.items(),
+        "origins": all(want.origins.get(place) in (on, KEY if on & KEY else on) for place, on in m.origins.items()),
         "answers": want.answers.items() <= m.answers.items(),
         "what was asked of secrets": m.asked_of_secrets() == want.asked_of_secrets()}
     return wrong + [what for what, right in agrees.items() if not right]
@@ -344,9 +344,10 @@ def described(region):
     return [region.size, region.end, region.origin, region.initial, region.writable] if isinstance(region, Window) else []
 
 
-def check_ends(ends, facts):
-    """Checks that runs came to an end with numbers of all sizes that these facts allow. Else a proof might say nothing about them."""
-    for name in {name for fact in facts for name in terms(fact)}:
+def check_ends(ends, facts, names):
+    """Checks that runs came to an end with numbers of all sizes that these facts allow, for each unknown number with one of these names.
+    Else a proof might say nothing about them."""
+    for name in names:
         for value in (*range(40), *(2 ** k + d for k in range(6, 60) for d in (-1, 0, 1))):
             this = {unknown(name) - value, value - unknown(name)}
             if not refuted(facts | this):

@@ -28,7 +28,6 @@ beginning of a line of objdump.
     landing_mark           a pattern of instructions where an indirect call may arrive, if a processor looks for that
     jumps_to_mark          a pattern of jumps and calls that have to arrive at such an instruction
     jumps, returns         patterns of jumps to an address that are no calls, and of returns from a function
-    calls                  a pattern of calls
     conditional            a pattern of conditional jumps and of adds with carry
     padding                a pattern of instructions that only fill up space
     choosing               a pattern of instructions that choose a value by a condition
@@ -69,7 +68,6 @@ class Allowed:
 
 class Machine(Arithmetic, Borders, Unknowns, Bytewise, Results, Access):
     pushed, restored_vectors, shadow, stack_step, also_called, landing_mark, jumps_to_mark, returns = (), {}, 0, 1, (), "", "(?!)", "ret"
-    calls = "call"
     reserved = ()  # registers that may not change, as a signal's handler or the system may use them at any time
     word, highest, flag_names = 8, WORD, "czso"
     start, strict, relaxed, comment, avx512 = 0x123456700000, False, False, "#", b""
@@ -101,7 +99,6 @@ class Machine(Arithmetic, Borders, Unknowns, Bytewise, Results, Access):
         self.first_block = 0  # the block of each buffer from which on blocks are numbered
         self.generals = ()  # the names of the general states from which the run came
         self.times_forgotten = 0  # how often blocks were forgotten
-        self.returning = ()  # the places to which functions will return (joints.py)
         self.trace = []  # where instructions ran, for calls that share it
         # (the stack pointer in a function, the numbers that it was given), for the call and for the last functions
         self.numbers_by_frame = ((0, ()),)

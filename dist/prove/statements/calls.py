@@ -3,6 +3,7 @@
 A statement is a Call, written like the call in C. Its arguments are numbers and Buffers. Each Buffer says what it has to hold when the call
 returns. A Buffer that says nothing may only be read. So "writes nothing but what it says" is part of each statement. machine.Machine says
 what a machine `m` keeps."""
+import contextlib
 import functools
 
 from loops import joints, lengths
@@ -111,7 +112,10 @@ def prove_call(domain, program, call, seed=None):
     if call.paths is not None:
         watches.append(lambda m: m.trace.append(m.last))
     if seed is None:
-        return run_to_all_ends(m, call, watches, known)[-1]
+        ends = run_to_all_ends(m, call, watches, known)
+        if call.any_length:
+            lengths.check_ends(ends, call.facts, {name for fact in call.facts for name in terms(fact)})
+        return ends[-1]
     m.native = Native(m, seed, call.counter)
     try:
         run(m, call, [m.native.watch] + watches)
@@ -156,31 +160,34 @@ def prove_parts(m, call):
     """Proves a call part by part. Each part is run from each state in which it may begin, with each remainder of its length."""
     starts = [m]
     for part in call.parts:
-        places = places_of_joint(starts, call, part) if part.phase else []
-        joint = joints.Joint(call, part, places, may_be_secret(call))
+        joint, places = joints.Joint(call, part, may_be_secret(call)), places_of_joint(starts, call, part) if part.phase else {}
         for start in starts:
-            for rest in joints.remainders_of(start, part):
-                ends = run_part(joints.with_remainder(start, part, rest), call, part, [joints.stopping_at(part, at) for at in places[-1:]])
+            for rest, begin in joints.begins_of(start, part):
+                ends = run_part(begin.copied(), call, part, joints.stopping_at(part, places))
+                lengths.check_ends(ends, begin.facts, joints.names_of_lengths(begin, part, rest))
                 joint.add_all([end for end in ends if not has_returned(end)])
         starts = list(joint.states.values())
     return ends[-1]
 
 
 def places_of_joint(starts, call, part):
-    """Gives the place at which a part ends, after those to which other functions return."""
-    scouts = joints.Scouts(part)
+    """Gives the places at which a part ends, by the cases of its end. They are looked for with a few remainders."""
+    trails = {}
     for start in starts:
-        rests = joints.remainders_of(start, part)
-        for rest in {rests[k] for k in joints.SCOUTED if k < len(rests)}:
-            run_part(joints.with_remainder(start, part, rest), call, part, [scouts.watch])
-    return scouts.places()
+        for rest, begin in joints.begins_of(start, part):
+            for m in run_part(begin, call, part, joints.stopping_in(part.phase)) if rest in joints.SCOUTED else ():
+                trail = joints.Trail()
+                trails.setdefault(joints.case_of(m, part), []).append(trail)
+                with contextlib.suppress(joints.Arrived, Question, Unproved):
+                    run(m, call, [trail.watch])
+    return {case: joints.common_place(some) for case, some in trails.items()}
 
 
-def run_part(m, call, part, watches):
-    """Runs a part of a call to all its ends."""
+def run_part(m, call, part, stopping):
+    """Runs a part of a call to all its ends. `stopping` is called after each instruction."""
     known = lengths.GeneralStates()
     steps = step_by_step(lambda m: call.steps(m) if m.phase != part.phase else NO_STEP)
-    return run_to_all_ends(m, call, [steps, *watches, functools.partial(lengths.watch, known)], known)
+    return run_to_all_ends(m, call, [steps, stopping, functools.partial(lengths.watch, known)], known)
 
 
 def has_returned(m):
@@ -196,7 +203,7 @@ def may_be_secret(call):
 
 def run_to_all_ends(m, call, watches, known):
     """Runs a call with each answer to each question, and checks each end. Gives the machines that returned, or that came to a joint."""
-    waiting, ends, facts = [m], [], m.facts
+    waiting, ends = [m], []
     while waiting:
         m = waiting.pop()
         m.domain.factor_of = {}
@@ -220,8 +227,6 @@ def run_to_all_ends(m, call, watches, known):
             check(m, call)
             nothing_secret(m, call)
             ends.append(m)
-    if call.any_length:
-        lengths.check_ends(ends, facts)
     return ends
 
 
