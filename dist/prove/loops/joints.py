@@ -6,7 +6,6 @@ without remainders. Nothing is known of what the runs don't have in common, and 
 instance of this state, so that all that is proved from there holds for it. The next part begins in this state, with each remainder of the
 length that it is about. So it doesn't matter how the state is guessed: a wrong guess can only fail."""
 import itertools
-import re
 from collections import namedtuple
 
 from loops.lengths import differences_from
@@ -52,7 +51,7 @@ def with_remainder(start, part, rest):
     if isinstance(m.known(unknown(part.length)), Linear):
         groups = unknown("groups %04d" % next(GROUP_NUMBERS))
         m.replace_unknown(part.length, groups * part.step + rest)
-        m.facts |= {groups - (rest == part.but)}
+        m.assume(groups - (rest == part.but))
     return m
 
 
@@ -63,9 +62,9 @@ def names_of_lengths(m, part, rest):
     return own if rest else {name for fact in m.facts for name in terms(fact)}
 
 
-def begins_of(start, part):
-    """Gives (a remainder, the machine in which the length of a part leaves it) for each remainder that it may leave."""
-    for rest in range(part.step) if isinstance(start.known(unknown(part.length)), Linear) else range(1):
+def begins_of(start, part, rests=None):
+    """Gives (a remainder, the machine in which the length of a part leaves it) for each remainder that it may leave, or for some."""
+    for rest in rests or range(part.step) if isinstance(start.known(unknown(part.length)), Linear) else range(1):
         m = with_remainder(start, part, rest)
         if not refuted(m.facts):
             yield rest, m
@@ -99,27 +98,25 @@ def stopping_in(phase):
 
 
 class Trail:
-    """Notes through which places a run goes after the end of a part, and after which of them a function has just returned."""
+    """Notes through which places a run goes after the end of a part."""
 
     def __init__(self):
-        self.places, self.returned = {}, set()
+        self.places = {}
 
     def watch(self, m):
         if is_int(m.next_address):
-            place = here(m)
-            self.places[place] = None
-            if re.match(m.returns, m.program.lines[m.last]):
-                self.returned.add(place)
+            self.places[here(m)] = None
         if len(self.places) > LONGEST_TRAIL:
             raise Arrived
 
 
 def common_place(trails):
-    """Gives the first place through which all these runs go. If there is one where a function has just returned, it is the first of those."""
-    common = [place for place in trails[0].places if all(place in trail.places for trail in trails)]
-    if not common:
+    """Gives the first place through which all these runs go."""
+    first, *others = trails
+    place = next((place for place in first.places if all(place in trail.places for trail in others)), None)
+    if not place:
         raise Unproved("runs have no place in common after a part")
-    return next((place for place in common if place in trails[0].returned), common[0])
+    return place
 
 
 class Joint:
@@ -162,7 +159,8 @@ class Joint:
         state.flags = dict.fromkeys(state.flag_names, SECRET)
         state.ever_written = {name: set() for name in m.ever_written}
         for fact in case:
-            state.assume(fact)
+            if not is_int(fact := state.known(fact)):
+                state.assume(fact)
         return state
 
     def instance(self, state, m):

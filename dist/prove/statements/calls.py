@@ -174,8 +174,8 @@ def places_of_joint(starts, call, part):
     """Gives the places at which a part ends, by the cases of its end. They are looked for with a few remainders."""
     trails = {}
     for start in starts:
-        for rest, begin in joints.begins_of(start, part):
-            for m in run_part(begin, call, part, joints.stopping_in(part.phase)) if rest in joints.SCOUTED else ():
+        for _, begin in joints.begins_of(start, part, joints.SCOUTED):
+            for m in run_part(begin, call, part, joints.stopping_in(part.phase)):
                 trail = joints.Trail()
                 trails.setdefault(joints.case_of(m, part), []).append(trail)
                 with contextlib.suppress(joints.Arrived, Question, Unproved):
