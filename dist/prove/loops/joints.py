@@ -8,8 +8,8 @@ length that it is about. So it doesn't matter how the state is guessed: a wrong 
 import itertools
 from collections import namedtuple
 
-from loops.lengths import differences_from
-from loops.linear import Linear, refuted, rewritten, terms, unknown
+from loops.lengths import differences_from, general_regions, general_registers, generalized
+from loops.linear import Linear, implied, refuted, rewritten, terms, unknown
 from machines.operands import SECRET, is_int
 from machines.regions import Window
 from symbols.bits import KEY, Unproved
@@ -126,38 +126,55 @@ class Joint:
         """`part` is the one that ends there. is_secret(m, byte) says whether a byte may depend on a secret."""
         self.facts, self.part, self.is_secret = call.facts, part, is_secret
         self.lengths = dict.fromkeys(part.length for part in call.parts)
-        self.states = {}  # by the numbers of their cases
+        self.known_states, self.waiting = {}, {}  # by the numbers of their cases: states, and runs to which no state belongs so far
 
     def add_all(self, runs):
-        """Adds runs that came to the joint. Those of any length come first, because a state can't be made from another one."""
+        """Adds runs that came to the joint. Those of any length come first, because a state is best made from one of them."""
         def known_lengths(m):
             return sum(is_int(m.known(unknown(name))) for name in self.lengths)
         for m in sorted(runs, key=known_lengths):
             self.add(without_dead_stack(m, self.is_secret))
 
     def add(self, m):
-        """Adds a run. It has to be an instance of the state of its case."""
+        """Adds a run. It has to be an instance of the state of its case, and so have all that waited for this state."""
         case = case_of(m, self.part)
         if case is None:
             raise Unproved("it isn't known which case a run belongs to at the end of a part")
-        if case not in self.states:
-            self.states[case] = self.state_of(m, self.part.cases[case])
-        state = self.states[case]
-        weaken(state, m, self.instance(state, m))
-        wrong = differences_from(m, self.instance(state, m)) + differences_of_windows(m, state)
-        if wrong:
-            raise Unproved("a part doesn't end in the same state: " + ", ".join(wrong))
+        runs = [*self.waiting.pop(case, ()), m]
+        state = self.known_states.get(case) or self.state_of(runs, self.part.cases[case])
+        if not state:
+            self.waiting[case] = runs
+            return
+        self.known_states[case] = state
+        for run in runs:
+            weaken(state, run, self.instance(state, run))
+            wrong = differences_from(run, self.instance(state, run)) + differences_of_windows(run, state)
+            if wrong:
+                raise Unproved("a part doesn't end in the same state: " + ", ".join(wrong))
 
-    def state_of(self, m, case):
-        """Guesses the state of a case from a run."""
-        state = m.copied()
+    def states(self):
+        """Gives all states, when all runs have come."""
+        if self.waiting:
+            raise Unproved("no state at a joint is known for some runs")
+        return list(self.known_states.values())
+
+    def state_of(self, runs, case):
+        """Guesses the state of a case from the last run. If a length is known there that may be any in this case, it is guessed from the
+        last two runs. Their lengths have to differ by 1, or there is no state so far."""
+        m = runs[-1]
         numbers = {name: m.known(unknown(name)) for name in self.lengths}
+        fixed = [name for name, number in numbers.items() if is_int(number) and not implied_by(self.facts | case, name, number)]
+        state = m.copied() if not fixed else state_between(runs[-2:], fixed) if len(runs) > 1 else None
+        return state and self.forgetful(state, case, {name: number for name, number in numbers.items() if not is_int(number)})
+
+    def forgetful(self, state, case, numbers):
+        """Gives this state with nothing but what a joint keeps. The lengths with these numbers become unknown."""
         for name, number in numbers.items():
-            if not is_int(number) and number != unknown(name):
+            if number != unknown(name):
                 rewrite(state, number, name)
         state.facts, state.replaced, state.decided, state.generals, state.loops = self.facts, [], [], (), {}
         state.flags = dict.fromkeys(state.flag_names, SECRET)
-        state.ever_written = {name: set() for name in m.ever_written}
+        state.ever_written = {name: set() for name in state.ever_written}
         for fact in case:
             if not is_int(fact := state.known(fact)):
                 state.assume(fact)
@@ -171,6 +188,27 @@ class Joint:
         for name in self.lengths:
             want.replace_unknown(name + " at the joint", m.known(unknown(name)))
         return want
+
+
+def implied_by(facts, name, number):
+    """Whether it follows from facts that the unknown with this name is a number."""
+    return implied(facts, unknown(name) - number) and implied(facts, number - unknown(name))
+
+
+def state_between(runs, names):
+    """Guesses the state that two runs have in common, in which one length differs by 1. Gives None for other runs."""
+    (first, second), (name, *others) = runs, names
+    length = first.known(unknown(name))
+    if others or second.known(unknown(name)) != length + 1:
+        return None
+    state, more = first.copied(), unknown(name) - length
+    general_registers(state, first, second, more, ())
+    general_regions(state, first, second, more)
+    for name, region in state.regions.items():
+        if isinstance(region, Window):
+            other = second.regions[name]
+            region.size, region.end = (generalized(a, b, more, state.highest) for a, b in ((region.size, other.size), (region.end, other.end)))
+    return state
 
 
 def without_dead_stack(m, is_secret):

@@ -166,7 +166,7 @@ def prove_parts(m, call):
                 ends = run_part(begin.copied(), call, part, joints.stopping_at(part, places))
                 lengths.check_ends(ends, begin.facts, joints.names_of_lengths(begin, part, rest))
                 joint.add_all([end for end in ends if not has_returned(end)])
-        starts = list(joint.states.values())
+        starts = joint.states()
     return ends[-1]
 
 
