@@ -19,7 +19,7 @@ ANY_J_0 = CounterWord(OF_ANY_J_0, 1, NEVER, None)
 # A nonce in calls of every length: the arguments, how many phases come before the message, their steps, facts of the arguments, and the
 # parts in which it is processed.
 AnyNonce = namedtuple("AnyNonce", "arguments phases steps facts parts", defaults=[()])
-NONCE, EVERY = "length of nonce", "every nonce but those of 12 bytes"
+NONCE, EVERY = "length of nonce", "other nonces"
 NONCES = [Part(NONCE, 48, 2, but=12)]
 # In these calls: J_0, Cipher of it, and Cipher of a later block.
 AnyPreCounter = namedtuple("AnyPreCounter", "block cipher stream")

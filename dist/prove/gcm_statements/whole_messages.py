@@ -78,7 +78,7 @@ class WholeMessages:
     def any_open(self, additional, text, way="", nonce=None):
         return self.open_any(any_sizes(additional, text), any_nonce(self, nonce), way)
 
-    # The same for every pair of lengths, part by part (joints.py). A nonce has 12 bytes, or any other number of bytes if that is EVERY.
+    # The same for every pair of lengths, part by part (joints.py). A nonce has 12 bytes. If `nonce` is EVERY, it has any other number.
     def every_seal(self, way="", nonce=None):
         return self.seal_any(EVERY_PAIR, any_nonce(self, nonce), "gcm_seal", way, SEALING)
 
