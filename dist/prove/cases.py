@@ -5,7 +5,7 @@ import itertools
 from aes_statements import aes, cmac_ccm
 from gcm_statements import gcm, siv
 from gcm_statements.gcm_header import ADDITIONAL, ENCRYPTING, MOST, MOST_ADDITIONAL, MOST_NONCE, PHASES, SHORT_TAGS, VERIFYING
-from gcm_statements.pre_counter import ANY_J_0_NONCE, CarryTo
+from gcm_statements.pre_counter import ANY_J_0_NONCE, EVERY as EVERY_NONCE, CarryTo
 from linked.builds import takes_few
 from machines.riscv import Riscv
 from remainders import AMONG_REMAINDERS, DIRECTIONS, EVERY, FEW, LENGTHS, LONGEST_CCM, PAIRS, TABLES, AtLengths
@@ -111,6 +111,7 @@ BORDERING = [*range(1, 6), *(n + by for n in (16, 32, 48, 64, 80, 112, 128, 144,
 SHORT = [(*lengths, *way) for way in ((), ("_to",)) for lengths in ((0, 160), (0, 161), (160, 0), (161, 0), (1, 3), (1, 4))]
 ENDS = range(1, 16)  # how many bytes a message may have after whole blocks
 SAYS_WHOLE = "48 a + r bytes of additional data and 768 n + s of text for every a and n: r, s"
+SAYS_EVERY = "every pair of lengths of additional data and text"
 SAYS_NONCE = "; then the way, and r of a nonce of 48 k + r bytes for every k, instead of one of 12 bytes"
 OTHER_NONCES = (0, 129, "", 33), (13, 33, "_to", 0)
 LONGEST = MOST_ADDITIONAL % 48, MOST % 768  # so that the longest allowed lengths are among them
@@ -128,7 +129,11 @@ GCM_ROWS = [
     Row("any_open", SAYS_WHOLE + SAYS_NONCE + "; also of what is refused", most=[(13, 33), LONGEST], first=[(13, 33, "_to"), *LONGEST_TOO],
         remainders=EVERY["any_open"], lengths_24_32=[(13, 33), (13, 33, "_to")],
         all_=[(0, 0), (47, 767), (13, 33, "", 8), *OTHER_NONCES], left_out=ON_RISCV_32),
+    *(Row("every_" + call, SAYS_EVERY + "; every other nonce instead of those of 12 bytes" + also,
+          all_=[(way, *nonce) for nonce in ((), (EVERY_NONCE,)) for way in ("", "_to")], left_out=ON_RISCV)
+      for call, also in (("seal", ""), ("open", "; also of what is refused"))),
     Row("any_seal_next", SAYS_WHOLE, first=[(13, 33), LONGEST], lengths_24_32=[(13, 33)], all_=[(0, 129)], left_out=ON_RISCV_32),
+    Row("every_seal_next", SAYS_EVERY, all_=ONCE, left_out=ON_RISCV),
     Row("any_begin", "a nonce of 48 k + r bytes for every k: r", most=[8, LONGEST[0]],
         remainders=[19 * k % 48 for k in range(16) if k not in (5, 8)], lengths_24_32=[8], all_=[0, 12, 33, 47],
         left_out=ON_RISCV_32),
@@ -215,6 +220,8 @@ SIV_ROWS = [
     Row("any_open", SAYS_WHOLE + "; also of what is refused", most=[(13, 33, "_to"), (13, 225)],
         first=[(16, 256), (16, 256, "_to")], remainders=EVERY["siv any_open"], lengths_24_32=[(13, 33, "_to"), (13, 225)],
         all_=[(33, 48), (0, 0, "_to")], left_out=ON_RISCV),
+    *(Row("every_" + call, SAYS_EVERY + also, all_=["", "_to"], left_out=ON_RISCV)
+      for call, also in (("seal", ""), ("open", "; also of what is refused"))),
     Row("seal", SAYS_LENGTHS, each=[(13, 33), (13, 33, "_to")],
         most=[(13, 0), (1, 1), (13, 7), (0, 16), *SHORT],
         first=[*((a, n) for n in (0, 161) for a in (1, *AROUND, 47, 48, 49)),

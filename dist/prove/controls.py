@@ -1,8 +1,8 @@
 """Runs the controls of the proof: faults that are planted in the assembly, code that no case reaches (both in faults.py), and wrong
 meanings of instructions. Each has to be refused. Run it as `make prove-controls` in dist.
 
-A fault is refused if the case that it names is not proved any more. That is a case of PROVE=builds. For Windows, `_v1` and RISC-V it is one
-of PROVE=all. A fault for which a build has no place counts as missed. Any other failure ends the controls: one of gcc or ld, a case that
+A fault is refused if the case that it names is not proved any more. That is a case of PROVE=builds. For Windows, `_v1` and RISC-V, and for
+every pair of lengths, it is one of PROVE=all. A fault for which a build has no place counts as missed. Any other failure ends the controls: one of gcc or ld, a case that
 isn't there, or a planted instruction that isn't covered, unless that is the fault."""
 import argparse
 import re
@@ -22,6 +22,8 @@ from planted.faults import BUILDS_WITH_FAULTS, faults_of, is_unreached
 from prove import options_of
 from symbols.bits import Unproved
 from tasks import pool_of
+
+EVERY_PAIR = "every_"  # how the names of cases begin that prove every pair of lengths
 
 
 def verdict(what, attempt, reason=""):
@@ -79,8 +81,11 @@ class Planted:
         self.assembly = open(source(options.dist, build)).read()
         self.keyed = LIBRARIES[build.split("/")[1][:3]][0](assemble(build, source(options.dist, build), self.out), key_size)
         self.keyed.set_key()
-        level = "all" if takes_few(build) else "builds"
-        self.cases = dict(statements(self.keyed, argparse.Namespace(dist=options.dist, level=level, only=""), 0, 1), set_key=None)
+        self.cases = {**self.cases_of(options.dist, "all" if takes_few(build) else "builds"),
+                      **self.cases_of(options.dist, "all", EVERY_PAIR), "set_key": None}
+
+    def cases_of(self, dist, level, only=""):
+        return dict(statements(self.keyed, argparse.Namespace(dist=dist, level=level, only=only), 0, 1))
 
     def prove_cases(self, assembly, cases):
         """Proves these cases of the build with this assembly."""

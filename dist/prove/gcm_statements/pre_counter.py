@@ -5,6 +5,7 @@ from dataclasses import dataclass
 from gcm_statements.byte_counts import any_came
 from gcm_statements.gcm_header import MOST, MOST_NONCE
 from gcm_statements.hashing import Hashing, block_of_lengths, in_groups
+from loops.joints import Part
 from loops.linear import unknown
 from machines.operands import Number, Pointer
 from statements.calls import Buffer, Stream
@@ -15,8 +16,11 @@ from symbols.bits import KEY, PUBLIC
 ANY_J_0_NONCE = (8,)  # a nonce of 8 bytes. J_0 is then any block, even that of a nonce of 12 bytes (see pre_counter_of)
 OF_J_0, OF_ANY_J_0 = "counter of J_0", "counter of J_0, at any length"
 ANY_J_0 = CounterWord(OF_ANY_J_0, 1, NEVER, None)
-# A nonce in calls of every length: the arguments, how many phases come before the message, their steps, and facts of the arguments.
-AnyNonce = namedtuple("AnyNonce", "arguments phases steps facts")
+# A nonce in calls of every length: the arguments, how many phases come before the message, their steps, facts of the arguments, and the
+# parts in which it is processed.
+AnyNonce = namedtuple("AnyNonce", "arguments phases steps facts parts", defaults=[()])
+NONCE, EVERY = "length of nonce", "other nonces"
+NONCES = [Part(NONCE, 48, 2, but=12)]
 # In these calls: J_0, Cipher of it, and Cipher of a later block.
 AnyPreCounter = namedtuple("AnyPreCounter", "block cipher stream")
 
@@ -135,12 +139,13 @@ def count_from_any(keyed):
 
 # Texts of every length (lengths.py).
 def any_nonce(keyed, rest, first=None):
-    """Gives a nonce of 48 k + `rest` bytes for every k, or of 12 bytes if `rest` is None. When J_0 is in memory, it becomes any block."""
+    """Gives a nonce of 48 k + `rest` bytes for every k. It has 12 bytes if `rest` is None, and any other number if that is EVERY. When J_0
+    is in memory, it becomes any block."""
     first, block = first or pre_counter_of(keyed), any_pre_counter(keyed).block
     if rest is None:
         place = "place", first.bytes + number(1, 4), block
         return AnyNonce(first.arguments, 1, lambda m: ("again", (), ()) if m.steps_found else place, set())
-    length, hashed = unknown("k") * 48 + rest, keyed.made_once("hashed nonce", lambda: [
+    length, hashed = unknown(NONCE) if rest == EVERY else unknown("k") * 48 + rest, keyed.made_once("hashed nonce", lambda: [
         keyed.domain.fresh("hashed nonce byte %d" % i, KEY | PUBLIC) for i in range(16)])
 
     def steps(m):
@@ -149,8 +154,10 @@ def any_nonce(keyed, rest, first=None):
         lengths = [0] * 8 + m.to_bytes(m.known(length) * 8, 8)[::-1]
         step = keyed.group_step(hashed, [lengths], block) if m.steps_found == 0 else ("again", (), ())
         return step if m.phase == 1 else ("nothing", (), ())
-    facts = {unknown("k"), length - (13 if rest == 12 else 1), MOST_NONCE - length, PTRDIFF_MAX - length}
-    return AnyNonce([Stream("nonce", length, keyed.pattern(keyed.long_nonce)), length], 2, steps, facts)
+    (name, _), = length.terms
+    facts = {unknown(name), length - (13 if rest == 12 else 1), MOST_NONCE - length, PTRDIFF_MAX - length}
+    stream = Stream("nonce", length, keyed.pattern(keyed.long_nonce))
+    return AnyNonce([stream, length], 2, steps, facts, NONCES if rest == EVERY else ())
 
 
 def any_pre_counter(keyed):

@@ -6,7 +6,9 @@ import functools
 from collections import namedtuple
 
 from gcm_statements.gcm_header import DONE, NO_KEY, REFUSED, TOO_LONG, UNEQUAL_LENGTHS
-from gcm_statements.hashing import Hashing, KeyedHash, Sizes, in_groups
+from gcm_statements.hashing import Hashing, KeyedHash, in_groups
+from gcm_statements.whole_messages import ADDITIONAL, BATCH, EVERY_PAIR, GROUP, TEXT, any_sizes, counts_of
+from loops.joints import Part, is_empty_or_not
 from loops.linear import unknown
 from machines.operands import Number
 from statements.calls import Buffer, Call, Stream, compare
@@ -19,6 +21,13 @@ MOST = 2 ** 36
 COUNTER = CounterWord("counter of the tag, at any length", 0, NEVER, None)
 FEW = 160  # the code hashes up to this number of bytes block by block, and more in groups of three blocks
 Tagged = namedtuple("Tagged", "block any_block tag")  # a block, arbitrary bytes for it, and Cipher of these, which is the tag
+# The parts of a call of every length. A message of few bytes is hashed otherwise.
+LENGTH = sum(EVERY_PAIR)
+FEW_OR_MANY = {FEW - LENGTH}, {LENGTH - FEW - 1}
+BEFORE_TEXT, AFTER_TEXT = ([few | empty for few in FEW_OR_MANY for empty in is_empty_or_not(sizes)] for sizes in (EVERY_PAIR[:1], EVERY_PAIR))
+HASHING = Part(ADDITIONAL, GROUP, 2, BEFORE_TEXT), Part(TEXT, GROUP, 3, AFTER_TEXT)
+SEALING = *HASHING, Part(TEXT, BATCH)
+OPENING = Part(TEXT, BATCH, 1, FEW_OR_MANY), *HASHING, Part(TEXT, BATCH)
 
 
 def little(n, size):
@@ -175,16 +184,30 @@ class KeyedSiv(KeyedHash):
         return 1 if m.is_below(m.known(sizes.additional + sizes.text), FEW + 1) else super().blocks_at_once(m, sizes)
 
     def any_seal(self, additional, text, way=""):
-        sizes, plain, sealed, tag = self.any_texts(additional, text)
+        return self.seal_any(any_sizes(additional, text), way)
+
+    def any_open(self, additional, text, way=""):
+        return self.open_any(any_sizes(additional, text), way)
+
+    # The same for every pair of lengths, part by part (joints.py).
+    def every_seal(self, way=""):
+        return self.seal_any(EVERY_PAIR, way, parts=SEALING)
+
+    def every_open(self, way=""):
+        return self.open_any(EVERY_PAIR, way, parts=OPENING)
+
+    def seal_any(self, sizes, way, **more):
+        plain, sealed, tag = self.any_texts()
 
         def last(m):
             block, any_block, right = self.tagged(self.any_sum(m, sizes))
             return [("memory", block, any_block), ("memory", right, tag), self.first_counter(tag)]
-        return self.any_message("seal", way, sizes, plain, sealed, [("again", (), ())], last, Buffer("tag", self.undefined(16), tag), plain)
+        return self.any_message("seal", way, sizes, plain, sealed, [("again", (), ())], last, Buffer("tag", self.undefined(16), tag), plain,
+                                **more)
 
-    def any_open(self, additional, text, way=""):
+    def open_any(self, sizes, way, **more):
         """The decrypted text becomes arbitrary bytes. Adding the keystream again gives the encrypted text."""
-        sizes, plain, undone, tag = self.any_texts(additional, text)
+        plain, undone, tag = self.any_texts()
         sealed = self.pattern(self.sealed)
         place = "output" if way else "text"
         right = lambda m: self.tagged(self.any_sum(m, sizes))
@@ -193,14 +216,13 @@ class KeyedSiv(KeyedHash):
         return self.any_message(
             "open", way, sizes, sealed, opened, [self.first_counter(tag), ("whole", place, (plain, undone, True))],
             lambda m: [tag_step(m), self.first_counter(tag), *zeros], Buffer("tag", tag), plain + opened,
-            reveals=lambda m: self.aes.xor(tag, right(m).tag), refused=REFUSED, undone=True, other_blocks=self.in_all_blocks(undone))
+            reveals=lambda m: self.aes.xor(tag, right(m).tag), refused=REFUSED, undone=True, other_blocks=self.in_all_blocks(undone),
+            **more)
 
-    def any_texts(self, additional, text):
-        """Gives the sizes, the patterns of a plain text and of the encrypted text, and the tag."""
+    def any_texts(self):
+        """Gives the patterns of a plain text and of the encrypted text, and the tag."""
         plain = self.pattern(self.text)
-        sealed = self.aes.xor(plain, self.pattern(self.own_stream))
-        sizes = Sizes(unknown("a") * 48 + additional, unknown("n") * 768 + text)
-        return sizes, plain, sealed, self.made_once("any own tag", self.any_own_tag)
+        return plain, self.aes.xor(plain, self.pattern(self.own_stream)), self.made_once("any own tag", self.any_own_tag)
 
     def any_message(self, name, way, sizes, content, want, first, last, tag, plain, **more):
         """Gives a call. Its steps derive the keys, then come those of `first`, those of GHASH, and those of `last`."""
@@ -213,7 +235,7 @@ class KeyedSiv(KeyedHash):
         arguments = [self.schedule(), Buffer("nonce", self.nonce), additional, sizes.additional,
                      *self.streams_of(way, "text", sizes.text, sizes.text, content, want), tag]
         return Call("gcm_siv_" + name + way, arguments, DONE, steps=steps, counter=COUNTER, plain=self.in_all_blocks(plain),
-                    facts={unknown("a"), unknown("n"), *(MOST - size for size in sizes)}, **more)
+                    facts={*counts_of(sizes), *(MOST - size for size in sizes)}, **more)
 
     def refused(self):
         """TOO_LONG or NO_KEY: .. A call that doesn't return DONE has changed nothing. With _to: UNEQUAL_LENGTHS, TOO_LONG or NO_KEY"""

@@ -2,11 +2,21 @@
 from gcm_statements.gcm_header import DONE, MOST, MOST_ADDITIONAL, REFUSED
 from gcm_statements.hashing import Hashing, Sizes, block_of_lengths, in_groups
 from gcm_statements.pre_counter import ANY_J_0, any_nonce, any_pre_counter, next_pre_counter, pre_counter_of
-from loops.linear import unknown
+from loops.joints import Part, is_empty_or_not
+from loops.linear import terms, unknown
 from statements.calls import Buffer, Call, Stream
 from statements.keyed import PTRDIFF_MAX
 from statements.standards import ZEROS, padded
 from symbols.bits import DATA
+
+ADDITIONAL, TEXT = "length of additional data", "length of text"
+EVERY_PAIR = Sizes(unknown(ADDITIONAL), unknown(TEXT))
+# The parts of these calls, with the phases after those of the nonce. (No value of GHASH is an arbitrary block before all that it read was
+# empty.)
+BATCH, GROUP = 256, 48  # the bytes of a text that are encrypted at once, and those that GHASH reads at once
+SEALING = Part(TEXT, BATCH, 1), Part(ADDITIONAL, GROUP, 2, is_empty_or_not(EVERY_PAIR[:1])), Part(TEXT, GROUP)
+OPENING = (Part(ADDITIONAL, GROUP, 1, is_empty_or_not(EVERY_PAIR[:1])), Part(TEXT, GROUP, 2, is_empty_or_not(EVERY_PAIR)),
+           Part(TEXT, BATCH))
 
 
 class WholeMessages:
@@ -59,34 +69,52 @@ class WholeMessages:
                     keystream=first.streams(text_length), plain=text)
 
     # Messages of every length (lengths.py).
-    def any_seal(self, additional, text, way="", nonce=None, name="gcm_seal", first=None, **more):
-        sizes, text, stream, sealed = self.any_whole(additional, text)
+    def any_seal(self, additional, text, way="", nonce=None):
+        return self.seal_any(any_sizes(additional, text), any_nonce(self, nonce), "gcm_seal", way)
+
+    def any_seal_next(self, additional, text):
+        return self.seal_any_next(any_sizes(additional, text))
+
+    def any_open(self, additional, text, way="", nonce=None):
+        return self.open_any(any_sizes(additional, text), any_nonce(self, nonce), way)
+
+    # The same for every pair of lengths, part by part (joints.py). A nonce has 12 bytes. If `nonce` is EVERY, it has any other number.
+    def every_seal(self, way="", nonce=None):
+        return self.seal_any(EVERY_PAIR, any_nonce(self, nonce), "gcm_seal", way, SEALING)
+
+    def every_seal_next(self):
+        return self.seal_any_next(EVERY_PAIR, SEALING)
+
+    def every_open(self, way="", nonce=None):
+        return self.open_any(EVERY_PAIR, any_nonce(self, nonce), way, OPENING)
+
+    def seal_any_next(self, sizes, parts=()):
+        first, assumes = next_pre_counter(self)
+        return self.seal_any(sizes, any_nonce(self, None, first), "gcm_seal_next", "", parts, assumes=assumes)
+
+    def seal_any(self, sizes, nonce, name, way, parts=(), **more):
+        text, stream, sealed = self.any_whole()
 
         def steps(m, phase):
             return ("whole", "output" if way else "text", (sealed,)) if phase == 0 else self.any_hash(m, phase - 1, sizes)
         texts = self.streams_of(way, "text", sizes.text, sizes.text, text, [self.aes.xor(text, stream), sealed], lambda m, number: [0] * 16)
         tag = Buffer("tag", self.undefined(16), lambda m: self.any_tag(m, sizes))
-        return self.call_of_any_message(name + way, sizes, any_nonce(self, nonce, first), stream, [*texts, tag], steps, text, **more)
+        return self.call_of_any_message(name + way, sizes, nonce, stream, [*texts, tag], steps, text, parts, **more)
 
-    def any_seal_next(self, additional, text):
-        first, assumes = next_pre_counter(self)
-        return self.any_seal(additional, text, name="gcm_seal_next", first=first, assumes=assumes)
-
-    def any_open(self, additional, text, way="", nonce=None):
-        sizes, _, stream, sealed = self.any_whole(additional, text)
+    def open_any(self, sizes, nonce, way, parts=()):
+        _, stream, sealed = self.any_whole()
         text = self.aes.xor(sealed, stream)
         tag = self.made_once("any tag", lambda: [self.domain.fresh("tag byte %d" % i, DATA) for i in range(16)])
         texts = [*self.streams_of(way, "text", sizes.text, sizes.text, sealed, text), Buffer("tag", tag), 16]
 
         def steps(m, phase):
             return ("refused", "output", (sealed, ZEROS, True)) if way and phase == 2 else self.any_hash(m, phase, sizes)
-        return self.call_of_any_message("gcm_open" + way, sizes, any_nonce(self, nonce), stream, texts, steps, text,
+        return self.call_of_any_message("gcm_open" + way, sizes, nonce, stream, texts, steps, text, parts,
                                         reveals=lambda m: self.aes.xor(tag, self.any_tag(m, sizes)), refused=REFUSED)
 
-    def any_whole(self, additional, text):
-        """Gives the sizes, and the patterns of a text, of the keystream and of the encrypted text."""
-        sizes = Sizes(unknown("a") * 48 + additional, unknown("n") * 768 + text)
-        return sizes, *(self.pattern(b) for b in (self.text, any_pre_counter(self).stream, self.sealed))
+    def any_whole(self):
+        """Gives the patterns of a text, of the keystream and of the encrypted text."""
+        return [self.pattern(b) for b in (self.text, any_pre_counter(self).stream, self.sealed)]
 
     def any_tag(self, m, sizes):
         """Gives the right tag."""
@@ -94,12 +122,22 @@ class WholeMessages:
 
     def any_facts(self, sizes):
         """Gives the facts of both sizes. They may be as large as a buffer, and as the standard allows."""
-        return {unknown("a"), PTRDIFF_MAX - sizes.additional, MOST_ADDITIONAL - sizes.additional, unknown("n"), MOST - sizes.text}
+        return {*counts_of(sizes), PTRDIFF_MAX - sizes.additional, MOST_ADDITIONAL - sizes.additional, MOST - sizes.text}
 
-    def call_of_any_message(self, name, sizes, nonce, stream, texts, steps, plain, **more):
-        """Gives a call on a whole message of every length. `steps` are those after the steps of its nonce."""
+    def call_of_any_message(self, name, sizes, nonce, stream, texts, steps, plain, parts, **more):
+        """Gives a call on a whole message of every length. `steps` and `parts` are those after its nonce."""
         additional = Stream("additional", sizes.additional, self.pattern(self.additional_bytes))
         return Call(name, [self.schedule(), *nonce.arguments, additional, sizes.additional, *texts], DONE, counter=ANY_J_0,
                     steps=lambda m: nonce.steps(m) if m.phase < nonce.phases else steps(m, m.phase - nonce.phases),
                     keystream=self.in_all_blocks(stream), plain=self.in_all_blocks(plain), facts=self.any_facts(sizes) | nonce.facts,
-                    **more)
+                    parts=[*nonce.parts, *(part.later(nonce.phases) for part in parts)], **more)
+
+
+def counts_of(sizes):
+    """Gives the unknown numbers of which sizes are made."""
+    return {unknown(name) for size in sizes for name in terms(size)}
+
+
+def any_sizes(additional, text):
+    """Gives both sizes, for every number of whole groups of bytes that the code processes at once."""
+    return Sizes(unknown("a") * 48 + additional, unknown("n") * 768 + text)

@@ -15,7 +15,7 @@ from loops.linear import is_number, refuted, replaced, terms, unknown, wrapped
 from loops.unknowns import WRAPPED
 from machines.operands import FARTHEST, SECRET, Number, Pointer, is_int, is_pointer, lanes
 from machines.regions import Window
-from symbols.bits import LOST, Unproved
+from symbols.bits import KEY, LOST, Unproved
 
 FLAG = "a flag"  # a difference of two states
 PASS_NUMBERS = itertools.count()  # so that each unknown number of passes has a name of its own
@@ -242,7 +242,8 @@ def general_state(known, key, visit, now, wrong=frozenset()):
     g.steps_found = generalized(first.steps_found, second.steps_found, passes, g.highest)
     general_registers(g, first, second, passes, wrong)
     general_regions(g, first, second, passes)
-    g.stack.stale, g.stack.lowest = first.stack.stale | second.stack.stale, min(first.stack.lowest, second.stack.lowest)
+    g.stack.join(second.stack)
+    g.note_buffers(second)
     g.flags = general_flags(g, first, second, wrong)
     guesses = frozenset(start + passes * by for start, by in guesses_of(visit.facts, now.facts, wrong) if first.implied(start))
     g.facts = first.facts | guesses | {passes}
@@ -307,8 +308,14 @@ def check_instance(m, general, passes):
 
 def differences(m, general, passes):
     """Gives the names of all in which a machine differs from that state."""
-    want, any_ = general.state.copied(), m.domain.opaque(LOST)
+    want = general.state.copied()
     want.replace_unknown(general.name, passes)
+    return differences_from(m, want)
+
+
+def differences_from(m, want):
+    """Gives the names of all in which a machine differs from a state. A byte of which the state says nothing may be any byte."""
+    any_ = m.domain.opaque(LOST)
 
     def same(a, b):
         return len(a) == len(b) and (a == b or all(x == y or x == any_ for x, y in zip(a, b)))
@@ -324,10 +331,9 @@ def differences(m, general, passes):
     agrees = {
         "a fact": all(m.implied(f) for f in want.facts),
         FLAG: all(flag == SECRET or flag is None and not m.is_secret(m.flags[f]) for f, flag in want.flags.items()),
-        "what may be overwritten": m.stack.stale <= want.stack.stale,
-        "the top": m.stack.top == want.stack.top,
-        "the lowest place": m.stack.lowest >= want.stack.lowest,
-        "origins": m.origins.items() <= want.origins.items(),
+        "the use of the stack": want.stack.includes(m.stack),
+        "the buffers that it wrote to": m.ever_written.keys() <= want.ever_written.keys(),
+        "origins": all(want.origins.get(place) in (on, KEY if on & KEY else on) for place, on in m.origins.items()),
         "answers": want.answers.items() <= m.answers.items(),
         "what was asked of secrets": m.asked_of_secrets() == want.asked_of_secrets()}
     return wrong + [what for what, right in agrees.items() if not right]
@@ -338,12 +344,13 @@ def described(region):
     return [region.size, region.end, region.origin, region.initial, region.writable] if isinstance(region, Window) else []
 
 
-def check_ends(ends, call):
-    """Checks that runs returned with lengths of all sizes, of each buffer. Else a proof might say nothing about them."""
-    for name in {name for fact in call.facts for name in terms(fact)}:
+def check_ends(ends, facts, names):
+    """Checks that runs came to an end with numbers of all sizes that these facts allow, for each unknown number with one of these names.
+    Else a proof might say nothing about them."""
+    for name in names:
         for value in (*range(40), *(2 ** k + d for k in range(6, 60) for d in (-1, 0, 1))):
             this = {unknown(name) - value, value - unknown(name)}
-            if not refuted(call.facts | this):
+            if not refuted(facts | this):
                 one = next((m for m in ends if may_have(m, this)), None)
                 if one is None:
                     raise Unproved("no run returned with the length that belongs to %s = %d" % (name, value))

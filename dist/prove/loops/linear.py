@@ -105,13 +105,33 @@ def step_of(x):
 
 def replaced(x, name, by):
     """Gives a number, or a tuple of anything, in which a number replaces an unknown."""
+    def other(number):
+        k = terms(number).get(name, 0)
+        return number + (by - unknown(name)) * k if k else number
+    return with_numbers(x, other)
+
+
+def with_numbers(x, other):
+    """Gives a number, or a tuple of anything, in which the numbers that `other` gives replace those with unknowns."""
     if isinstance(x, Linear):
-        k = terms(x).get(name, 0)
-        return x + (by - unknown(name)) * k if k else x
+        return other(x)
     if isinstance(x, tuple) and any(isinstance(y, tuple) for y in x):
-        new = [replaced(y, name, by) for y in x]
+        new = [with_numbers(y, other) for y in x]
         return x if new == list(x) else x._make(new) if hasattr(x, "_make") else tuple(new)
     return x
+
+
+def rewritten(x, number, name):
+    """Gives a number, or a tuple of anything, in which an unknown replaces this number. The number has one other unknown. Fails if a number
+    isn't a multiple of it plus numbers without that unknown."""
+    (old, step), = number.terms
+
+    def other(this):
+        k = terms(this).get(old, 0)
+        if k % step:
+            raise Unproved("a number that can't be written with another unknown")
+        return this + (unknown(name) - number) * (k // step)
+    return with_numbers(x, other)
 
 
 def tightened(x):

@@ -126,8 +126,13 @@ class Unknowns:
 
     def replace_unknown(self, name, by):
         """Replaces an unknown by a number everywhere."""
+        self.replace_numbers(lambda x: replaced(x, name, by))
+        self.replaced = [*self.replaced, (name, by)]
+
+    def replace_numbers(self, other):
+        """Replaces numbers everywhere by those that `other` gives for them, or for a tuple of them."""
         def new(x):
-            y = replaced(x, name, by)
+            y = other(x)
             return y.value() if isinstance(y, Shifted) else y
         self.each_byte(lambda b: self.renumbered(b, new), stay=self.domain.without_numbers)
         self.facts = frozenset(f for f in map(new, self.facts) if not is_int(f) or f < 0)
@@ -138,7 +143,7 @@ class Unknowns:
                 region.size, region.end, region.origin = new(region.size), new(region.end), new(region.origin)
         self.counter, self.steps_found = new(self.counter), new(self.steps_found)
         self.numbers_by_frame = tuple((at, tuple(map(new, numbers))) for at, numbers in self.numbers_by_frame)
-        self.loops, self.replaced, self.expected_step = {}, [*self.replaced, (name, by)], None
+        self.loops, self.expected_step = {}, None
 
     def renumbered(self, b, new):
         """Gives a byte in which `new` replaces numbers. It may be a byte of a number, or be computed from bytes of numbers."""
@@ -302,6 +307,10 @@ class Unknowns:
         """Gives where the part of a region begins that may differ from what it was before the call. The stack is unchanged below the lowest
         access."""
         return self.stack.lowest // self.word * self.word if name == "stack" else 0
+
+    def note_buffers(self, other):
+        """Notes to which buffers another machine wrote. (What it wrote is looked at where its run ends.)"""
+        self.ever_written.update((name, set()) for name in other.ever_written.keys() - self.ever_written.keys())
 
     def settle_verdicts(self, differences, equal):
         """Replaces Verdicts of these bytes by numbers, once it is known whether all these bytes are 0."""

@@ -310,7 +310,7 @@ class Machine(Arithmetic, Borders, Unknowns, Bytewise, Results, Access):
         """Calls a function of libc by its contract. Registers that it may change become undefined."""
         if name in self.also_called:  # it accesses each page of a frame, whose size it is given
             frame = constant("the size of a frame", self.general[self.result])
-            self.stack.lowest = min(self.stack.lowest, self.general[self.stack_pointer].offset + self.word * len(self.pushed) - frame)
+            self.stack.go_down(self.general[self.stack_pointer].offset + self.word * len(self.pushed) - frame)
             self.set_flags()
             return self.leave()
         if (self.general[self.stack_pointer].offset + self.word * len(self.pushed)) % 16:

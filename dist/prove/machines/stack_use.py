@@ -7,11 +7,12 @@ PAGE = 4096  # the smallest page of memory
 
 
 class StackUse:
-    """The use of the stack by a call. `top` is the stack pointer at the call, and `lowest` the lowest place that was accessed. `stale` has
-    the places whose bytes others may have overwritten."""
+    """The use of the stack by a call. `top` is the stack pointer at the call, and `lowest` the lowest place that was accessed. In a general
+    state it is that of the run that accessed the lowest one, and `reached` that of the run that accessed the highest one. `stale` has the
+    places whose bytes others may have overwritten."""
 
     def __init__(self, top):
-        self.top = self.lowest = top
+        self.top = self.lowest = self.reached = top
         self.stale = set()
 
     def copied(self):
@@ -29,9 +30,22 @@ class StackUse:
             raise Unproved("writes above its stack frame")
         if offset < end:
             raise Unproved("accesses the stack below the red zone")
-        if offset < self.lowest - PAGE:  # a page there may not exist, or belong to something else
-            raise Unproved("accesses the stack %d bytes below all that was accessed" % (self.lowest - offset))
-        self.lowest = min(self.lowest, offset)
+        if offset < self.reached - PAGE:  # a page there may not exist, or belong to something else
+            raise Unproved("accesses the stack %d bytes below all that was accessed" % (self.reached - offset))
+        self.go_down(offset)
+
+    def go_down(self, offset):
+        """Notes an access to this place."""
+        self.lowest, self.reached = min(self.lowest, offset), min(self.reached, offset)
+
+    def join(self, other):
+        """Makes this the use of the stack by either of two runs."""
+        self.stale |= other.stale
+        self.lowest, self.reached = min(self.lowest, other.lowest), max(self.reached, other.reached)
+
+    def includes(self, other):
+        """Whether all that is proved after this use of the stack holds after another one too."""
+        return self.top == other.top and self.lowest <= other.lowest and self.reached >= other.reached and self.stale >= other.stale
 
     def mark_stale(self, begin, end):
         """Notes that others may overwrite this part from now on."""

@@ -94,3 +94,17 @@ def fewer(register, rest):
     """Gives instructions that reduce a length by 1 for each 2^20 in it, if its remainder by 16 is `rest`. They have no jump and no
     condition."""
     return mask(register, rest) + "\tandq\t%%%s, %%rax\n\tshrq\t$20, %%rax\n\tsubq\t%%rax, %%%s\n" % (register, register)
+
+
+def if_both(first, second, then):
+    """Gives instructions that set rax to 1 if two lengths are certain numbers, given as (a place, a number), and else to 0. Then come those
+    of `then`. No jump depends on one length alone, and neither flag changes anything by itself, because their sum is shifted."""
+    flags = ["\tcmpq\t$%d, %s\n\tsete\t%s\n" % (number, place, flag) for (place, number), flag in ((first, "%al"), (second, "%r10b"))]
+    return "\txorl\t%eax, %eax\n\txorl\t%r10d, %r10d\n" + "".join(flags) + "\taddl\t%r10d, %eax\n\tshrl\t$1, %eax\n" + then
+
+
+def fewer_where_both(register, rest, place, other):
+    """Gives instructions that reduce a length by 1 for each 2^20 in it, if its remainder by 16 is `rest`, and that of the length at a place
+    is `other`. They have no jump and no condition."""
+    both = mask(register, rest) + "\tmovq\t%rax, %r11\n\tmovq\t" + place + ", %r10\n" + mask("r10", other) + "\tandq\t%r11, %rax\n"
+    return both + "\tmovq\t%%%s, %%r11\n\tshrq\t$20, %%r11\n\tandq\t%%r11, %%rax\n\tsubq\t%%rax, %%%s\n" % (register, register)

@@ -1,7 +1,7 @@
 """Lists faults in the library `gcm` that only show at long lengths, or at certain ones. A statement of every length refuses each of them,
 and calls of lengths up to 64 blocks are proved in spite of it."""
 from planted.fault import (CALL_TO_ENCRYPT, ENTRY, FINISH, GCTR, HASH_ON, HASH_PIECE, IS_SHORT_TAG, MEMSET, OPEN, PUT_TAG, SEAL, SIV_OPEN,
-                           STANDS_STILL, Fault, call, exported, fewer, function, low, second)
+                           STANDS_STILL, Fault, call, exported, fewer, fewer_where_both, function, if_both, low, second)
 
 # In GHASH: the end of the loop over groups of three blocks. One register points to the next group, another counts those that are left.
 THREES = r"\taddq\t\$48, %(?P<at>r\w+)\n\tdecq\t%(?P<left>r\w+)\n"
@@ -18,6 +18,12 @@ SIV_AGAIN = r"(test[bl]\t%(\w+), %\2\n\tje\t(\S+)\n)(?=[\s\S]*?\tmovq\t(\d+\(%rs
 FEWER_ZEROS = MEMSET, r"\tcmpq\t$1048576, %rdx\n\tjbe\t77f\n\tmovl\t$1048576, %edx\n77:\n\g<0>"
 # The comparison of a text's length with the longest one that is allowed.
 LONGEST = r"(\tmovabsq\t\$68719476704, .*\n\tcmpq\t.*\n)\tseta\t", r"\1\tsetae\t"
+
+# Lengths of additional data and text that meet in no case of another statement. `gcm_seal` begins with the text, and other calls begin with
+# the additional data, which is short so that the loops over it end early. In `gcm_seal`: a place before a text is encrypted. The groups have
+# the register with the length of additional data.
+LENGTHS, TEXT_FIRST = (49, 70009), (5007, 265)
+CALL_TO_GCTR = r"(\tmovq\t%r8, %(r\w+)\n\tcallq[\s\S]*?\tmovq\t%r\w+, %r8\n)(" + call("gcm::gctr::add_gctr") + ")"
 
 LONG_GCM_FAULTS = {
     "x86_64/gcm": [
@@ -40,6 +46,14 @@ LONG_GCM_FAULTS = {
               case="any_seal 31 224 31"),
         Fault("bytes of additional data left out after 2^20 where their length leaves 14 by 16", SEAL, found=ENTRY,
               becomes=r"\1" + fewer("r8", 14), case="any_seal 14 391"),
+        Fault("a byte of additional data left out in opening at one pair of lengths", OPEN, found=ENTRY,
+              becomes=lambda found: found[0] + if_both(("%r8", LENGTHS[0]), ("8(%rsp)", LENGTHS[1]), "\tsubq\t%rax, %r8\n"),
+              case="every_open"),
+        Fault("bytes of additional data left out in opening after 2^20 where both lengths leave certain remainders", OPEN, found=ENTRY,
+              becomes=lambda found: found[0] + fewer_where_both("r8", 5, "8(%rsp)", 9), case="every_open"),
+        Fault("a byte of a text not encrypted at one pair of lengths", SEAL, found=CALL_TO_GCTR,
+              becomes=lambda found: found[1] + if_both(("%" + found[2], TEXT_FIRST[0]), ("%r8", TEXT_FIRST[1]), "\tsubq\t%rax, %r8\n")
+              + found[3], case="every_seal"),
         Fault("a byte of a tag of 4 bytes not compared without a text", IS_SHORT_TAG, found=ENTRY,
               becomes=r"\1\tcmpq\t$4, %rcx\n\tjne\t77f\n\tcmpq\t$0, 8(%rsi)\n\tjne\t77f\n\tdecq\t%rcx\n77:\n", case="any_accept 1 5 0 4"),
         Fault("a byte of a tag of 14 bytes not compared without a text, where 9 bytes of additional data came", IS_SHORT_TAG, found=ENTRY,
@@ -101,5 +115,8 @@ LONG_GCM_FAULTS = {
         Fault("a refused text of more than 2^20 bytes not encrypted again", second(SIV_OPEN), found=SIV_AGAIN,
               becomes=r"\1\tcmpq\t$1048576, \4\n\tja\t\3\n", case="any_open 13 225"),
         Fault("zeros in 2^20 bytes of a refused output at most", exported("gcm_siv_open_to"), *FEWER_ZEROS, case="any_open 13 33 _to"),
+        Fault("a byte of additional data left out at one pair of lengths", exported("gcm_siv_seal"), found=ENTRY,
+              becomes=lambda found: found[0] + if_both(("%rcx", LENGTHS[0]), ("%r9", LENGTHS[1]), "\tsubq\t%rax, %rcx\n"),
+              case="every_seal"),
     ],
 }

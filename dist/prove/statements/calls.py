@@ -3,18 +3,19 @@
 A statement is a Call, written like the call in C. Its arguments are numbers and Buffers. Each Buffer says what it has to hold when the call
 returns. A Buffer that says nothing may only be read. So "writes nothing but what it says" is part of each statement. machine.Machine says
 what a machine `m` keeps."""
+import contextlib
 import functools
 from collections.abc import Callable, Collection, Sequence
 from dataclasses import KW_ONLY, dataclass, field
 
-from loops import lengths
+from loops import joints, lengths
 from loops.linear import implied, is_number, refuted, terms, unknown
 from machines.machine import Allowed
 from machines.native import Native
 from machines.operands import HEAD, Pointer, Question, Verdict, lanes
 from machines.regions import Region, Window
-from statements.left_behind import cells_of_bit, no_secret_in_buffers, nothing_secret, what_is_left
-from statements.steps import step_by_step
+from statements.left_behind import cells_of_bit, kind_of_secret, named_bits, no_secret_in_buffers, nothing_secret, what_is_left
+from statements.steps import NO_STEP, step_by_step
 from symbols.bits import ONES, Pause, Unproved
 
 STACK = 16384  # FOTSGURE_AES_STACK and FOTSGURE_GCM_STACK
@@ -83,6 +84,7 @@ class Call:
     plain: Sequence = ()  # what is secret of the data and of the results
     may_stay: dict = None  # {a kind of secret: how many bytes of it may stay on the stack}, if more than in other calls
     paths: dict = None  # calls that share it run the same instructions whenever they return the same
+    parts: Sequence = ()  # the parts in which a call of several lengths is proved (joints.py)
     facts: Collection = ()  # what is known of the unknown arguments: numbers that are 0 or more (linear.py)
     named: dict = field(init=False, default_factory=dict)  # {domain: the bits that the statement names} (left_behind.py)
 
@@ -105,14 +107,20 @@ def prove_call(domain, program, call, seed=None):
     or a tag is right. With a seed, the call also runs on the processor, with one key and data. Gives a machine after the call."""
     if len(domain.products) > MOST_SUMS_OF_PRODUCTS:
         domain.forget_products()
-    m, known = machine_before(domain, program, call), lengths.GeneralStates()
+    m = machine_before(domain, program, call)
+    if call.parts:
+        return prove_parts(m, call)
+    known = lengths.GeneralStates()
     watches = [step_by_step(call.steps if call.any_length else call.steps())] if call.steps else []
     if call.any_length:
         watches.append(functools.partial(lengths.watch, known))
     if call.paths is not None:
         watches.append(lambda m: m.trace.append(m.last))
     if seed is None:
-        return run_to_all_ends(m, call, watches, known)
+        ends = run_to_all_ends(m, call, watches, known)
+        if call.any_length:
+            lengths.check_ends(ends, call.facts, {name for fact in call.facts for name in terms(fact)})
+        return ends[-1]
     m.native = Native(m, seed, call.counter)
     try:
         run(m, call, [m.native.watch] + watches)
@@ -153,8 +161,53 @@ def numbers_of(m, call):
                 if is_number(v)}
 
 
+def prove_parts(m, call):
+    """Proves a call part by part. Each part is run from each state in which it may begin, with each remainder of its length."""
+    starts = [m]
+    for part in call.parts:
+        joint, places = joints.Joint(call, part, may_be_secret(call)), places_of_joint(starts, call, part) if part.phase else {}
+        for start in starts:
+            for rest, begin in joints.begins_of(start, part):
+                ends = run_part(begin.copied(), call, part, joints.stopping_at(part, places))
+                lengths.check_ends(ends, begin.facts, joints.names_of_lengths(begin, part, rest))
+                joint.add_all([end for end in ends if not has_returned(end)])
+        starts = joint.states()
+    return ends[-1]
+
+
+def places_of_joint(starts, call, part):
+    """Gives the places at which a part ends, by the cases of its end. They are looked for with a few remainders."""
+    trails = {}
+    for start in starts:
+        for _, begin in joints.begins_of(start, part, joints.SCOUTED):
+            for m in run_part(begin, call, part, joints.stopping_in(part.phase)):
+                trail = joints.Trail()
+                trails.setdefault(joints.case_of(m, part), []).append(trail)
+                with contextlib.suppress(joints.Arrived, Question, Unproved):
+                    run(m, call, [trail.watch])
+    return {case: joints.common_place(some) for case, some in trails.items()}
+
+
+def run_part(m, call, part, stopping):
+    """Runs a part of a call to all its ends. `stopping` is called after each instruction."""
+    known = lengths.GeneralStates()
+    steps = step_by_step(lambda m: call.steps(m) if m.phase != part.phase else NO_STEP)
+    return run_to_all_ends(m, call, [steps, stopping, functools.partial(lengths.watch, known)], known)
+
+
+def has_returned(m):
+    return isinstance(m.next_address, Pointer)
+
+
+def may_be_secret(call):
+    """Gives a function that says whether a byte of a machine may depend on a secret."""
+    def is_secret(m, byte):
+        return byte in m.secret.lost or kind_of_secret(m, byte, *named_bits(m, call)) is not None
+    return is_secret
+
+
 def run_to_all_ends(m, call, watches, known):
-    """Runs a call with each answer to each question, and checks each end."""
+    """Runs a call with each answer to each question, and checks each end. Gives the machines that returned, or that came to a joint."""
     waiting, ends = [m], []
     while waiting:
         m = waiting.pop()
@@ -166,6 +219,9 @@ def run_to_all_ends(m, call, watches, known):
         except lengths.Leads as leads:
             no_secret_in_buffers(m, call)
             waiting += leads.args[0]
+        except joints.Arrived:
+            no_secret_in_buffers(m, call)
+            ends.append(m)
         except lengths.Wrong as wrong:
             general, guesses = wrong.args
             m.forget_nearest(general.name)
@@ -176,9 +232,7 @@ def run_to_all_ends(m, call, watches, known):
             check(m, call)
             nothing_secret(m, call)
             ends.append(m)
-    if call.any_length:
-        lengths.check_ends(ends, call)
-    return ends[-1]
+    return ends
 
 
 def run(m, call, watches):

@@ -28,6 +28,7 @@ from statements.left_behind import depends
 from symbols.bits import DATA, KEY, LOST, Unproved
 
 
+NO_STEP = "nothing", (), ()
 PHASE_BEGINNINGS = "again", "return", "whole", "refused"
 
 

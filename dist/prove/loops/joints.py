@@ -1,0 +1,276 @@
+"""Proves a call of several lengths part by part, so that each part is proved for the remainders of one length.
+
+A part is what a call does up to a *joint*: a place at which a function has just returned, and a phase of the statement has ended. The runs of
+a part come there with each remainder of one length. A *state at the joint* is then guessed from them. In it the lengths are unknown numbers
+without remainders. Nothing is known of what the runs don't have in common, and of what lies below the stack pointer. Each run has to be an
+instance of this state, so that all that is proved from there holds for it. The next part begins in this state, with each remainder of the
+length that it is about. So it doesn't matter how the state is guessed: a wrong guess can only fail."""
+import itertools
+from collections import namedtuple
+
+from loops.lengths import differences_from, general_regions, general_registers, generalized
+from loops.linear import Linear, implied, refuted, rewritten, terms, unknown
+from machines.operands import SECRET, is_int
+from machines.regions import Window
+from symbols.bits import KEY, Unproved
+
+GROUP_NUMBERS = itertools.count()  # so that each unknown number of groups of bytes has a name of its own
+SCOUTED = 0, 1, 16, 17  # the remainders with which the place of a joint is looked for
+LONGEST_TRAIL = 4000  # how many places are looked at there
+
+# A part of a call:
+#     length    the name of the unknown length whose remainders it has
+#     step      the number of bytes by which they are taken
+#     phase     the phase of the statement that begins when the part ends; None for the last part, which ends with the call
+#     cases     sets of facts, of which one holds for each run that comes to its end. Each has a state of its own there
+#     but       a length that isn't meant. It has to be less than `step`
+class Part(namedtuple("Part", "length step phase cases but", defaults=[None, (frozenset(),), None])):
+    __slots__ = ()
+
+    def later(self, phases):
+        """Gives the part if other phases come before its own."""
+        return self._replace(phase=self.phase and self.phase + phases)
+
+
+# Where a part ends: the address after a call, and the stack pointer there.
+Place = namedtuple("Place", "address stack_pointer")
+
+
+def is_empty_or_not(sizes):
+    """Gives the cases that all of these sizes are 0, and that one isn't."""
+    return {-sum(sizes)}, {sum(sizes) - 1}
+
+
+class Arrived(Exception):
+    """Ends a run, which came to the joint."""
+
+
+def with_remainder(start, part, rest):
+    """Gives a machine in which the length of a part leaves this remainder. If the length is known there, it stays as it is."""
+    m = start.copied()
+    if isinstance(m.known(unknown(part.length)), Linear):
+        groups = unknown("groups %04d" % next(GROUP_NUMBERS))
+        m.replace_unknown(part.length, groups * part.step + rest)
+        m.assume(groups - (rest == part.but))
+    return m
+
+
+def names_of_lengths(m, part, rest):
+    """Gives the names of unknown numbers whose sizes are looked at where runs with this remainder end: those of its length, and with the
+    first remainder also those of the other lengths."""
+    own = terms(m.known(unknown(part.length)))
+    return own if rest else {name for fact in m.facts for name in terms(fact)}
+
+
+def begins_of(start, part, rests=None):
+    """Gives (a remainder, the machine in which the length of a part leaves it) for each remainder that it may leave, or for some."""
+    for rest in rests or range(part.step) if isinstance(start.known(unknown(part.length)), Linear) else range(1):
+        m = with_remainder(start, part, rest)
+        if not refuted(m.facts):
+            yield rest, m
+
+
+def case_of(m, part):
+    """Gives the number of the case to which a run belongs at the end of a part, or None if that isn't known."""
+    return next((k for k, facts in enumerate(part.cases) if all(m.implied(m.known(fact)) for fact in facts)), None)
+
+
+def here(m):
+    return Place(m.next_address, m.general[m.stack_pointer].offset)
+
+
+def stopping_at(part, places):
+    """Gives a function that ends a run at a joint. It is called after each instruction. `places` are those of the cases."""
+    addresses = {place.address for place in places.values()}
+
+    def watch(m):
+        if m.next_address in addresses and m.phase == part.phase and here(m) == places.get(case_of(m, part)):
+            raise Arrived
+    return watch
+
+
+def stopping_in(phase):
+    """Gives a function that ends a run when a phase begins."""
+    def watch(m):
+        if m.phase == phase:
+            raise Arrived
+    return watch
+
+
+class Trail:
+    """Notes through which places a run goes after the end of a part."""
+
+    def __init__(self):
+        self.places = {}
+
+    def watch(self, m):
+        if is_int(m.next_address):
+            self.places[here(m)] = None
+        if len(self.places) > LONGEST_TRAIL:
+            raise Arrived
+
+
+def common_place(trails):
+    """Gives the first place through which all these runs go."""
+    first, *others = trails
+    place = next((place for place in first.places if all(place in trail.places for trail in others)), None)
+    if not place:
+        raise Unproved("runs have no place in common after a part")
+    return place
+
+
+class Joint:
+    """Keeps the states at a joint, one for each case."""
+
+    def __init__(self, call, part, is_secret):
+        """`part` is the one that ends there. is_secret(m, byte) says whether a byte may depend on a secret."""
+        self.facts, self.part, self.is_secret = call.facts, part, is_secret
+        self.lengths = dict.fromkeys(part.length for part in call.parts)
+        self.known_states, self.waiting = {}, {}  # by the numbers of their cases: states, and runs to which no state belongs so far
+
+    def add_all(self, runs):
+        """Adds runs that came to the joint. Those of any length come first, because a state is best made from one of them."""
+        def known_lengths(m):
+            return sum(is_int(m.known(unknown(name))) for name in self.lengths)
+        for m in sorted(runs, key=known_lengths):
+            self.add(without_dead_stack(m, self.is_secret))
+
+    def add(self, m):
+        """Adds a run. It has to be an instance of the state of its case, and so have all that waited for this state."""
+        case = case_of(m, self.part)
+        if case is None:
+            raise Unproved("it isn't known which case a run belongs to at the end of a part")
+        runs = [*self.waiting.pop(case, ()), m]
+        state = self.known_states.get(case) or self.state_of(runs, self.part.cases[case])
+        if not state:
+            self.waiting[case] = runs
+            return
+        self.known_states[case] = state
+        for run in runs:
+            weaken(state, run, self.instance(state, run))
+            wrong = differences_from(run, self.instance(state, run)) + differences_of_windows(run, state)
+            if wrong:
+                raise Unproved("a part doesn't end in the same state: " + ", ".join(wrong))
+
+    def states(self):
+        """Gives all states, when all runs have come."""
+        if self.waiting:
+            raise Unproved("no state at a joint is known for some runs")
+        return list(self.known_states.values())
+
+    def state_of(self, runs, case):
+        """Guesses the state of a case from the last run. If a length is known there that may be any in this case, it is guessed from the
+        last two runs. Their lengths have to differ by 1, or there is no state so far."""
+        m = runs[-1]
+        numbers = {name: m.known(unknown(name)) for name in self.lengths}
+        fixed = [name for name, number in numbers.items() if is_int(number) and not implied_by(self.facts | case, name, number)]
+        state = m.copied() if not fixed else state_between(runs[-2:], fixed) if len(runs) > 1 else None
+        return state and self.forgetful(state, case, {name: number for name, number in numbers.items() if not is_int(number)})
+
+    def forgetful(self, state, case, numbers):
+        """Gives this state with nothing but what a joint keeps. The lengths with these numbers become unknown."""
+        for name, number in numbers.items():
+            if number != unknown(name):
+                rewrite(state, number, name)
+        state.facts, state.replaced, state.decided, state.generals, state.loops = self.facts, [], [], (), {}
+        state.flags = dict.fromkeys(state.flag_names, SECRET)
+        state.ever_written = {name: set() for name in state.ever_written}
+        for fact in case:
+            if not is_int(fact := state.known(fact)):
+                state.assume(fact)
+        return state
+
+    def instance(self, state, m):
+        """Gives the state with the lengths that a machine has."""
+        want = state.copied()
+        for name in self.lengths:  # by other names first, because the machine's numbers may have the names of these lengths
+            want.replace_unknown(name, unknown(name + " at the joint"))
+        for name in self.lengths:
+            want.replace_unknown(name + " at the joint", m.known(unknown(name)))
+        return want
+
+
+def implied_by(facts, name, number):
+    """Whether it follows from facts that the unknown with this name is a number."""
+    return implied(facts, unknown(name) - number) and implied(facts, number - unknown(name))
+
+
+def state_between(runs, names):
+    """Guesses the state that two runs have in common, in which one length differs by 1. Gives None for other runs."""
+    (first, second), (name, *others) = runs, names
+    length = first.known(unknown(name))
+    if others or second.known(unknown(name)) != length + 1:
+        return None
+    state, more = first.copied(), unknown(name) - length
+    general_registers(state, first, second, more, ())
+    general_regions(state, first, second, more)
+    for name, region in state.regions.items():
+        if isinstance(region, Window):
+            other = second.regions[name]
+            region.size, region.end = (generalized(a, b, more, state.highest) for a, b in ((region.size, other.size), (region.end, other.end)))
+    return state
+
+
+def without_dead_stack(m, is_secret):
+    """Gives a machine that knows of the stack below the stack pointer only whether its bytes are secret. The code can't read them."""
+    m = m.copied()
+    content, end = m.regions["stack"].content, m.general[m.stack_pointer].offset
+    dead, undefined = range(m.stack.lowest, end), m.domain.undefined
+    is_public = {b: not is_secret(m, b) for b in {content[k] for k in dead}}
+    for k in dead:
+        content[k] = undefined if is_public[content[k]] else m.any_byte()
+    m.stack.mark_stale(m.stack.lowest, end)
+    return m
+
+
+def rewrite(state, number, name):
+    """Lets an unknown replace this number everywhere. Bytes of numbers that can't be written with it become any bytes."""
+    if len(number.terms) > 1:
+        raise Unproved("a length that depends on several unknown numbers at a joint")
+
+    def is_written(x):
+        try:
+            rewritten(x, number, name)
+        except Unproved:
+            return False
+        return True
+
+    def lost(b):
+        cells, of = state.domain.unknown_cells(b), state.domain.name_of_opaque.get(b)
+        of = of[0] if isinstance(of, tuple) else None
+        return b if is_written(of) and (of is not None or all(is_written(state.domain.number_of_cell[c][0]) for c in cells)) else state.any_byte()
+    state.each_byte(lost)
+    state.general = {r: v if type(v) is tuple or is_written(v) else (state.any_byte(),) * state.word for r, v in state.general.items()}
+    state.numbers_by_frame = tuple((at, tuple(filter(is_written, numbers))) for at, numbers in state.numbers_by_frame)
+    state.flags = dict.fromkeys(state.flag_names)
+    state.facts = frozenset()
+    state.replace_numbers(lambda x: rewritten(x, number, name))
+
+
+def weaken(state, m, want):
+    """Forgets what a state has and a machine hasn't. `want` is the state with the machine's lengths."""
+    any_ = state.any_byte()
+
+    def common(kept, a, b):
+        return [x if y == z else any_ for x, y, z in zip(kept, a, b)]
+    for r, v in want.general.items():
+        if want.to_bytes(v, m.word) != m.to_bytes(m.general[r], m.word) and r != m.stack_pointer:
+            state.general[r] = (any_,) * m.word
+    state.vectors = [common(*some) for some in zip(state.vectors, want.vectors, m.vectors)]
+    own, other, here = (x.regions["stack"].content for x in (state, want, m))
+    state.stack.join(m.stack)
+    begin = state.stack.lowest
+    own[begin:] = common(own[begin:], other[begin:], here[begin:])
+    for place, on in m.origins.items():  # (What depends on the key alone may not be left anywhere.)
+        if on != state.origins.setdefault(place, on) and on & state.origins[place] & KEY:
+            state.origins[place] = KEY
+    secret = state.asked_of_secrets()
+    state.answers = {flag: answer for flag, answer in state.answers.items() if flag in secret or m.answers.get(flag) == answer}
+    state.note_buffers(m)
+
+
+def differences_of_windows(m, state):
+    """Gives the names of buffers of any length that a machine and a state don't treat alike."""
+    what = "turn", "unit", "head", "backwards", "undoes", "waits", "want"
+    return [name for name, w in state.regions.items() if isinstance(w, Window) and any(
+        getattr(w, x) != getattr(m.regions[name], x) for x in what)]
