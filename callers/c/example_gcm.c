@@ -67,7 +67,7 @@ static int load(int folder, const char *name, struct kept *kept)
     return loaded;
 }
 
-/* Draws a key from the system's generator: a password is no key. */
+/* Draws a key from the system's generator. Don't use a password as a key. */
 static int draw(struct kept *kept)
 {
     memset(&kept->counter, 0, sizeof kept->counter);

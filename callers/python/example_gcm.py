@@ -65,7 +65,7 @@ def store(path: pathlib.Path, folder: int, data: bytes) -> None:
 def seal(path: pathlib.Path, text: bytes, additional: bytes) -> Tuple[bytes, bytes]:
     """The nonce and the sealed text. If it raises, send nothing."""
     with locked(path) as folder:
-        # A password is no key.
+        # Don't use a password as a key.
         key, counter = load(path / "key") if os.path.lexists(path / "key") else (os.urandom(32), bytes(12))
         with Gcm(key, counter) as gcm:
             nonce, sealed = gcm.seal_next(text, additional)

@@ -14,6 +14,9 @@ def table(columns, *rows):
     return [dict(zip(columns.split(), row, strict=True)) for row in rows]
 
 
+# The type arguments of calls after which the stack is searched: a form and directions, or the forms before and after a conversion.
+OVER_BOTH, OVER_ENC, OVER_DEC = "${FORM_BOTH}<K>, BothWays", "${FORM_ENC}<K>, Encrypt", "${FORM_DEC}<K>, Decrypt"
+OVER_TWO = "${FORM_ENC}<K>, ${FORM_DEC}<K>"
 TABLES = {
     # Bytes of a key, stored words of planes, round keys.
     "SIZE": table("SIZE KEY LENGTH COUNT", (128, 16, 88, 11), (192, 24, 104, 13), (256, 32, 120, 15)),
@@ -32,16 +35,15 @@ TABLES = {
     "WHOLE": table("MODE TYPE", ("gcm", "Gcm"), ("gcm_siv", "GcmSiv")),
     "WRAP": table("WRAP GIVEN", ("wrap", "wrapped"), ("wrap_padded", "cut(wrapped)")),
     "ANSWER": table("ANSWER CHANGE RIGHT", ("opened", 0, "true"), ("refused", 1, "false")),
-    # Calls after which the stack is searched: what they use and how that ends, for those that are alike; then all, with the forms that they
-    # are over, and the blocks or bytes that they are given.
+    # Calls after which the stack is searched: what they use and how that ends, for those that are alike; then all, with the blocks or bytes
+    # that they are given, and the forms that they are over.
     "USED": table("USED GIVEN CALL", ("value", "block: &mut Block", "encrypt_block(block)"),
                   ("slice", "blocks: &mut [Block]", "encrypt_blocks(blocks)")),
     "ENDED": table("ENDED MUT WIPE", ("dropped", "", ""), ("zeroized", "mut ", "cipher.zeroize();")),
-    "LEFT": table("WHAT BLOCKS OVER",
-                  *((f"{of}_{end}", "Block", "${FORM_BOTH}<K>, BothWays") for of in ("value", "clone") for end in ("dropped", "zeroized")),
-                  *((it, "[Block]", "${FORM_ENC}<K>, Encrypt") for it in ("slice_dropped", "slice_zeroized")),
-                  ("slice_decrypted", "[Block]", "${FORM_DEC}<K>, Decrypt"), ("stream_dropped", "[u8]", "${FORM_ENC}<K>, Encrypt"),
-                  *((it, "Block", "${FORM_ENC}<K>, ${FORM_DEC}<K>") for it in ("lent_converted", "given_converted"))),
+    "LEFT": table("WHAT BLOCKS OVER", ("value_dropped", "Block", OVER_BOTH), ("value_zeroized", "Block", OVER_BOTH),
+                  ("clone_dropped", "Block", OVER_BOTH), ("clone_zeroized", "Block", OVER_BOTH), ("slice_dropped", "[Block]", OVER_ENC),
+                  ("slice_zeroized", "[Block]", OVER_ENC), ("slice_decrypted", "[Block]", OVER_DEC), ("stream_dropped", "[u8]", OVER_ENC),
+                  ("lent_converted", "Block", OVER_TWO), ("given_converted", "Block", OVER_TWO)),
 }
 TABLES |= {"ENCRYPT": TABLES["DIRECTION"][:1], "WIDE": TABLES["WORD"][1:], "WIPED": TABLES["WORD"][:3]}
 # All types of a crate. Those of one direction have numbers: first three of both directions, then three of this one.
@@ -71,7 +73,8 @@ def fill(text, filled):
 
 
 def expand(lines, filled):
-    """The lines with each marked item repeated."""
+    """The lines with each `${..}` filled in, and with each item or statement after a mark `// each ..` repeated, once for each choice of
+    rows. `filled` has the columns of the rows that were chosen around the lines."""
     result, at = [], 0
     while at < len(lines):
         mark = re.fullmatch(r"\s*// each (.*):", lines[at])

@@ -74,8 +74,10 @@ static int record(struct context *c, byte *out, size_t *out_length, const byte *
         memcpy(nonce + nonce_length - EXPLICIT, in, EXPLICIT);
         status = fotsgure_gcm_open(&c->gcm, nonce, nonce_length, c->header, HEADER, text, count, text + count, TAG);
     }
-    *out_length = status ? 0 : c->encrypts ? length : count;
-    return status == FOTSGURE_GCM_DONE;
+    if (status != FOTSGURE_GCM_DONE)
+        return 0;
+    *out_length = c->encrypts ? length : count;
+    return 1;
 }
 
 /* Decrypted text is given out before the tag is compared: that is OpenSSL's contract. */

@@ -1,5 +1,6 @@
-/* A provider for OpenSSL 3 and later, "fotsgure": AES in ECB, CBC, CTR, GCM, GCM-SIV and key wrap over the proved C libraries
- * fotsgure_aes and fotsgure_gcm. docs/OPENSSL.md says how to build it and switch it on, and what of it is proved.
+/* The provider "fotsgure" for OpenSSL 3 and later: AES in ECB, CBC, CTR, GCM, GCM-SIV and key wrap over the proved C libraries
+ * fotsgure_aes and fotsgure_gcm. This file has what OpenSSL calls first, the table of algorithms, and what all modes share:
+ * contexts, keys and parameters. docs/OPENSSL.md says how to build it and switch it on, and what of it is proved.
  *
  * No branch and no address depends on a key or on data, except for what OpenSSL's interface itself shows. That is whether a
  * tag, a padding or a wrapped key was right, and the length of an unpadded text.

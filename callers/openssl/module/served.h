@@ -1,5 +1,5 @@
-/* How many keys a process has set by the module. The module keeps the number in its memory, after a mark, and fotsgure-openssl finds it
- * there. */
+/* The struct in which the module counts the keys that a process has set. It begins with a mark, by which fotsgure-openssl finds it in the
+ * memory of the process. */
 #ifndef FOTSGURE_SERVED_H
 #define FOTSGURE_SERVED_H
 #include <stdatomic.h>

@@ -1,5 +1,5 @@
-/* Key wrap (SP 800-38F; RFC 3394 and RFC 5649): KW and KWP by the proved library; both by the inverse cipher, or after
- * another value than the standard's, over its block cipher. */
+/* Key wrap (SP 800-38F). The library does KW and KWP. For the inverse cipher, or an initial value other than the standard's, this
+ * file does the steps over the library's block cipher. */
 #include "provider.h"
 
 #include <stdlib.h>

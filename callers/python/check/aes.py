@@ -1,5 +1,5 @@
 """The module for Python: FIPS 197, appendix C; slices of 0 to 40 blocks against single calls; SP 800-38A, F.5, cut at every place; every
-refusal; arguments that are no bytes and no positions. The last line is `N passed, M failed`."""
+refusal; arguments that count neither as bytes nor as positions. The last line is `N passed, M failed`."""
 import array
 import sys
 

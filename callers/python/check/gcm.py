@@ -1,6 +1,6 @@
 """The modules for Python, fotsgure.gcm and fotsgure.aead. It tries test cases 2, 4 and 16 of the submission of GCM (McGrew and Viega,
-appendix B); texts of 0 to 300 bytes there and back; every refusal; arguments that are no bytes; threads and forks. It compares AESGCM with
-that of the package cryptography 48 if it is installed. The last line is `N passed, M failed`."""
+appendix B); texts of 0 to 300 bytes there and back; every refusal; arguments that don't count as bytes; threads and forks. It compares
+AESGCM with that of the package cryptography 48 if it is installed. The last line is `N passed, M failed`."""
 import array
 import copy
 import ctypes
@@ -179,7 +179,7 @@ words, text = array.array("I", range(9)), array.array("I", range(9)).tobytes()
 expect(words.itemsize == 4 and gcm.seal(words[:3], words, words) == gcm.seal(text[:12], text, text), "arrays")
 expect(gcm.open(words[:3], bytearray(gcm.seal(text[:12], text)), memoryview(b"")) == text, "a bytearray, a memoryview")
 for thing in (ctypes.c_int(4), ctypes.c_ubyte(4), memoryview(b"4").cast("B", ()), (ctypes.c_void_p * 2)()):
-    expect(raises(TypeError, gcm.seal, NONCE, thing), f"{thing!r} is a number or a pointer, and no bytes")
+    expect(raises(TypeError, gcm.seal, NONCE, thing), f"{thing!r} is a number or a pointer, and doesn't count as bytes")
 expect(raises(BufferError, gcm.seal, NONCE, memoryview(PLAIN)[::2]), "a view with gaps")
 try:
     import numpy
@@ -188,7 +188,7 @@ except ImportError:
 else:
     for thing in (numpy.uint8(4), numpy.array(4, "u1"), numpy.datetime64("2026-11-26"), numpy.array([object()]),
                   numpy.array(["2026-11-26"], "M8[D]"), numpy.zeros(2, [("a", "u1")])):
-        expect(raises(TypeError, gcm.seal, NONCE, thing), f"{thing!r} of numpy is no bytes")
+        expect(raises(TypeError, gcm.seal, NONCE, thing), f"{thing!r} of numpy doesn't count as bytes")
     for thing in (numpy.arange(9, dtype="u4"), numpy.zeros((2, 3), "u1"), numpy.zeros(0, "u4")):
         expect(gcm.seal(NONCE, thing) == gcm.seal(NONCE, thing.tobytes()), f"{thing!r} of numpy")
     expect(raises(BufferError, gcm.seal, NONCE, numpy.zeros((2, 3), "u1", order="F")), "an array with gaps")

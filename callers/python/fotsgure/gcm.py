@@ -14,19 +14,20 @@
             message.verify(bytes) .., message.accept(tag), message.decrypt(bytes) ..    the same text in both passes
         nonce, message = gcm.begin_next()               under the next nonce
 
-A key is os.urandom(32), kept where nobody else reads it. A password is no key. In GCM no nonce may be used twice under a key.
-Random ones have 12 bytes or more; if any nonce of a key is random or has another length than 12 bytes, use a new key
-before 2^32 messages. In AES-GCM-SIV a nonce that is used twice only shows whether the two messages are the same.
+A key is os.urandom(32), kept where nobody else reads it. Don't use a password as a key. In GCM no nonce may be used twice
+under a key. Random ones have 12 bytes or more; if any nonce of a key is random or has another length than 12 bytes, use a
+new key before 2^32 messages. In AES-GCM-SIV a nonce that is used twice only shows whether the two messages are the same.
 
 What counts as bytes: bytes, a bytearray, a memoryview, an array.array, an array of numpy. Any object does that has a length
 and a C-contiguous buffer of numbers or single bytes, in one dimension or more. Its bytes are used. A view with gaps raises
-BufferError. Anything else raises TypeError: a number is no bytes, not even one of numpy or ctypes.
+BufferError. Anything else raises TypeError: a number doesn't count as bytes, not even one of numpy or ctypes.
 
 FOTSGURE_GCM names the library's file. Without it, the module loads the library that pip built, or the loader searches for one.
 Python copies bytes as it likes, so only the prepared key is wiped.
 """
 import contextlib
 import ctypes
+import enum
 from typing import Any, Optional, Sequence, Tuple
 
 from .library import Bytes, Secret, Turn, Uses, Word, bytes_of, bytes_or_none, load, room, written
@@ -80,21 +81,42 @@ _c = load("fotsgure_gcm", 4, [
     ("siv_open", [_siv, ctypes.c_char_p, *_read, *_written, ctypes.c_char_p], _status),
 ])
 VERSION: int = _c.fotsgure_gcm_version()
-_STATUSES = ("", "a key has 16, 24 or 32 bytes, of AES-GCM-SIV 16 or 32", "the key was wiped",
-             "a nonce has one byte or more, in AES-GCM-SIV 12", "a tag has 16 bytes",
-             "more bytes than the standard allows, or more than were verified",
-             "the message was changed, or sealed under another key", "no nonce is left: use a new key",
-             "the calls came in the wrong order, for example text after finish, or decrypt before accept",
-             "the system gave no randomness for a nonce")
-_NONCE_LENGTH, _TAG_LENGTH = 3, 4
+
+
+class _Status(enum.IntEnum):
+    """The statuses of fotsgure_gcm.h that these calls return."""
+
+    DONE = 0
+    KEY_LENGTH = 1
+    NO_KEY = 2
+    NONCE_LENGTH = 3
+    TAG_LENGTH = 4
+    TOO_LONG = 5
+    REFUSED = 6
+    NONCES_END = 7
+    OUT_OF_TURN = 8
+    NO_RANDOMNESS = 9
+
+
+_WORDS = {
+    _Status.KEY_LENGTH: "a key has 16, 24 or 32 bytes, of AES-GCM-SIV 16 or 32",
+    _Status.NO_KEY: "the key was wiped",
+    _Status.NONCE_LENGTH: "a nonce has one byte or more, in AES-GCM-SIV 12",
+    _Status.TAG_LENGTH: "a tag has 16 bytes",
+    _Status.TOO_LONG: "more bytes than the standard allows, or more than were verified",
+    _Status.REFUSED: "the message was changed, or sealed under another key",
+    _Status.NONCES_END: "no nonce is left: use a new key",
+    _Status.OUT_OF_TURN: "the calls came in the wrong order, for example text after finish, or decrypt before accept",
+    _Status.NO_RANDOMNESS: "the system gave no randomness for a nonce",
+}
 # What shows that a message was changed: a nonce, a tag or a text with a length that no message has, or another tag.
-_CHANGED = (3, 4, 5, 6)
+_CHANGED = (_Status.NONCE_LENGTH, _Status.TAG_LENGTH, _Status.TOO_LONG, _Status.REFUSED)
 
 
-def _check(status: int, changed: Sequence[int] = ()) -> None:
+def _check(status: int, changed: Sequence[_Status] = ()) -> None:
     """Raises ValueError for a status but DONE, and Refused for those of `changed`."""
-    if status:
-        raise (Refused if status in changed else ValueError)(_STATUSES[status])
+    if status != _Status.DONE:
+        raise (Refused if status in changed else ValueError)(_WORDS[_Status(status)])
 
 
 class GcmSiv(Secret):
@@ -117,7 +139,7 @@ class GcmSiv(Secret):
     def seal(self, nonce: Bytes, text: Bytes, additional: Optional[Bytes] = None) -> bytes:
         """Encrypts under a nonce of yours, of 12 bytes: returns the encrypted text followed by the tag."""
         nonce, text, additional = bytes_of(nonce), bytes_of(text), bytes_or_none(additional)
-        _check(0 if len(nonce) == 12 else _NONCE_LENGTH)
+        _check(_Status.DONE if len(nonce) == 12 else _Status.NONCE_LENGTH)
         buffer, tag = room(text), room(bytes(16))
         with self._uses:
             _check(_c.fotsgure_gcm_siv_seal(self._key, nonce, additional, len(additional), buffer, len(text), tag))
@@ -128,7 +150,8 @@ class GcmSiv(Secret):
         isn't whole."""
         nonce, sealed, additional = bytes_of(nonce), bytes_of(sealed), bytes_or_none(additional)
         text, tag = sealed[:-16], sealed[-16:]
-        _check(_NONCE_LENGTH if len(nonce) != 12 else _TAG_LENGTH if len(tag) != 16 else 0, _CHANGED)
+        _check(_Status.DONE if len(nonce) == 12 else _Status.NONCE_LENGTH, _CHANGED)
+        _check(_Status.DONE if len(tag) == 16 else _Status.TAG_LENGTH, _CHANGED)
         buffer = room(text)
         with self._uses:
             _check(_c.fotsgure_gcm_siv_open(self._key, nonce, additional, len(additional), buffer, len(text), tag), _CHANGED)
@@ -236,11 +259,11 @@ class Message(Secret):
     def __init__(self, gcm: Gcm) -> None:
         self._gcm, self._message, self._turn = gcm, _Message(), Turn("message")
 
-    def _call(self, call: Any, *arguments: Any, changed: Sequence[int] = ()) -> None:
+    def _call(self, call: Any, *arguments: Any, changed: Sequence[_Status] = ()) -> None:
         with self._turn, self._gcm._uses:
             _check(call(self._gcm._key, self._message, *arguments), changed)
 
-    def _takes(self, call: Any, data: Bytes, changed: Sequence[int] = ()) -> None:
+    def _takes(self, call: Any, data: Bytes, changed: Sequence[_Status] = ()) -> None:
         data = bytes_of(data)
         self._call(call, data, len(data), changed=changed)
 

@@ -6,7 +6,7 @@ use std::io::Read;
 
 fn main() -> Result<(), Box<dyn std::error::Error>> {
     let mut key = [0; 32];
-    std::fs::File::open("/dev/urandom")?.read_exact(&mut key)?; // a password is no key
+    std::fs::File::open("/dev/urandom")?.read_exact(&mut key)?; // don't use a password as a key
     let gcm = Gcm::new(&key)?;
     let mut counter = Counter { next: [0; 12] }; // for a new key; else what was stored
     let mut text = *b"a message";
