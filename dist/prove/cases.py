@@ -16,8 +16,8 @@ from remainders import AMONG_REMAINDERS, DIRECTIONS, EVERY, FEW, LENGTHS, LONGES
 # says which builds and keys have a list. All builds have `most`, except those that takes_few (linking.py) names: these are compiled
 # from the sources of the others. Keys of 24 and 32 bytes have each call once, and the code that loops over round keys. Only the builds of
 # FIRST have `remainders` and `lengths_24_32`. These are other remainders of lengths, and each call at every length with keys of 24 and 32
-# bytes.
-Row = collections.namedtuple("Row", "name what each most first remainders keys_24_32 lengths_24_32 all_", defaults=[()] * 7)
+# bytes. With PROVE=all they also have `pairs`.
+Row = collections.namedtuple("Row", "name what each most first remainders keys_24_32 lengths_24_32 all_ pairs", defaults=[()] * 8)
 ONCE = [()]  # no arguments
 FIRST = "x86_64/aes", "x86_64/siv", "x86_64/gcm"  # the builds that have `first` with PROVE=builds
 
@@ -119,11 +119,11 @@ GCM_ROWS = [
     Row("any_open", SAYS_WHOLE + SAYS_NONCE + "; also of what is refused", most=[(13, 33), LONGEST], first=[(13, 33, "_to"), *LONGEST_TOO],
         lengths_24_32=[(13, 33), (13, 33, "_to")], all_=[(0, 0), (47, 767), (13, 33, "", 8), *OTHER_NONCES]),
     *(Row("any_" + call, "the same", remainders=EVERY["any_" + call]) for call in ("seal", "open")),
-    *(Row("every_" + call, SAYS_EVERY + "; every other nonce instead of those of 12 bytes" + also,
-          all_=[(way, *nonce) for nonce in ((), (EVERY_NONCE,)) for way in ("", "_to")])
+    *(Row("every_" + call, SAYS_EVERY + "; every nonce but those of 12 bytes (`other nonces`)" + also,
+          pairs=[(way, *nonce) for nonce in ((), (EVERY_NONCE,)) for way in ("", "_to")])
       for call, also in (("seal", ""), ("open", "; also of what is refused"))),
     Row("any_seal_next", SAYS_WHOLE, first=[(13, 33), LONGEST], lengths_24_32=[(13, 33)], all_=[(0, 129)]),
-    Row("every_seal_next", SAYS_EVERY, all_=ONCE),
+    Row("every_seal_next", SAYS_EVERY, pairs=ONCE),
     Row("any_begin", "a nonce of 48 k + r bytes for every k: r", most=[8, LONGEST[0]],
         remainders=[19 * k % 48 for k in range(16) if k not in (5, 8)], lengths_24_32=[8], all_=[0, 12, 33, 47]),
     *(Row("any_" + call, SAYS_PIECE % (step, ", and 7 of additional data" * (call != "additional")), first=[(3, 46)],
@@ -210,7 +210,7 @@ SIV_ROWS = [
     Row("any_open", SAYS_WHOLE + "; also of what is refused", most=[(13, 33, "_to"), (13, 225)],
         first=[(16, 256), (16, 256, "_to")], remainders=EVERY["siv any_open"], lengths_24_32=[(13, 33, "_to"), (13, 225)],
         all_=[(33, 48), (0, 0, "_to")]),
-    *(Row("every_" + call, SAYS_EVERY + also, all_=["", "_to"]) for call, also in (("seal", ""), ("open", "; also of what is refused"))),
+    *(Row("every_" + call, SAYS_EVERY + also, pairs=["", "_to"]) for call, also in (("seal", ""), ("open", "; also of what is refused"))),
     Row("seal", "the lengths of additional data and text", each=[(13, 33), (13, 33, "_to")],
         most=[(13, 0), (1, 1), (13, 7), (0, 16), *SHORT],
         first=[(a, n) for n in (0, 161) for a in (1, *AROUND, 47, 48, 49)],
@@ -276,7 +276,8 @@ def arguments_taken(row, build, key_size, level):
         return dict.fromkeys([*many, *once, *(row.lengths_24_32 if is_first else ())])
     remainders = row.remainders if is_first else ()
     if level == "all":
-        return dict.fromkeys([*row.each, *row.most, *(() if is_late else [*row.first, *row.all_]), *remainders])
+        return dict.fromkeys([*row.each, *row.most, *(() if is_late else [*row.first, *row.all_]), *remainders,
+                              *(row.pairs if is_first else ())])
     most = () if takes_few(build, level) else row.most
     return dict.fromkeys([*row.each, *most, *(row.first if is_first else ()), *remainders])
 
