@@ -1,5 +1,5 @@
-"""Runs the controls of the proof: faults that are planted in the assembly, code that no case reaches (both in faults.py), and wrong
-meanings of instructions. Each has to be refused. Run it as `make prove-controls` in dist.
+"""Runs the controls of the proof: faults that are planted in the assembly, code that no case reaches (both in faults.py), wrong guesses of
+states at joints (wrong_states.py), and wrong meanings of instructions. Each has to be refused. Run it as `make prove-controls` in dist.
 
 A fault is refused if the case that it names is not proved any more. That is a case of PROVE=builds. For Windows, `_v1` and RISC-V, and for
 every pair of lengths, it is one of PROVE=all. A fault for which a build has no place counts as missed. Any other failure ends the controls: one of gcc or ld, a case that
@@ -16,9 +16,11 @@ from covered.noted import joined_coverage
 from linked.builds import BUILDS, source, takes_few
 from linked.directives import refuse_lines
 from linked.linking import assemble
+from loops import joints
 from machines.native import NEVER_ALONE, compare_all
 from machines.processors import MEANINGS, PROCESSORS
 from planted.faults import BUILDS_WITH_FAULTS, faults_of, is_unreached
+from planted.wrong_states import BUILD, CASE, WRONG_STATES
 from prove import options_of
 from symbols.bits import Unproved
 from tasks import pool_of
@@ -125,6 +127,23 @@ def try_faults(options, build):
     return [planted[fault.key_size].try_fault(fault) for fault in faults]
 
 
+def try_wrong_states(options, build):
+    """Tries wrong guesses of the states at joints, with the unchanged assembly of a build."""
+    planted, right, verdicts = Planted(options, build), joints.Joint.forgetful, []
+
+    def guessed(wrongly):
+        def guess(*arguments):
+            state = right(*arguments)
+            wrongly(state)
+            return state
+        return guess
+    for what, wrongly in WRONG_STATES:
+        joints.Joint.forgetful = guessed(wrongly)
+        verdicts.append(verdict("a state with " + what, lambda: planted.prove_cases(planted.assembly, [CASE])))
+    joints.Joint.forgetful = right
+    return verdicts
+
+
 # Wrong meanings: the processor has to disagree.
 WITHOUT_EFFECT = "nop", "endbr64", "hint", "fence", "xchg"  # xchg is padding too
 
@@ -184,6 +203,7 @@ def main():
     refused, missed = 0, 0
     tries = [(try_faults, build) for build in BUILDS_WITH_FAULTS if build in options.builds]
     if not options.only:
+        tries += [(try_wrong_states, BUILD)] * (BUILD in options.builds)
         tries += [(try_wrong_meanings, machine) for machine in set(MEANINGS.values()) if not PROCESSORS[machine].missing()]
     with pool_of(options.jobs, max_tasks_per_child=1) as pool:  # (one build needs some 4 GB)
         for tried in [pool.submit(function, options, of) for function, of in tries]:

@@ -5,7 +5,6 @@ a part come there with each remainder of one length. A *state at the joint* is t
 without remainders. Nothing is known of what the runs don't have in common, and of what lies below the stack pointer. Each run has to be an
 instance of this state, so that all that is proved from there holds for it. The next part begins in this state, with each remainder of the
 length that it is about. So it doesn't matter how the state is guessed: a wrong guess can only fail."""
-import itertools
 from collections import namedtuple
 
 from loops.lengths import differences_from, general_regions, general_registers, generalized
@@ -14,7 +13,6 @@ from machines.operands import SECRET, is_int
 from machines.regions import Window
 from symbols.bits import KEY, Unproved
 
-GROUP_NUMBERS = itertools.count()  # so that each unknown number of groups of bytes has a name of its own
 SCOUTED = 0, 1, 16, 17  # the remainders with which the place of a joint is looked for
 LONGEST_TRAIL = 4000  # how many places are looked at there
 
@@ -49,7 +47,7 @@ def with_remainder(start, part, rest):
     """Gives a machine in which the length of a part leaves this remainder. If the length is known there, it stays as it is."""
     m = start.copied()
     if isinstance(m.known(unknown(part.length)), Linear):
-        groups = unknown("groups %04d" % next(GROUP_NUMBERS))
+        groups = unknown("groups of %s before phase %s" % (part.length, part.phase))  # (a name that no other part has)
         m.replace_unknown(part.length, groups * part.step + rest)
         m.assume(groups - (rest == part.but))
     return m
@@ -151,6 +149,10 @@ class Joint:
             wrong = differences_from(run, self.instance(state, run)) + differences_of_windows(run, state)
             if wrong:
                 raise Unproved("a part doesn't end in the same state: " + ", ".join(wrong))
+
+    def machines(self):
+        """Gives all machines that it keeps."""
+        return [*self.known_states.values(), *(m for runs in self.waiting.values() for m in runs)]
 
     def states(self):
         """Gives all states, when all runs have come."""

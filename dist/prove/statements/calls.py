@@ -168,11 +168,21 @@ def prove_parts(m, call):
         joint, places = joints.Joint(call, part, may_be_secret(call)), places_of_joint(starts, call, part) if part.phase else {}
         for start in starts:
             for rest, begin in joints.begins_of(start, part):
+                forget_products(begin, [*starts, *joint.machines()])
                 ends = run_part(begin.copied(), call, part, joints.stopping_at(part, places))
                 lengths.check_ends(ends, begin.facts, joints.names_of_lengths(begin, part, rest))
                 joint.add_all([end for end in ends if not has_returned(end)])
         starts = joint.states()
     return ends[-1]
+
+
+def forget_products(m, others):
+    """Forgets products if there are many, and the bytes of machines that have some."""
+    with_products = m.domain.with_products
+    if len(m.domain.products) > MOST_SUMS_OF_PRODUCTS:
+        for machine in (m, *others):
+            machine.each_byte(lambda b: machine.any_byte() if b in with_products else b, whole=True)
+        m.domain.forget_products()
 
 
 def places_of_joint(starts, call, part):

@@ -52,7 +52,7 @@ class Products:
             del self.byte_ids[self.bits_of[byte]]
             self.bits_of[byte] = None
         for known in (self.products, self.product_ids, self.with_products, self.product_xors, self.product_ands, self.shifted,
-                      self.linear_tables, self.sums):
+                      self.linear_tables, self.sums, self.rows, self.row_keys):
             known.clear()
 
     def filled_rows(self, pairs):
