@@ -1,10 +1,10 @@
 """Proves a call of several lengths part by part, so that each part is proved for the remainders of one length.
 
-A part is what a call does up to a *joint*: a place at which a function has just returned, and a phase of the statement has ended. The runs of
-a part come there with each remainder of one length. A *state at the joint* is then guessed from them. In it the lengths are unknown numbers
-without remainders. Nothing is known of what the runs don't have in common, and of what lies below the stack pointer. Each run has to be an
-instance of this state, so that all that is proved from there holds for it. The next part begins in this state, with each remainder of the
-length that it is about. So it doesn't matter how the state is guessed: a wrong guess can only fail."""
+A part is what a call does up to a *joint*: a place at which a function has just returned, and a phase of the statement has ended. The runs
+of a part come there with each remainder of one length. A *state at the joint* is then guessed from them. In it the lengths are unknown
+numbers without remainders. Nothing is known of what the runs don't have in common, and of what lies below the stack pointer. Each run has
+to be an instance of this state, so that all that is proved from there holds for it. The next part begins in this state, with each remainder
+of the length that it is about. So it doesn't matter how the state is guessed: a wrong guess can only fail."""
 from collections import namedtuple
 
 from loops.lengths import differences_from, general_regions, general_registers, generalized
@@ -209,7 +209,8 @@ def state_between(runs, names):
     for name, region in state.regions.items():
         if isinstance(region, Window):
             other = second.regions[name]
-            region.size, region.end = (generalized(a, b, more, state.highest) for a, b in ((region.size, other.size), (region.end, other.end)))
+            region.size = generalized(region.size, other.size, more, state.highest)
+            region.end = generalized(region.end, other.end, more, state.highest)
     return state
 
 
@@ -240,7 +241,8 @@ def rewrite(state, number, name):
     def lost(b):
         cells, of = state.domain.unknown_cells(b), state.domain.name_of_opaque.get(b)
         of = of[0] if isinstance(of, tuple) else None
-        return b if is_written(of) and (of is not None or all(is_written(state.domain.number_of_cell[c][0]) for c in cells)) else state.any_byte()
+        has_number = of is not None or all(is_written(state.domain.number_of_cell[c][0]) for c in cells)
+        return b if is_written(of) and has_number else state.any_byte()
     state.each_byte(lost)
     state.general = {r: v if type(v) is tuple or is_written(v) else (state.any_byte(),) * state.word for r, v in state.general.items()}
     state.numbers_by_frame = tuple((at, tuple(filter(is_written, numbers))) for at, numbers in state.numbers_by_frame)
