@@ -2,8 +2,8 @@
 states at joints (wrong_states.py), and wrong meanings of instructions. Each has to be refused. Run it as `make prove-controls` in dist.
 
 A fault is refused if the case that it names is not proved any more. That is a case of PROVE=builds. For Windows, `_v1` and RISC-V, and for
-every pair of lengths, it is one of PROVE=all. A fault for which a build has no place counts as missed. Any other failure ends the controls: one of gcc or ld, a case that
-isn't there, or a planted instruction that isn't covered, unless that is the fault."""
+every pair of lengths, it is one of PROVE=all. A fault for which a build has no place counts as missed. Any other failure ends the controls:
+one of gcc or ld, a case that isn't there, or a planted instruction that isn't covered, unless that is the fault."""
 import argparse
 import re
 import sys

@@ -22,7 +22,8 @@ FEW = 160  # the code hashes up to this number of bytes block by block, and more
 # The parts of a call of every length. A message of few bytes is hashed otherwise.
 LENGTH = sum(EVERY_PAIR)
 FEW_OR_MANY = {FEW - LENGTH}, {LENGTH - FEW - 1}
-BEFORE_TEXT, AFTER_TEXT = ([few | empty for few in FEW_OR_MANY for empty in is_empty_or_not(sizes)] for sizes in (EVERY_PAIR[:1], EVERY_PAIR))
+BEFORE_TEXT, AFTER_TEXT = ([few | empty for few in FEW_OR_MANY for empty in is_empty_or_not(sizes)]
+                           for sizes in (EVERY_PAIR[:1], EVERY_PAIR))
 HASHING = Part(ADDITIONAL, GROUP, 2, BEFORE_TEXT), Part(TEXT, GROUP, 3, AFTER_TEXT)
 SEALING = *HASHING, Part(TEXT, BATCH)
 OPENING = Part(TEXT, BATCH, 1, FEW_OR_MANY), *HASHING, Part(TEXT, BATCH)
