@@ -1,10 +1,13 @@
-"""Proves a call of several lengths part by part, so that each part is proved for the remainders of one length.
+"""Proves a call of several lengths part by part. Each part is proved for the remainders of one length.
 
-A part is what a call does up to a *joint*: a place at which a function has just returned, and a phase of the statement has ended. The runs
-of a part come there with each remainder of one length. A *state at the joint* is then guessed from them. In it the lengths are unknown
-numbers without remainders. Nothing is known of what the runs don't have in common, and of what lies below the stack pointer. Each run has
-to be an instance of this state, so that all that is proved from there holds for it. The next part begins in this state, with each remainder
-of the length that it is about. So it doesn't matter how the state is guessed: a wrong guess can only fail."""
+A part ends with a phase of the statement, at a *joint*. That is a place in the code through which all its runs go. They come there with
+each remainder of one length. A *state at the joint* is guessed from them. In it the lengths are unknown numbers without remainders. It has
+nothing that the runs don't have in common, and of the stack below the stack pointer only where secrets may be. Each run has to be an
+instance of this state. So all that is proved from there holds for each run. The next part begins in this state, with each remainder of its
+own length.
+
+It doesn't matter how a place or a state is guessed: a wrong guess can only fail. A state only becomes weaker while runs come (`weaken`). So
+a run that was an instance of it stays one."""
 from collections import namedtuple
 
 from loops.lengths import differences_from, general_regions, general_registers, generalized
@@ -16,13 +19,15 @@ from symbols.bits import KEY, Unproved
 SCOUTED = 0, 1, 16, 17  # the remainders with which the place of a joint is looked for
 LONGEST_TRAIL = 4000  # how many places are looked at there
 
-# A part of a call:
-#     length    the name of the unknown length whose remainders it has
-#     step      the number of bytes by which they are taken
-#     phase     the phase of the statement that begins when the part ends; None for the last part, which ends with the call
-#     cases     sets of facts, of which one holds for each run that comes to its end. Each has a state of its own there
-#     but       a length that isn't meant. It has to be less than `step`
+
 class Part(namedtuple("Part", "length step phase cases but", defaults=[None, (frozenset(),), None])):
+    """A part of a call.
+
+        length    the name of the unknown length whose remainders it has
+        step      the number of bytes by which they are taken
+        phase     the phase of the statement that begins when the part ends; None for the last part, which ends with the call
+        cases     sets of facts, of which one holds for each run that comes to its end. Each has a state of its own there
+        but       a length that isn't meant. It is less than `step`"""
     __slots__ = ()
 
     def later(self, phases):
@@ -30,8 +35,7 @@ class Part(namedtuple("Part", "length step phase cases but", defaults=[None, (fr
         return self._replace(phase=self.phase and self.phase + phases)
 
 
-# Where a part ends: the address after a call, and the stack pointer there.
-Place = namedtuple("Place", "address stack_pointer")
+Place = namedtuple("Place", "address stack_pointer")  # where a part ends
 
 
 def is_empty_or_not(sizes):
@@ -73,7 +77,8 @@ def case_of(m, part):
     return next((k for k, facts in enumerate(part.cases) if all(m.implied(m.known(fact)) for fact in facts)), None)
 
 
-def here(m):
+def place_of(m):
+    """Gives the place to which a run has come."""
     return Place(m.next_address, m.general[m.stack_pointer].offset)
 
 
@@ -82,7 +87,7 @@ def stopping_at(part, places):
     addresses = {place.address for place in places.values()}
 
     def watch(m):
-        if m.next_address in addresses and m.phase == part.phase and here(m) == places.get(case_of(m, part)):
+        if m.next_address in addresses and m.phase == part.phase and place_of(m) == places.get(case_of(m, part)):
             raise Arrived
     return watch
 
@@ -103,7 +108,7 @@ class Trail:
 
     def watch(self, m):
         if is_int(m.next_address):
-            self.places[here(m)] = None
+            self.places[place_of(m)] = None
         if len(self.places) > LONGEST_TRAIL:
             raise Arrived
 
@@ -206,9 +211,8 @@ def state_between(runs, names):
     state, more = first.copied(), unknown(name) - length
     general_registers(state, first, second, more, ())
     general_regions(state, first, second, more)
-    for name, region in state.regions.items():
+    for region, other in zip(state.regions.values(), second.regions.values()):
         if isinstance(region, Window):
-            other = second.regions[name]
             region.size = generalized(region.size, other.size, more, state.highest)
             region.end = generalized(region.end, other.end, more, state.highest)
     return state
@@ -238,12 +242,11 @@ def rewrite(state, number, name):
             return False
         return True
 
-    def lost(b):
-        cells, of = state.domain.unknown_cells(b), state.domain.name_of_opaque.get(b)
-        of = of[0] if isinstance(of, tuple) else None
-        has_number = of is not None or all(is_written(state.domain.number_of_cell[c][0]) for c in cells)
-        return b if is_written(of) and has_number else state.any_byte()
-    state.each_byte(lost)
+    def kept(b):
+        name = state.domain.name_of_opaque.get(b)
+        numbers = name[:1] if isinstance(name, tuple) else [state.domain.number_of_cell[c][0] for c in state.domain.unknown_cells(b)]
+        return b if all(map(is_written, numbers)) else state.any_byte()
+    state.each_byte(kept)
     state.general = {r: v if type(v) is tuple or is_written(v) else (state.any_byte(),) * state.word for r, v in state.general.items()}
     state.numbers_by_frame = tuple((at, tuple(filter(is_written, numbers))) for at, numbers in state.numbers_by_frame)
     state.flags = dict.fromkeys(state.flag_names)
@@ -261,10 +264,9 @@ def weaken(state, m, want):
         if want.to_bytes(v, m.word) != m.to_bytes(m.general[r], m.word) and r != m.stack_pointer:
             state.general[r] = (any_,) * m.word
     state.vectors = [common(*some) for some in zip(state.vectors, want.vectors, m.vectors)]
-    own, other, here = (x.regions["stack"].content for x in (state, want, m))
     state.stack.join(m.stack)
-    begin = state.stack.lowest
-    own[begin:] = common(own[begin:], other[begin:], here[begin:])
+    own, *others = (x.regions["stack"].content for x in (state, want, m))
+    own[:] = common(own, *others)
     for place, on in m.origins.items():  # (What depends on the key alone may not be left anywhere.)
         if on != state.origins.setdefault(place, on) and on & state.origins[place] & KEY:
             state.origins[place] = KEY

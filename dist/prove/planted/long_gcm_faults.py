@@ -19,9 +19,8 @@ FEWER_ZEROS = MEMSET, r"\tcmpq\t$1048576, %rdx\n\tjbe\t77f\n\tmovl\t$1048576, %e
 # The comparison of a text's length with the longest one that is allowed.
 LONGEST = r"(\tmovabsq\t\$68719476704, .*\n\tcmpq\t.*\n)\tseta\t", r"\1\tsetae\t"
 
-# Lengths of additional data and text that meet in no case of another statement. `gcm_seal` begins with the text. Other calls begin with the
-# additional data, which is short so that the loops over it end early. In `gcm_seal`: a place before a text is encrypted. The groups have
-# the register with the length of additional data.
+# Lengths of additional data and text that meet in no case of another statement. The one that a call processes first is short, so that loops
+# over it end early. In `gcm_seal`: a place before a text is encrypted. The second group is the register with the length of additional data.
 LENGTHS, TEXT_FIRST = (49, 70009), (5007, 265)
 CALL_TO_GCTR = r"(\tmovq\t%r8, %(r\w+)\n\tcallq[\s\S]*?\tmovq\t%r\w+, %r8\n)(" + call("gcm::gctr::add_gctr") + ")"
 
