@@ -6,6 +6,7 @@ use standards::keys::{KEY_A1, KEY_A2, KEY_A3};
 use standards::rounds::{
     INVERSE_MIXED, INVERSE_ROUND_KEYS, INVERSE_STATES, MIXED, ROUND_KEYS, STATES,
 };
+use standards::single_blocks::EXAMPLES;
 use std::alloc::Global;
 use std::process::Abort;
 use std::test::Fail;
