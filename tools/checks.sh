@@ -35,7 +35,7 @@ skipped() { echo "skipped: $1 ($2 is not installed${3:+: apt-get install $3})" |
 try_by() { ! has "$1" "$2" || try "${@:2}"; } # PROGRAMS WHAT COMMAND ..
 end() {
     # A host may keep only the end of what is printed, so that has what failed.
-    [[ ! -s $work/failures ]] || { echo '== what failed' && cat "$work/failures"; }
+    [[ $failed -eq 0 || ! -s $work/failures ]] || { echo '== what failed' && cat "$work/failures"; }
     echo "$passed passed, $failed failed"
     [[ $failed -eq 0 ]]
     exit
