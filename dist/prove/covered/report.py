@@ -2,6 +2,7 @@
 import os
 import pickle
 import re
+import sys
 
 from covered import uncovered, uncovered_record
 from covered.noted import joined_coverage
@@ -77,14 +78,21 @@ def without_case(program, tasks):
 
 
 def judge_again(options):
-    """Judges what the last run covered, without proving it again. Gives whether anything isn't as recorded."""
-    with open(os.path.join(options.out, COVERED), "rb") as file:
-        faults = print_what_ran(pickle.load(file), options)
+    """Judges what the last run covered, by the options of that run, without proving it again. Gives whether anything isn't as recorded."""
+    try:
+        with open(os.path.join(options.out, COVERED), "rb") as file:
+            ran, tasks = pickle.load(file)
+    except FileNotFoundError:
+        sys.exit("%s has nothing of an earlier run to judge" % options.out)
+    if options.record and ran.level != "builds":
+        sys.exit("the last run below %s wasn't one with PROVE=builds, so what it covered isn't recorded" % options.out)
+    ran.record, ran.lines = options.record, options.lines
+    faults = print_what_ran(tasks, ran)
     print("%d faults" % faults)
     return faults != 0
 
 
 def keep_coverage(tasks, options):
-    """Keeps what the cases of a run covered, so that it can be judged or recorded again."""
+    """Keeps what the cases of a run covered, and its options, so that it can be judged or recorded again."""
     with open(os.path.join(options.out, COVERED), "wb") as file:
-        pickle.dump(tasks, file)
+        pickle.dump((options, tasks), file)
