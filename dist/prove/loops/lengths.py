@@ -347,17 +347,12 @@ def described(region):
 def check_ends(ends, facts, names):
     """Checks that runs came to an end with numbers of all sizes that these facts allow, for each unknown number with one of these names.
     Else a proof might say nothing about them."""
+    known = [m.facts | {x for old, by in m.replaced for x in (unknown(old) - by, by - unknown(old))} for m in ends]
     for name in names:
         for value in (*range(40), *(2 ** k + d for k in range(6, 60) for d in (-1, 0, 1))):
             this = {unknown(name) - value, value - unknown(name)}
             if not refuted(facts | this):
-                one = next((m for m in ends if may_have(m, this)), None)
+                one = next((some for some in known if not refuted(some | this)), None)
                 if one is None:
                     raise Unproved("no run returned with the length that belongs to %s = %d" % (name, value))
-                ends = sorted(ends, key=lambda m: m is not one)  # so that this one is asked first the next time
-
-
-def may_have(m, facts):
-    """Whether these facts may hold for a machine."""
-    equal = {x for old, by in m.replaced for x in (unknown(old) - by, by - unknown(old))}
-    return not refuted(m.facts | equal | facts)
+                known = sorted(known, key=lambda some: some is not one)  # so that this one is asked first the next time

@@ -20,20 +20,23 @@ class Linear(namedtuple("Linear", "terms constant")):
     is a string. Operations that this class doesn't define fail."""
     __slots__ = ()
 
-    def __add__(self, other):
+    def __add__(self, other, times=1):
+        """Gives the sum with the other number, or with a multiple of it."""
+        if not isinstance(other, Linear):
+            return Linear(self.terms, self.constant + other * times)
         terms = dict(self.terms)
-        for name, k in other.terms if isinstance(other, Linear) else ():
-            terms[name] = terms.get(name, 0) + k
-        return linear(terms, self.constant + (other.constant if isinstance(other, Linear) else other))
+        for name, k in other.terms:
+            terms[name] = terms.get(name, 0) + k * times
+        return linear(terms, self.constant + other.constant * times)
 
     def __mul__(self, k):
-        return linear({name: c * k for name, c in self.terms}, self.constant * k)
+        return Linear(tuple([(name, c * k) for name, c in self.terms]), self.constant * k) if k else 0
 
     def __neg__(self):
         return self * -1
 
     def __sub__(self, other):
-        return self + -other
+        return self.__add__(other, -1)
 
     def __rsub__(self, other):
         return -self + other
@@ -92,6 +95,11 @@ def is_number(*values):
     return True
 
 
+def is_known_distance(x, y):
+    """Whether x - y is known, for two numbers."""
+    return x.terms == y.terms if isinstance(x, Linear) and isinstance(y, Linear) else isinstance(x, int) and isinstance(y, int)
+
+
 def terms(x):
     """Gives {unknown: coefficient} of a number."""
     return dict(x.terms) if isinstance(x, Linear) else {}
@@ -142,22 +150,25 @@ def tightened(x):
     return linear({name: c // k for name, c in x.terms}, x.constant // k)
 
 
+def tightened_row(row):
+    """Does what `tightened` does for a number that is given as its coefficients and its constant."""
+    k = math.gcd(*row[:-1])
+    return tuple(row) if k < 2 else tuple([c // k for c in row])
+
+
 @functools.lru_cache(1 << 16)
 def refuted(facts):
     """Whether no integers make all these numbers >= 0. It eliminates one unknown after the other (Fourier-Motzkin). Each sum follows from
     the facts, so True is always right. False may mean that it didn't find the contradiction."""
-    facts = {tightened(f) for f in facts}
-    while True:
-        if any(f < 0 for f in facts if not isinstance(f, Linear)):
+    names = sorted({name for f in facts if isinstance(f, Linear) for name, _ in f.terms})
+    rows = {tightened_row([terms(f).get(name, 0) for name in names] + [f.constant if isinstance(f, Linear) else f]) for f in facts}
+    for _ in names:
+        if any(row[-1] < 0 and not any(row[:-1]) for row in rows):
             return True
-        facts = {f for f in facts if isinstance(f, Linear)}
-        if not facts:
-            return False
-        name = min(name for f in facts for name in terms(f))
-        up = [f for f in facts if terms(f).get(name, 0) > 0]
-        down = [f for f in facts if terms(f).get(name, 0) < 0]
-        sums = {tightened(a * -terms(b)[name] + b * terms(a)[name]) for a in up for b in down}
-        facts = {f for f in facts if name not in terms(f)} | sums
+        up, down = [row for row in rows if row[0] > 0], [row for row in rows if row[0] < 0]
+        sums = {tightened_row([y * a[0] - x * b[0] for x, y in zip(a[1:], b[1:])]) for a in up for b in down}
+        rows = {row[1:] for row in rows if not row[0]} | sums
+    return any(row[0] < 0 for row in rows)
 
 
 def fulfilled(facts):

@@ -2,6 +2,7 @@
 import copy
 import functools
 
+from loops.linear import is_known_distance
 from machines.operands import Content, is_int
 from symbols.bits import Unproved
 
@@ -106,10 +107,9 @@ class Window(Region):
 
     def is_done(self, m):
         """Whether all blocks are what they have to be."""
-        rest = self.end - self.origin
         if not self.writable:
             return True
-        if not is_int(rest) or rest != len(self.content):
+        if not is_known_distance(self.end, self.origin) or self.end - self.origin != len(self.content):
             return False
         copy = self.copy()
         try:
