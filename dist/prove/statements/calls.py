@@ -254,6 +254,8 @@ def run(m, call, watches):
             raise
         call.later(m)
         m.run(watches)
+    if call.later and any(isinstance(r, Window) and r.waits for r in m.regions.values()):
+        call.later(m)  # (it computed with no block)
     status = m.general[m.result]
     if isinstance(status, Verdict):
         flag = m.zero_flag(status.differences)
