@@ -117,11 +117,11 @@ def named_bits(m, call):
     if m.domain not in call.named:
         streams = [m.domain.moved(b, k) for a in call.streams for pattern in a.patterns for b in pattern for k in range(LAST - LEAD)]
         bytes_ = tuple(map(tuple, (call.keystream, call.plain, streams, call.other_blocks)))
-        if bytes_ not in m.domain.named:
+        if bytes_ not in m.domain.named_bits:
             known = dict(zip(("keystream", "plain", "result", "step"), (bits_of(m, some) for some in bytes_)))
             cells = {cell for x in known["plain"] if not depends_bit(m, x, False) & KEY for cell in cells_of_bit(m, x)}
-            m.domain.named[bytes_] = known, cells
-        call.named[m.domain] = m.domain.named[bytes_]
+            m.domain.named_bits[bytes_] = known, cells
+        call.named[m.domain] = m.domain.named_bits[bytes_]
     return call.named[m.domain]
 
 
