@@ -8,16 +8,16 @@ from gcm_statements.gcm_header import ADDITIONAL, ENCRYPTING, MOST, MOST_ADDITIO
 from gcm_statements.pre_counter import ANY_J_0_NONCE, EVERY as EVERY_NONCE, CarryTo
 from linked.builds import takes_few
 from machines.riscv import Riscv
-from remainders import AMONG_REMAINDERS, DIRECTIONS, EVERY, FEW, LENGTHS, LONGEST_CCM, PAIRS, TABLES, AtLengths
+from remainders import AMONG_REMAINDERS, DIRECTIONS, EVERY, EVERY_REMAINDER, FEW, LENGTHS, LONGEST_CCM, PAIRS, TABLES, AtLengths
 from statements.headers import version
 
 # A statement (a method of KeyedAes, KeyedGcm or KeyedSiv, or one of TABLES), a description of its arguments, and lists of these. The page
 # says which builds and keys have a list. All builds have `most`, except those that takes_few (builds.py) names: these are compiled
 # from the sources of the others. Keys of 24 and 32 bytes have each call once, and the code that loops over round keys. Only the builds of
 # FIRST have `remainders` and `lengths_24_32`. These are other remainders of lengths, and each call at every length with keys of 24 and 32
-# bytes. With PROVE=all they also have `pairs`. left_out(word, values) says whether builds for RISC-V, with words of so many bytes, leave
-# these arguments out.
-Row = collections.namedtuple("Row", "name what each most first remainders keys_24_32 lengths_24_32 all_ pairs left_out",
+# bytes. With PROVE=all they also have `every`, and with keys of 24 and 32 bytes what is also in TABLES. left_out(word, values) says whether
+# builds for RISC-V, with words of so many bytes, leave these arguments out.
+Row = collections.namedtuple("Row", "name what each most first remainders keys_24_32 lengths_24_32 all_ every left_out",
                              defaults=[()] * 8 + [lambda word, values: False])
 LISTS = Row._fields[2:-1]
 ON_RISCV, ON_RISCV_32 = lambda word, values: True, lambda word, values: word == 4
@@ -131,10 +131,10 @@ GCM_ROWS = [
         remainders=EVERY["any_open"], lengths_24_32=[(13, 33), (13, 33, "_to")],
         all_=[(0, 0), (47, 767), (13, 33, "", 8), *OTHER_NONCES], left_out=ON_RISCV_32),
     *(Row("every_" + call, SAYS_EVERY + "; every nonce but those of 12 bytes (`other nonces`)" + also,
-          pairs=[(way, *nonce) for nonce in ((), (EVERY_NONCE,)) for way in ("", "_to")])
+          every=[(way, *nonce) for nonce in ((), (EVERY_NONCE,)) for way in ("", "_to")])
       for call, also in (("seal", ""), ("open", "; also of what is refused"))),
     Row("any_seal_next", SAYS_WHOLE, first=[(13, 33), LONGEST], lengths_24_32=[(13, 33)], all_=[(0, 129)], left_out=ON_RISCV_32),
-    Row("every_seal_next", SAYS_EVERY, pairs=ONCE),
+    Row("every_seal_next", SAYS_EVERY, every=ONCE),
     Row("any_begin", "a nonce of 48 k + r bytes for every k: r", most=[8, LONGEST[0]],
         remainders=[19 * k % 48 for k in range(16) if k not in (5, 8)], lengths_24_32=[8], all_=[0, 12, 33, 47],
         left_out=ON_RISCV_32),
@@ -221,7 +221,7 @@ SIV_ROWS = [
     Row("any_open", SAYS_WHOLE + "; also of what is refused", most=[(13, 33, "_to"), (13, 225)],
         first=[(16, 256), (16, 256, "_to")], remainders=EVERY["siv any_open"], lengths_24_32=[(13, 33, "_to"), (13, 225)],
         all_=[(33, 48), (0, 0, "_to")], left_out=ON_RISCV),
-    *(Row("every_" + call, SAYS_EVERY + also, pairs=["", "_to"]) for call, also in (("seal", ""), ("open", "; also of what is refused"))),
+    *(Row("every_" + call, SAYS_EVERY + also, every=["", "_to"]) for call, also in (("seal", ""), ("open", "; also of what is refused"))),
     Row("seal", SAYS_LENGTHS, each=[(13, 33), (13, 33, "_to")],
         most=[(13, 0), (1, 1), (13, 7), (0, 16), *SHORT],
         first=[*((a, n) for n in (0, 161) for a in (1, *AROUND, 47, 48, 49)),
@@ -235,7 +235,8 @@ def at_ends(library):
     names = [name for name in LENGTHS[library] if name not in AMONG_REMAINDERS]
     return [Row("at_ends", "a call, at each remainder that its lengths may leave ([remainders.py](remainders.py))", first=names,
                 remainders=[name for name in LENGTHS[library] if name not in names]),
-            Row("at_pairs", "a call, at each pair of remainders by 16 that two of its lengths may leave", remainders=PAIRS[library])]
+            Row("at_pairs", "a call, at each pair of remainders by 16 that two of its lengths may leave", remainders=PAIRS[library]),
+            Row("every_remainder", "a call of every length, with each remainder", every=EVERY_REMAINDER[library])]
 
 
 def common_rows(library, version):
@@ -273,11 +274,12 @@ def arguments_taken(row, build, key_size, level):
     if key_size != 16:
         many = [*row.each, *row.most] if level == "all" and not is_late else []
         once = row.keys_24_32 if level == "all" or not is_late else ()
-        return dict.fromkeys([*many, *once, *(row.lengths_24_32 if is_first else ())])
+        every = row.every if level == "all" and is_first and row.name in TABLES else ()
+        return dict.fromkeys([*many, *once, *(row.lengths_24_32 if is_first else ()), *every])
     remainders = row.remainders if is_first else ()
     if level == "all":
         return dict.fromkeys([*row.each, *row.most, *(() if is_late else [*row.first, *row.all_]), *remainders,
-                              *(row.pairs if is_first else ())])
+                              *(row.every if is_first else ())])
     most = () if takes_few(build, level) else row.most
     return dict.fromkeys([*row.each, *most, *(row.first if is_first else ()), *remainders])
 

@@ -92,7 +92,17 @@ FEW = {
     "seal": FEW_GCM[::2], "open": FEW_GCM[1::2]}
 
 
-TABLES = {"at_ends": LENGTHS, "at_pairs": PAIRS}
+# Calls with one length: each remainder that it may leave by the bytes or blocks that a statement of every length has in a group.
+EVERY_REMAINDER = {
+    "aes": {
+        "any_blocks": [(direction, rest, way) for direction in DIRECTIONS for way in ("", "_to", "_with") for rest in BLOCK],
+        "any_cbc_decrypt": [(rest,) for rest in range(64)],
+        "any_wrap_padded": [(rest,) for rest in range(1, 17)],
+        "any_unwrap_padded": [(rest,) for rest in range(1, 9)],
+        "any_cmac": [(rest,) for rest in range(1, 17)],
+        "any_cmac_verify": [(rest, tag) for rest in range(1, 17) for tag in CMAC_TAGS]},
+    "gcm": {"any_begin": [(rest,) for rest in range(48)]}, "siv": {}}
+TABLES = {"at_ends": LENGTHS, "at_pairs": PAIRS, "every_remainder": EVERY_REMAINDER}
 
 
 class AtLengths:

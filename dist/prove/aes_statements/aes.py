@@ -5,6 +5,7 @@ import itertools
 from aes_statements.cmac_ccm import CmacCcm
 from aes_statements.key_wrap import KeyWrap
 from aes_statements.single_rounds import SingleRounds
+from loops.joints import Part
 from loops.linear import WORD, Linear, unknown
 from machines.operands import Pointer, Verdict
 from machines.regions import Window
@@ -12,6 +13,7 @@ from statements.calls import Buffer, Call
 from statements.keyed import (BATCH, DONE, KEY_LENGTH, KEYSTREAM_END, NEVER, NO_KEY, UNEQUAL_COUNTS, CounterWord, Keyed, facts_of_range,
                               unequal, unused_buffer)
 from statements.standards import number
+from statements.steps import NO_STEP
 from symbols.bits import DATA, LOST, PUBLIC, Unproved
 
 LEFT_OF_CBC = {"data": 2 * 16 * BATCH}  # bytes of encrypted blocks, of two batches, that may stay after CBC decryption
@@ -39,12 +41,12 @@ class KeyedAes(SingleRounds, CmacCcm, KeyWrap, Keyed):
         """Gives a function of the machine: the bytes of a pattern in the last block."""
         return lambda m: [self.domain.moved(b, m.known(count) - 1 - m.first_block) for b in pattern]
 
-    def call_of_any_count(self, name, state, content, want, count, size, plain, way="", choose=None, facts=(), **more):
+    def call_of_any_count(self, name, state, content, want, count, size, plain, way="", choose=None, facts=(), skip=0, **more):
         """States a call on data of every length. `content` is the pattern of the data before the call, and `want` the one after it."""
         facts, key = {unknown("n"), self.highest // 2 - size, *facts}, [self.schedule()]
         if way == "_with":
             key, more["later"] = [Buffer("key", self.key), self.key_size], lambda m: self.go_on(m, {})
-        return Call(name + way, [*key, *state, *self.streams_of(way, "blocks", size, count, content, want, choose)], DONE,
+        return Call(name + way, [*key, *state, *self.streams_of(way, "blocks", size, count, content, want, choose, skip)], DONE,
                     plain=self.in_all_blocks(plain), facts=facts, **more)
 
     def any_blocks(self, direction, rest, way="", step=16):
@@ -58,33 +60,42 @@ class KeyedAes(SingleRounds, CmacCcm, KeyWrap, Keyed):
         """States counter mode of every length where the low half doesn't carry. Then there are far fewer ways through the code."""
         return self.any_keystream(skip, rest, way, NEVER)
 
-    def any_keystream(self, skip, rest, way="", wrap=unknown("wrap"), step=128):
+    def any_keystream(self, skip, rest, way="", wrap=unknown("wrap")):
         """States counter mode at every position 16 k + `skip`, for any initial counter block. The low half carries at any place, or
         nowhere."""
+        return self.keystream_of_any(skip, unknown("n") * 128 + rest, way, wrap)
+
+    def every_low_keystream(self, rest, way=""):
+        """States it at every position, for every length from 128 bytes on that ends `rest` bytes after a whole block of keystream."""
+        skip, blocks = unknown("skip"), unknown("blocks")
+        count = unknown("n") * 128 + blocks * 16 + rest - skip
+        return self.keystream_of_any(skip, count, way, NEVER, {unknown("n") - 1, *facts_of_range(skip, 0, 15), *facts_of_range(blocks, 0, 7)},
+                                     steps=lambda m: NO_STEP if m.phase else ("begun", "output" if way == "_to" else "blocks", ()),
+                                     parts=[Part("skip", 16, 1, ({-skip}, {skip - 1}), scouted=range(16)), Part("blocks", 8)])
+
+    def keystream_of_any(self, skip, count, way, wrap, facts=(), **more):
+        """States counter mode for `count` bytes, which are after `skip` bytes of a block."""
         before = unknown("before")
         d = self.domain
-        count = unknown("n") * step + rest
         name = "counter low, any count"
         end = before * 16 + skip + count
-        places = range(skip, skip + 16)
         low, streams, data = self.counter_blocks()
         d.placed[name] = lambda number, k: d.bits(d.byte_in_block(low[7 - k], number))
         self.key_domain.placed[name] = lambda number, k: None
         given = self.key_domain if way == "_with" else d
         before_iv, iv = ([b for base in ("counter high", name) for b in [of.opaque((Pointer(base, 0), k)) for k in range(8)][::-1]]
                          for of in (given, d))
-        at = lambda bytes_: [self.pattern([bytes_[t % 16]], t // 16)[0] for t in places]
 
         def choose(m, number):
-            wrapped = [m.is_below(m.counter.first + number + k, m.counter.wrap) for k in (0, 1)]
-            return [wrapped[t // 16] if wrapped[t // 16] is None else 1 - wrapped[t // 16] for t in places]
-        content, wants = at(data), [self.aes.xor(at(data), at(stream)) for stream in streams]
+            below = m.is_below(m.counter.first + number, m.counter.wrap)
+            return [below if below is None else 1 - below] * 16
+        content, wants = self.pattern(data), [self.pattern(self.aes.xor(data, stream)) for stream in streams]
         ctr = Buffer("ctr", before_iv + [given.opaque((before * 16 + skip, k)) for k in range(8)],
                      lambda m: iv + m.to_bytes(m.known(end), 8), align=8)
         return self.call_of_any_count("aes_add_keystream", [ctr], content, wants, count, count, content + sum(wants, []), way, choose,
-                                      {before, WORD - end, wrap - 1, WORD + 1 - wrap},
+                                      {before, WORD - end, wrap - 1, WORD + 1 - wrap, *facts}, skip,
                                       counter=CounterWord(name, before, wrap, end.divided(16)[0] + BATCH),
-                                      keystream=self.in_all_blocks(self.pattern(sum(streams, []))))
+                                      keystream=self.in_all_blocks(self.pattern(sum(streams, []))), **more)
 
     def any_cbc_decrypt(self, rest, step=64):
         content = self.pattern(self.block_bytes)

@@ -20,14 +20,15 @@ SCOUTED = 0, 1, 16, 17  # the remainders with which the place of a joint is look
 LONGEST_TRAIL = 4000  # how many places are looked at there
 
 
-class Part(namedtuple("Part", "length step phase cases but", defaults=[None, (frozenset(),), None])):
+class Part(namedtuple("Part", "length step phase cases but scouted", defaults=[None, (frozenset(),), None, SCOUTED])):
     """A part of a call.
 
         length    the name of the unknown length whose remainders it has
         step      the number of bytes by which they are taken
         phase     the phase of the statement that begins when the part ends; None for the last part, which ends with the call
         cases     sets of facts, of which one holds for each run that comes to its end. Each has a state of its own there
-        but       a length that isn't meant. It is less than `step`"""
+        but       a length that isn't meant. It is less than `step`
+        scouted   the remainders with which the place of its end is looked for"""
     __slots__ = ()
 
     def later(self, phases):
@@ -213,8 +214,8 @@ def state_between(runs, names):
     general_regions(state, first, second, more)
     for region, other in zip(state.regions.values(), second.regions.values()):
         if isinstance(region, Window):
-            region.size = generalized(region.size, other.size, more, state.highest)
-            region.end = generalized(region.end, other.end, more, state.highest)
+            for what in "size", "end", "skip":
+                setattr(region, what, generalized(getattr(region, what), getattr(other, what), more, state.highest))
     return state
 
 

@@ -341,7 +341,7 @@ def differences_from(m, want):
 
 def described(region):
     """Gives what two regions of a name have to have in common besides their bytes."""
-    return [region.size, region.end, region.origin, region.initial, region.writable] if isinstance(region, Window) else []
+    return [region.size, region.end, region.skip, region.origin, region.initial, region.writable] if isinstance(region, Window) else []
 
 
 def check_ends(ends, facts, names):

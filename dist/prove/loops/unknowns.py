@@ -140,7 +140,7 @@ class Unknowns:
         self.general = {r: new(v) & self.highest if isinstance(v, Linear) and is_int(new(v)) else new(v) for r, v in self.general.items()}
         for region in self.regions.values():
             if isinstance(region, Window):
-                region.size, region.end, region.origin = new(region.size), new(region.end), new(region.origin)
+                region.size, region.end, region.origin, region.skip = map(new, (region.size, region.end, region.origin, region.skip))
         self.counter, self.steps_found = new(self.counter), new(self.steps_found)
         self.numbers_by_frame = tuple((at, tuple(map(new, numbers))) for at, numbers in self.numbers_by_frame)
         self.loops, self.expected_step = {}, None
@@ -195,7 +195,7 @@ class Unknowns:
 
     def forget_wrap(self):
         """Forgets where the counter wrapped around, if that block of the text is done. It is only kept that it did."""
-        done = [r.origin for r in self.regions.values() if isinstance(r, Window) and r.writable]
+        done = [r.origin + r.skip for r in self.regions.values() if isinstance(r, Window) and r.writable]
         if not self.counter or is_int(self.counter.wrap) or len(done) != 1:
             return
         wrap, (done,) = self.counter.wrap, done
@@ -260,10 +260,16 @@ class Unknowns:
         """Gives a byte of which nothing is known. It may depend on the key."""
         return self.secret.lose(self.domain.opaque(LOST))
 
+    def next_phase(self):
+        """Begins another phase. Blocks that are done are dropped."""
+        self.phase, self.steps_found = self.phase + 1, 0
+        for window in (r for r in self.regions.values() if isinstance(r, Window)):
+            window.settle(self)
+
     def begin_again(self, name=None, *new):
         """Begins another phase. What is left of blocks is forgotten, and they are numbered again. The buffer `name` begins again as `new`
         says. Other buffers of the same cells can't be read any more."""
-        self.phase, self.steps_found = self.phase + 1, 0
+        self.next_phase()
         self.forget_differences()
         cells = {c for b in new[0] for c in self.domain.cells(b)} if name else set()
         for window in (r for r in self.regions.values() if isinstance(r, Window)):

@@ -30,23 +30,24 @@ class Window(Region):
         unit         the bytes of a block
         head         how many bytes a region of its own has, which lies before all blocks
         backwards    whether blocks are counted from the last one to the first one
+        skip         how many bytes of its first block come before the buffer
 
     The patterns are those of the block with number LEAD."""
 
-    def __init__(self, size, initial, want, head=0, backwards=False):
+    def __init__(self, size, initial, want, head=0, backwards=False, skip=0):
         super().__init__([], want is not None)
         self.size, self.end = size, size
         self.initial, self.want = initial, want
         self.origin = 0
         self.unit = len(initial)
-        self.head, self.backwards = head, backwards
+        self.head, self.backwards, self.skip = head, backwards, skip
         self.turn = 0  # how often it began again
         self.undoes = False  # whether its blocks become again what they were
         self.waits = False  # whether its patterns are of a later domain: a call that expands a key begins in another one
 
     def bytes_before(self, m):
         """Gives how far `content` begins after the block with number LEAD."""
-        at = self.origin - self.unit * m.first_block
+        at = self.origin + self.skip - self.unit * m.first_block
         if not is_int(at):
             raise Unproved("a block whose number isn't known")
         return at
@@ -79,20 +80,28 @@ class Window(Region):
         return at
 
     def wanted(self, m):
-        """Gives what the first block of `content` has to be. A byte is None if this isn't known."""
-        want, unit = self.want, self.unit
+        """Gives what the first block of `content` has to be, from the first byte of `content` on. A byte is None if this isn't known."""
+        want, unit, at, before = self.want, self.unit, self.origin + self.skip, self.bytes_before(m)
         if callable(want):
-            want = want(m, self.origin // unit if is_int(self.origin) else self.origin.divided(unit)[0])
-        return [x if x is None else m.domain.moved(x, self.bytes_before(m) // unit) for x in want]
+            want = want(m, at // unit if is_int(at) else at.divided(unit)[0])
+        return [x if x is None else m.domain.moved(x, before // unit) for x in want[before % unit:]]
 
     def settle(self, m):
         """Drops the first blocks of `content` if they are what they have to be. A block that is as it was stays."""
-        unit = self.unit
-        while len(self.content) >= unit:
-            have, before = self.content[:unit], [m.domain.moved(x, self.bytes_before(m) // unit) for x in self.initial]
+        if not self.content:
+            return
+        at, begin = divmod(self.bytes_before(m), self.unit)
+        while len(self.content) >= (size := self.unit - begin):
+            have, before = self.content[:size], [m.domain.moved(x, at) for x in self.initial[begin:]]
             if have == before or have != self.wanted(m):
                 return
-            self.origin, self.content = self.origin + unit, self.content[unit:]
+            self.origin, self.content, at, begin = self.origin + size, self.content[size:], at + 1, 0
+
+    def has_begun(self, m):
+        """Whether the first block is what it has to be."""
+        copy = self.copy()
+        copy.settle(m)
+        return copy.origin != self.origin
 
     def is_untouched(self):
         """Whether no block was accessed."""
@@ -100,7 +109,7 @@ class Window(Region):
 
     def initial_at(self, m, base, offset, size):
         """Gives bytes as they were before the call."""
-        number, unit = offset - self.unit * m.first_block, self.unit
+        number, unit = offset + self.skip - self.unit * m.first_block, self.unit
         if not is_int(number):
             return [m.domain.opaque((Content(base, offset + k, "content %d" % self.turn), 0)) for k in range(size)]
         return [m.domain.moved(self.initial[i % unit], i // unit) for i in range(number, number + size)]
@@ -136,12 +145,14 @@ class Window(Region):
         """Compares all blocks up to the end with what they have to be."""
         if not self.writable:
             return
-        rest, unit = self.end - self.origin, self.unit
+        rest = self.end - self.origin
         if not is_int(rest) or rest < 0:
             raise Unproved("%s has %s bytes and is only done up to %s" % (name, self.size, self.origin))
         self.extend(m, rest)
-        for at in range(0, rest, unit):
-            have, want = self.content[:min(unit, rest - at)], self.wanted(m)
+        self.content = self.content[:rest]
+        while self.content:
+            want = self.wanted(m)
+            have = self.content[:len(want)]
             if have != want[:len(have)]:
                 raise Unproved(functools.partial(self.fault, m.domain, name, have[0]))
-            self.origin, self.content = self.origin + unit, self.content[unit:]
+            self.origin, self.content = self.origin + len(have), self.content[len(have):]

@@ -44,17 +44,17 @@ class Stream(Buffer):
     number LEAD before the call, and what it has to be after it. `choose` is for blocks that may have several patterns, and `after` is then
     a list of these. choose(machine, number) says for each byte of the block with that number which pattern it has. It says None for a byte
     if that isn't known. `head` has the content and the `after` of bytes before the blocks. With `backwards` the last block counts as the
-    first one (regions.Window)."""
+    first one, and `skip` bytes of the first block come before the buffer (regions.Window)."""
 
-    def __init__(self, name, size, content, after=None, choose=None, head=None, backwards=False):
+    def __init__(self, name, size, content, after=None, choose=None, head=None, backwards=False, skip=0):
         super().__init__(name, content, after)
-        self.size, self.choose, self.backwards = size, choose, backwards
+        self.size, self.choose, self.backwards, self.skip = size, choose, backwards, skip
         self.head = Buffer(name + HEAD, *head) if head else None
         self.patterns = after if choose else [after or []]
 
     def region(self, machine):
         head = len(self.head.content) if self.head else 0
-        return Window(self.size, self.content, self.want if self.choose else self.after, head, self.backwards)
+        return Window(self.size, self.content, self.want if self.choose else self.after, head, self.backwards, self.skip)
 
     def want(self, m, number):
         """Gives the block with this number, as it has to be after the call. A byte is None if its pattern isn't known."""
@@ -189,7 +189,7 @@ def places_of_joint(starts, call, part):
     """Gives the places at which a part ends, by the cases of its end. They are looked for with a few remainders."""
     trails = {}
     for start in starts:
-        for _, begin in joints.begins_of(start, part, joints.SCOUTED):
+        for _, begin in joints.begins_of(start, part, part.scouted):
             for m in run_part(begin, call, part, joints.stopping_in(part.phase)):
                 trail = joints.Trail()
                 trails.setdefault(joints.case_of(m, part), []).append(trail)
@@ -254,6 +254,8 @@ def run(m, call, watches):
             raise
         call.later(m)
         m.run(watches)
+    if call.later and any(isinstance(r, Window) and r.waits for r in m.regions.values()):
+        call.later(m)  # (it computed with no block)
     status = m.general[m.result]
     if isinstance(status, Verdict):
         flag = m.zero_flag(status.differences)

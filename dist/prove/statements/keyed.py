@@ -190,11 +190,12 @@ class Keyed:
         numbers = {n for b in pattern for n in self.domain.blocks(b)}
         return [self.domain.moved(b, k) for b in pattern for k in range(1 - min(numbers), LAST - max(numbers))]
 
-    def streams_of(self, way, name, size, count, content, want, choose=None):
+    def streams_of(self, way, name, size, count, content, want, choose=None, skip=0):
         """Does what `data_arguments` does, for a call of every length."""
         if way == "_to":
-            return [Stream("input", size, content), count, Stream("output", size, self.undefined(16), want, choose), count]
-        return [Stream(name, size, content, want, choose), count]
+            return [Stream("input", size, content, skip=skip), count,
+                    Stream("output", size, self.undefined(16), want, choose, skip=skip), count]
+        return [Stream(name, size, content, want, choose, skip=skip), count]
 
     def data_arguments(self, way, name, data, results, count):
         """Gives the arguments for data and for what a call makes of them: one buffer and its length, or two of each with _to."""

@@ -112,13 +112,16 @@ def bits_of(m, bytes_):
 
 
 def named_bits(m, call):
-    """Gives the bits that a statement names, by the kind of secret, and the cells of plain text. They are made once for each call."""
+    """Gives the bits that a statement names, by the kind of secret, and the cells of plain text. They are made once for each call, and for
+    calls that name the same bytes."""
     if m.domain not in call.named:
         streams = [m.domain.moved(b, k) for a in call.streams for pattern in a.patterns for b in pattern for k in range(LAST - LEAD)]
-        known = {"keystream": call.keystream, "plain": call.plain, "result": streams, "step": call.other_blocks}
-        known = {kind: bits_of(m, bytes_) for kind, bytes_ in known.items()}
-        cells = {cell for x in known["plain"] if not depends_bit(m, x, False) & KEY for cell in cells_of_bit(m, x)}
-        call.named[m.domain] = known, cells
+        bytes_ = tuple(map(tuple, (call.keystream, call.plain, streams, call.other_blocks)))
+        if bytes_ not in m.domain.named_bits:
+            known = dict(zip(("keystream", "plain", "result", "step"), (bits_of(m, some) for some in bytes_)))
+            cells = {cell for x in known["plain"] if not depends_bit(m, x, False) & KEY for cell in cells_of_bit(m, x)}
+            m.domain.named_bits[bytes_] = known, cells
+        call.named[m.domain] = m.domain.named_bits[bytes_]
     return call.named[m.domain]
 
 

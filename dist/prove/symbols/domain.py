@@ -16,6 +16,7 @@ class Domain(Forms, Products, Names):
         # Results by their operands, so that each is computed once. (bytewise.py uses `entries` and `shifted`.)
         self.ands, self.byte_xors, self.byte_ands, self.lookups, self.moves, self.entries, self.shifted = ({} for _ in range(7))
         self.repeats, self.in_planes = {}, {}  # see `alike`
+        self.named_bits = {}  # what left_behind.named_bits gives for bytes
 
     def and_(self, x, y):
         """Multiplies two bits. Bits of factors give a sum of products. Any other two bits have to depend on one cell: then their truth
