@@ -91,6 +91,8 @@ AES_ROWS = [
           all_=[(13, 0, 16, 16), (9, 15, 255, 4, 6), (11, 9, 0, 6, 10)], left_out=ON_RISCV_32)
       for call, most, first in (("any_ccm_seal", (), [(8, 15, 33, 8), (8, 16, 33, 8, 6), (8, 16, 33, 8, 10)]),
                                 ("any_ccm_open", [(12, 15, 33, 8)], ()))),
+    *(Row("every_" + call, "every length of nonce, additional data, text and tag" + also, pairs=ONCE)
+      for call, also in (("ccm_seal", ""), ("ccm_open", "; also of what is refused"))),
     *(Row(call, "the lengths of nonce, additional data, text and tag", each=[(13, 8, 33, 8)],
           most=[(7, 0, 1, 4), (12, 14, 16, 16), (8, 15, 17, 6), (10, 33, 0, 14), (9, 0, 0, 10), (11, 0, 0, 12)],
           all_=[(nonce, 20, 40, tag) for nonce, tag in zip(cmac_ccm.NONCES, cmac_ccm.CCM_TAGS)],

@@ -76,7 +76,7 @@ def with_texts(remainders):
 SEAL_REMAINDERS, OPEN_REMAINDERS = ([r for r in range(48) if (r + r // 16) % 2 == part] for part in (0, 1))
 EVERY_SIV = [(19 * k % 48, 16 * ((5 * k + 2) % 48) + 7 * k % 16) for k in BLOCK]
 # Lengths of CCM: those that include the longest text for a nonce, and others.
-LONGEST_CCM = [(8 + k, 12 - k, 255, 4 + 2 * k) for k in range(5)]
+LONGEST_CCM = [(7, 13, 255, 14), *((8 + k, 12 - k, 255, 4 + 2 * k) for k in range(5))]
 EVERY_CCM = [(8 + k % 5, 5 * k % 16 + 1, 16 * (7 * k % 16) + k, 4 + 2 * (k % 7)) for k in range(15)]
 EVERY = {
     "keystream": [(k, 16 * (k % 8) + (2 * k + k // 8) % 16) for k in BLOCK],

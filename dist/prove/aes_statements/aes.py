@@ -1,8 +1,8 @@
 """States the calls of fotsgure_aes.h for blocks, counter mode and CBC. Each statement quotes the sentence of the header that it proves
-(keyed.py says how). The statements for the other calls are in key_wrap.py, cmac_ccm.py and single_rounds.py."""
+(keyed.py says how). The statements for the other calls are in key_wrap.py, cmac_ccm.py, any_ccm.py and single_rounds.py."""
 import itertools
 
-from aes_statements.cmac_ccm import CmacCcm
+from aes_statements.any_ccm import AnyCcm
 from aes_statements.key_wrap import KeyWrap
 from aes_statements.single_rounds import SingleRounds
 from loops.joints import Part
@@ -10,8 +10,8 @@ from loops.linear import WORD, Linear, unknown
 from machines.operands import Pointer, Verdict
 from machines.regions import Window
 from statements.calls import Buffer, Call
-from statements.keyed import (BATCH, DONE, KEY_LENGTH, KEYSTREAM_END, NEVER, NO_KEY, UNEQUAL_COUNTS, CounterWord, Keyed, facts_of_range,
-                              unequal, unused_buffer)
+from statements.keyed import (ANY_COUNT, BATCH, DONE, KEY_LENGTH, KEYSTREAM_END, NEVER, NO_KEY, UNEQUAL_COUNTS, CounterWord, Keyed,
+                              facts_of_range, unequal, unused_buffer)
 from statements.standards import number
 from statements.steps import NO_STEP
 from symbols.bits import DATA, LOST, PUBLIC, Unproved
@@ -19,7 +19,7 @@ from symbols.bits import DATA, LOST, PUBLIC, Unproved
 LEFT_OF_CBC = {"data": 2 * 16 * BATCH}  # bytes of encrypted blocks, of two batches, that may stay after CBC decryption
 
 
-class KeyedAes(SingleRounds, CmacCcm, KeyWrap, Keyed):
+class KeyedAes(SingleRounds, AnyCcm, KeyWrap, Keyed):
     """Has the statements for all calls of fotsgure_aes.h. Those for blocks, counter mode and CBC are here."""
 
     # Blocks.
@@ -77,14 +77,10 @@ class KeyedAes(SingleRounds, CmacCcm, KeyWrap, Keyed):
         """States counter mode for `count` bytes, which are after `skip` bytes of a block."""
         before = unknown("before")
         d = self.domain
-        name = "counter low, any count"
         end = before * 16 + skip + count
-        low, streams, data = self.counter_blocks()
-        d.placed[name] = lambda number, k: d.bits(d.byte_in_block(low[7 - k], number))
-        self.key_domain.placed[name] = lambda number, k: None
+        _, streams, data = self.counter_blocks()
         given = self.key_domain if way == "_with" else d
-        before_iv, iv = ([b for base in ("counter high", name) for b in [of.opaque((Pointer(base, 0), k)) for k in range(8)][::-1]]
-                         for of in (given, d))
+        before_iv, iv = map(self.any_iv, (given, d))
 
         def choose(m, number):
             below = m.is_below(m.counter.first + number, m.counter.wrap)
@@ -94,8 +90,15 @@ class KeyedAes(SingleRounds, CmacCcm, KeyWrap, Keyed):
                      lambda m: iv + m.to_bytes(m.known(end), 8), align=8)
         return self.call_of_any_count("aes_add_keystream", [ctr], content, wants, count, count, content + sum(wants, []), way, choose,
                                       {before, WORD - end, wrap - 1, WORD + 1 - wrap, *facts}, skip,
-                                      counter=CounterWord(name, before, wrap, end.divided(16)[0] + BATCH),
+                                      counter=CounterWord(ANY_COUNT, before, wrap, end + 16 * BATCH),
                                       keystream=self.in_all_blocks(self.pattern(sum(streams, []))), **more)
+
+    def any_iv(self, domain):
+        """Gives an initial counter block of unknown value, for calls of every length."""
+        d, low = self.domain, self.counter_blocks()[0]
+        d.placed[ANY_COUNT] = lambda number, k: d.bits(d.byte_in_block(low[7 - k], number))
+        self.key_domain.placed[ANY_COUNT] = lambda number, k: None
+        return [b for base in ("counter high", ANY_COUNT) for b in [domain.opaque((Pointer(base, 0), k)) for k in range(8)][::-1]]
 
     def any_cbc_decrypt(self, rest, step=64):
         content = self.pattern(self.block_bytes)
@@ -224,7 +227,7 @@ class KeyedAes(SingleRounds, CmacCcm, KeyWrap, Keyed):
         before, name = self.counter_words(self.key_domain if way == "_with" else self.domain, position // 16, full)
         after, _ = self.counter_words(self.domain, position // 16, full)
         ctr = Buffer("ctr", before + number(position, 8)[::-1], after + number(position + count, 8)[::-1], align=8)
-        counter = CounterWord(name, position // 16, wrap, (position + count) // 16 + BATCH)
+        counter = CounterWord(name, position // 16, wrap, position + count + 16 * BATCH)
         return self.call_in_each_way("aes_add_keystream", way, [ctr], "bytes", data, want, count, counter=counter,
                                      keystream=stream, plain=data + want)
 

@@ -1,5 +1,5 @@
 """States the calls of fotsgure_aes.h for CMAC (SP 800-38B) and CCM (SP 800-38C). Each statement quotes the sentence of the header that it
-proves.
+proves. any_ccm.py has CCM of every length.
 
 Both modes make a chain: each block is added to a value, and Cipher of the sum is the next value. When the code has computed a value, and it
 is right, it becomes arbitrary bytes, as in CBC encryption. Value k comes before block k. A byte of block k is one of block k of the
@@ -7,11 +7,9 @@ domain."""
 import itertools
 from collections import namedtuple
 
-from loops.linear import WORD, unknown
-from machines.operands import Pointer
+from loops.linear import unknown
 from statements.calls import Buffer, Call, Stream
-from statements.keyed import (BATCH, DONE, NEVER, NO_KEY, NONCE_LENGTH, PTRDIFF_MAX, REFUSED, TAG_LENGTH, TOO_LONG, CounterWord,
-                              facts_of_range, unused_buffer)
+from statements.keyed import DONE, NO_KEY, NONCE_LENGTH, PTRDIFF_MAX, REFUSED, TAG_LENGTH, TOO_LONG, facts_of_range, unused_buffer
 from statements.standards import ZEROS, doubled, number, padded
 from symbols.bits import DATA, KEY, PUBLIC
 
@@ -20,9 +18,6 @@ NONCES, CCM_TAGS, CMAC_TAGS = range(7, 14), range(4, 17, 2), range(4, 17)  # len
 # A message of CCM: the arguments before the text; the text as it is in the chain, and the block of the chain at which it starts; the steps
 # of the chain; and the tag.
 CcmMessage = namedtuple("CcmMessage", "arguments text start steps tag")
-# A message of any length. It also has the size of the text, the patterns of text and keystream, the number of phases of the chain, and what
-# else a call needs. `steps` are those of the chain in a phase.
-AnyCcmMessage = namedtuple("AnyCcmMessage", "arguments size text stream steps phases tag more")
 
 
 class CmacCcm:
@@ -187,92 +182,6 @@ class CmacCcm:
                 yield "text", self.ccm_crypted(nonce, text)[0], sealed
         return Call("aes_ccm_open", [*message.arguments, Buffer("text", sealed, text), text_length, Buffer("tag", tag), tag_length], DONE,
                     steps=steps, reveals=self.aes.xor(tag, message.tag), refused=REFUSED, keystream=stream, plain=text, undone=True)
-
-    # CCM of texts of 256 n + `rest` bytes for every n. So each byte of the length is a byte of n, or known. The halves of a counter block
-    # are words of unknown value.
-    def ccm_counters(self, nonce):
-        """Gives Cipher of the counter block of any block of text. (A text has fewer blocks than bytes, so the number always fits.)"""
-        d, size = self.domain, 15 - len(nonce)
-        low = nonce[7:] + [d.fresh("counter byte %d" % i, PUBLIC, True) for i in range(16 - size, 16)]
-        d.bits_of_word["CCM high, %d" % size] = lambda offset, k: d.bits(([size - 1] + nonce[:7])[7 - k]) if offset == 0 else None
-        d.placed["CCM low, %d" % size] = lambda number, k: d.bits(d.byte_in_block(low[7 - k], number))
-        return self.aes.cipher([14 - len(nonce)] + nonce[:7] + low, self.round_key_words)
-
-    def ccm_counter_word(self, nonce, size):
-        of = 15 - len(nonce)
-        high = [14 - len(nonce)] + nonce[:7]
-        low = nonce[7:] + [0] * (15 - len(nonce))
-        words = {tuple(low[::-1]): Pointer("CCM low, %d" % of, 0), tuple(high[::-1]): Pointer("CCM high, %d" % of, 0)}
-        return CounterWord("CCM low, %d" % of, 1, NEVER, size.divided(16)[0] + 2 + BATCH, words)
-
-    def any_string(self, m, k, size, cells, first, last_value, begin=()):
-        """Gives the step at block k of a string of this size. `begin` has its first bytes, if they aren't those cells. `first` is the value
-        before the string, and `last_value` the one after it."""
-        whole, rest = divmod(size, 16) if isinstance(size, int) else size.divided(16)
-        block = [*begin, *cells[len(begin):]] if isinstance(k, int) and k == 0 else cells
-        if m.is_below(k, whole):
-            return self.any_link(m, k, first, block)
-        if k == whole and rest:
-            return self.any_link(m, k, first, block[:rest] + ZEROS[rest:], last_value)
-        if k == whole:
-            return "here", first if k == 0 else self.at_link(m, self.chain()[0], k), last_value
-        return "return" if k == whole + 1 else "nothing", (), ()
-
-    def fresh_block(self, name, *of_block):
-        depends = KEY * (not of_block) | DATA
-        return self.made_once(name, lambda: [self.domain.fresh("%s, byte %d" % (name, i), depends, *of_block) for i in range(16)])
-
-    def any_ccm(self, nonce_length, additional, rest, tag_length, encoded=2):
-        """Gives a message of any length. It has no additional data, or 16 a + `additional` bytes for every a, whose length is `encoded`
-        bytes long (A.2.2)."""
-        nonce = self.nonce[:nonce_length]
-        size = unknown("n") * 256 + rest
-        length = unknown("a") * 16 + additional
-        stream = self.pattern(self.made_once(("CCM counters", nonce_length), lambda: self.ccm_counters(nonce)))
-        text, cells = self.pattern(self.block_bytes, -1), self.fresh_block("additional data", True)
-        first, middle, last_value = (self.fresh_block(name) for name in ("first value", "value after additional data", "last value"))
-        flags = 64 * (additional > 0) + 8 * ((tag_length - 2) // 2) + 14 - nonce_length
-        begin = {2: [], 6: [255, 254], 10: [255, 255]}[encoded] + self.highest_first(length, encoded - 2 or 2)
-        lengths = {2: facts_of_range(length, 1, 0xfeff), 6: facts_of_range(length, 0xff00, WORD >> 32),
-                   10: facts_of_range(length, 1 << 32, PTRDIFF_MAX)}
-        tag = self.aes.xor(last_value, self.counter_stream(nonce, 0))[:tag_length]
-
-        def chain(m, phase):
-            k = m.steps_found - (phase == 0)
-            if isinstance(k, int) and k < 0:
-                return "block", self.cipher_of([flags, *nonce, *m.to_bytes(m.known(size), 8)[14 - nonce_length::-1]]), first
-            if additional and phase == 0:
-                return self.any_string(m, k, m.known(length) + encoded, cells, first, middle, m.known_bytes(begin))
-            return self.any_string(m, k, m.known(size), self.block_bytes, middle if additional else first, last_value)
-        data = Stream("additional", length, [self.pattern([cells[i % 16]], i // 16 - 1)[0] for i in range(encoded, encoded + 16)])
-        data = [data, length] if additional else [unused_buffer("additional", False), 0]
-        arguments = [self.schedule(), Buffer("nonce", nonce), nonce_length, *data]
-        return AnyCcmMessage(arguments, size, text, stream, chain, 1 + (additional > 0), tag, dict(
-            keystream=self.in_all_blocks(stream), counter=self.ccm_counter_word(nonce, size),
-            facts={unknown("n"), PTRDIFF_MAX - size, (1 << 8 * (15 - nonce_length)) - 1 - size, *(lengths[encoded] if additional else ())}))
-
-    def any_ccm_seal(self, *lengths):
-        message = self.any_ccm(*lengths)
-        text, tag = Stream("text", message.size, message.text, self.aes.xor(message.text, message.stream)), message.tag
-        return Call("aes_ccm_seal", [*message.arguments, text, message.size, Buffer("tag", self.undefined(len(tag)), tag), len(tag)], DONE,
-                    steps=lambda m: message.steps(m, m.phase) if m.phase < message.phases else ("nothing", (), ()),
-                    plain=self.in_all_blocks(message.text), **message.more)
-
-    def any_ccm_open(self, *lengths):
-        """States a call that decrypts. When all of the text is decrypted, it becomes arbitrary bytes. With the keystream added again it is
-        what it was."""
-        message = self.any_ccm(*lengths)
-        tag, sealed = self.tag[:len(message.tag)], self.pattern(self.sealed)
-        opened, undone = (self.aes.xor(bytes_, message.stream) for bytes_ in (sealed, message.text))
-
-        def steps(m):
-            if m.phase == 0:
-                return "whole", "text", (message.text, undone, True)
-            return message.steps(m, m.phase - 1) if m.phase <= message.phases else ("nothing", (), ())
-        text = Stream("text", message.size, sealed, opened)
-        return Call("aes_ccm_open", [*message.arguments, text, message.size, Buffer("tag", tag), len(tag)], DONE,
-                    steps=steps, reveals=self.aes.xor(tag, message.tag), refused=REFUSED, plain=self.in_all_blocks(message.text + opened),
-                    other_blocks=self.in_all_blocks(undone), undone=True, **message.more)
 
     # Calls that are refused, for all their arguments.
     def cmac_refused(self):

@@ -59,10 +59,10 @@ def with_remainder(start, part, rest):
 
 
 def names_of_lengths(m, part, rest):
-    """Gives the names of unknown numbers whose sizes are looked at where runs with this remainder end: those of its length, and with the
-    first remainder also those of the other lengths."""
+    """Gives the names of unknown numbers whose sizes are looked at where runs with this remainder end: those of its length. With the first
+    remainder, and if its length is known, they are those of all lengths."""
     own = terms(m.known(unknown(part.length)))
-    return own if rest else {name for fact in m.facts for name in terms(fact)}
+    return own if rest and own else {name for fact in m.facts for name in terms(fact)}
 
 
 def begins_of(start, part, rests=None):
@@ -183,10 +183,7 @@ class Joint:
         state.facts, state.replaced, state.decided, state.generals, state.loops = self.facts, [], [], (), {}
         state.flags = dict.fromkeys(state.flag_names, SECRET)
         state.ever_written = {name: set() for name in state.ever_written}
-        for fact in case:
-            if not is_int(fact := state.known(fact)):
-                state.assume(fact)
-        return state
+        return with_facts(state, case)
 
     def instance(self, state, m):
         """Gives the state with the lengths that a machine has."""
@@ -196,6 +193,14 @@ class Joint:
         for name in self.lengths:
             want.replace_unknown(name + " at the joint", m.known(unknown(name)))
         return want
+
+
+def with_facts(m, facts):
+    """Gives a machine to which it adds these facts of the statement."""
+    for fact in facts:
+        if not is_int(fact := m.known(fact)):
+            m.assume(fact)
+    return m
 
 
 def implied_by(facts, name, number):
@@ -211,12 +216,23 @@ def state_between(runs, names):
         return None
     state, more = first.copied(), unknown(name) - length
     general_registers(state, first, second, more, ())
+    for r, v in first.general.items():
+        if type(v) is type(w := second.general[r]) is tuple:
+            state.general[r] = tuple(byte_between(state, *both, more) for both in zip(v, w))
     general_regions(state, first, second, more)
     for region, other in zip(state.regions.values(), second.regions.values()):
         if isinstance(region, Window):
             for what in "size", "end", "skip":
                 setattr(region, what, generalized(getattr(region, what), getattr(other, what), more, state.highest))
     return state
+
+
+def byte_between(state, a, b, more):
+    """Gives the byte that is `a` in the first run and `b` in the second. If it is another constant in each, it is the lowest byte of a
+    number."""
+    if a == b or max(a, b) > 255:
+        return a if a == b else state.any_byte()
+    return state.to_bytes(more * (b - a) + a, state.word)[0]
 
 
 def without_dead_stack(m, is_secret):

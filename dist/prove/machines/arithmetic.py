@@ -80,7 +80,7 @@ class Arithmetic:
     def plus(self, x, y, carry, size):
         """Computes x + y + carry and its flags: (result, {flag: value}). Flags that aren't named are undefined."""
         mask, top = (1 << 8 * size) - 1, 8 * size - 1
-        x, y = self.low_number(self.counter_word(x)), self.low_number(self.counter_word(y))
+        x, y = self.low_number(x), self.low_number(y)
         if is_int(x, y):
             full = (x & mask) + (y & mask) + carry
             r = full & mask
@@ -110,7 +110,7 @@ class Arithmetic:
         counter = self.counter
         by = (y if is_pointer(x) else x) + carry  # the increase, if neither has wrapped around
         known = counter and r.base == counter.word and self.implied(old.offset) and old.offset + by == r.offset and (
-            self.fits(by) and self.implied(counter.last - r.offset))
+            self.fits(by) and self.implied(counter.end - r.offset * 16))
         return r, {"c": self.wraps(old.offset, r.offset)} if known else {}
 
     def plus_bits(self, x, y, carry, size):
@@ -124,11 +124,6 @@ class Arithmetic:
             zero = self.differences(rest, -fixed - carry, size)
             return self.only_zero(zero), {"c": SECRET, "z": self.zero_flag(zero), "s": SECRET, "o": SECRET}
         return self.unbits(bits), {"c": self.flag_of(out), "z": SECRET, "s": SECRET, "o": SECRET}
-
-    def counter_word(self, v):
-        """Gives the word of a counter that has these bytes, or else the value itself."""
-        words = self.counter and type(v) is tuple and self.counter.words
-        return words.get(tuple(map(self.domain.plain, v)), v) if words else v
 
     def only_zero(self, differences):
         """Makes a value that is 0 if these bytes are all 0. Nothing else is known of it."""

@@ -136,9 +136,8 @@ class Riscv(Machine):
     def has_wrapped(self, x, y):
         """Whether a word of a counter wrapped around in an addition. Then it is less than it was, and less than what was added."""
         is_low, block = x.base == self.counter.word, x.offset
-        y = self.counter_word(y)
         before = y.offset if is_pointer(y) and y.base == x.base else block - in_range(self, y)
-        if not all(map(self.implied, (before, block - before, (self.counter.last if is_low else 1) - block))):
+        if not all(map(self.implied, (before, block - before, self.counter.end - block * 16 if is_low else 1 - block))):
             raise Unproved("compares a counter with something else than what it was")
         return int(is_low and self.wraps(before, block))
 

@@ -1,8 +1,8 @@
-"""Lists faults in the library `aes` that only show at long lengths. A statement of every length refuses each of them, and calls of lengths
-up to 64 blocks are proved in spite of it."""
+"""Lists faults in the library `aes` that only show at long lengths, or at certain ones. A statement of every length refuses each of them,
+and calls of lengths up to 64 blocks are proved in spite of it."""
 from planted.fault import (BATCHES, BLOCKS, BLOCKS_TO, BLOCKS_WITH, CALL_TO_DECRYPT, CALL_TO_ENCRYPT, CBC, CCM_OPEN, CCM_SEAL, CCM_STREAM,
                            CMAC_TAG, ENTRY, IN_BATCHES, MEMSET, STANDS_STILL, UNWRAP, WIPE_STACK, WIPE_WORDS, WRAP_PADDED, Fault, call,
-                           exported, fewer, function, low)
+                           exported, fewer, fewer_where_both, function, if_both, low)
 
 CASE, CASE_TO = "any_blocks encrypt 15", "any_blocks encrypt 7 _to"
 KEYSTREAM, CHAIN = exported("aes_add_keystream"), function("cmac::chaining::chain")
@@ -149,6 +149,11 @@ LONG_AES_FAULTS = {
               case="any_ccm_seal 8 15 33 8"),
         Fault("the length of 2^32 bytes of additional data in six bytes", CCM_TAG, found=r"(shrq\t\$)32(, %\w+\n\tjne)",
               becomes=r"\g<1>33\2", case="any_ccm_seal 8 16 33 8 10"),
+        Fault("bytes of additional data left out of CCM after 2^20 where both lengths leave certain remainders", exported("aes_ccm_seal"),
+              found=ENTRY, becomes=lambda found: found[0] + fewer_where_both("r8", 5, "8(%rsp)", 9), case="every_ccm_seal"),
+        Fault("a byte of CCM's nonce left out in opening at one pair of lengths of nonce and text", exported("aes_ccm_open"), found=ENTRY,
+              becomes=lambda found: found[0] + if_both(("%rdx", 10), ("8(%rsp)", 70009), "\tsubq\t%rax, %rdx\n"),
+              case="every_ccm_open"),
         Fault("a step's number of 8 bits in key wrap", WRAP_TURNS, found=NUMBER, becomes=r"\g<0>\tandl\t$255, %eax\n", case="any_wrap"),
         Fault("a step's number of 16 bits in key wrap", WRAP_TURNS, found=NUMBER, becomes=r"\g<0>\tandl\t$65535, %eax\n", case="any_wrap"),
         Fault("a step's number of 32 bits in key wrap", WRAP_TURNS, found=NUMBER, becomes=r"\g<0>\tmovl\t%eax, %eax\n", case="any_wrap"),

@@ -5,6 +5,7 @@ returns. A Buffer that says nothing may only be read. So "writes nothing but wha
 what a machine `m` keeps."""
 import contextlib
 import functools
+import itertools
 from collections.abc import Callable, Collection, Sequence
 from dataclasses import KW_ONLY, dataclass, field
 
@@ -85,6 +86,7 @@ class Call:
     may_stay: dict = None  # {a kind of secret: how many bytes of it may stay on the stack}, if more than in other calls
     paths: dict = None  # calls that share it run the same instructions whenever they return the same
     parts: Sequence = ()  # the parts in which a call of several lengths is proved (joints.py)
+    cases: Sequence = (frozenset(),)  # in such a call: sets of facts, of which one holds for the arguments
     facts: Collection = ()  # what is known of the unknown arguments: numbers that are 0 or more (linear.py)
     named: dict = field(init=False, default_factory=dict)  # {domain: the bits that the statement names} (left_behind.py)
 
@@ -163,7 +165,7 @@ def numbers_of(m, call):
 
 def prove_parts(m, call):
     """Proves a call part by part. Each part is run from each state in which it may begin, with each remainder of its length."""
-    starts = [m]
+    starts = [joints.with_facts(m.copied(), case) for case in call.cases]
     for part in call.parts:
         joint, places = joints.Joint(call, part, may_be_secret(call)), places_of_joint(starts, call, part) if part.phase else {}
         for start in starts:
@@ -171,7 +173,7 @@ def prove_parts(m, call):
                 forget_products(begin, [*starts, *joint.machines()])
                 ends = run_part(begin.copied(), call, part, joints.stopping_at(part, places))
                 lengths.check_ends(ends, begin.facts, joints.names_of_lengths(begin, part, rest))
-                joint.add_all([end for end in ends if not has_returned(end)])
+                joint.add_all([forget_what_was_asked(end, call) for end in ends if not has_returned(end)])
         starts = joint.states()
     return ends[-1]
 
@@ -190,7 +192,7 @@ def places_of_joint(starts, call, part):
     trails = {}
     for start in starts:
         for _, begin in joints.begins_of(start, part, part.scouted):
-            for m in run_part(begin, call, part, joints.stopping_in(part.phase)):
+            for m in itertools.filterfalse(has_returned, run_part(begin, call, part, joints.stopping_in(part.phase))):
                 trail = joints.Trail()
                 trails.setdefault(joints.case_of(m, part), []).append(trail)
                 with contextlib.suppress(joints.Arrived, Question, Unproved):
@@ -207,6 +209,20 @@ def run_part(m, call, part, stopping):
 
 def has_returned(m):
     return isinstance(m.next_address, Pointer)
+
+
+def forget_what_was_asked(m, call):
+    """Lets a machine at a joint know whether what the call reveals is right, but not which bytes it asked for that."""
+    asked = m.asked_of_secrets()
+    if asked:
+        right = is_right(m, call)
+        m.answers = {flag: answer for flag, answer in m.answers.items() if flag not in asked} | {revealed(m): right}
+    return m
+
+
+def revealed(m):
+    """Gives the flag that says at a joint whether what the call reveals is right."""
+    return "zero", m.domain.opaque("what the call reveals")
 
 
 def may_be_secret(call):
@@ -292,7 +308,7 @@ def is_right(m, call):
         return True
     asked = m.asked_of_secrets()  # (a branch on a nonce alone reveals nothing)
     reveals = call.reveals(m) if callable(call.reveals) else call.reveals
-    if len(asked) != 1 or asked_of(m, asked[0]) != asked_of(m, m.zero_flag(reveals)):
+    if asked != [revealed(m)] and (len(asked) != 1 or asked_of(m, asked[0]) != asked_of(m, m.zero_flag(reveals))):
         raise Unproved("reveals something else than whether the key or the tag is right")
     return m.answers[asked[0]]
 

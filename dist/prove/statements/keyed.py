@@ -25,10 +25,10 @@ STRUCT = 484
 SCHEDULE = 240, 4
 
 # The low half of a counter: `word` is its name, and with an offset i it is that of block i. A call begins at block `first`. From block
-# `wrap` on the half has wrapped around. Later blocks than `last` don't occur. `words` is {bytes of a whole counter: the word of unknown
-# value that they are}.
-CounterWord = namedtuple("CounterWord", "word first wrap last words", defaults=[None])
+# `wrap` on the half has wrapped around. Blocks that begin behind byte `end` don't occur. (Block k begins at byte 16 k.)
+CounterWord = namedtuple("CounterWord", "word first wrap end")
 NEVER, BATCH = 1 << 64, 16  # a batch may have more blocks than the text
+ANY_COUNT = "counter low, any count"  # the lower half of any counter block (KeyedAes.any_iv)
 PTRDIFF_MAX = (1 << 63) - 1
 
 
