@@ -194,7 +194,7 @@ GCM_ROWS = [
           ("accept", VERIFYING, "; also of what is refused, and of a shorter tag",
            [(VERIFYING, 0, 7, 12), *((ADDITIONAL, 5, 0, n) for n in SHORT_TAGS)],
            [(VERIFYING, 0, 7, n) for n in SHORT_TAGS if n != 12]))),
-    Row("every_additional", SAYS_EVERY_PIECE, pairs=ONCE),
+    *(Row("every_" + call, SAYS_EVERY_PIECE, pairs=ONCE) for call in ("additional", "verify")),
     Row("every_finish", SAYS_EVERY_END, pairs=ONCE),
     Row("every_accept", SAYS_EVERY_END + "; also of what is refused, and of a shorter tag", pairs=[(), *SHORT_TAGS])]
 
