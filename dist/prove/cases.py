@@ -115,6 +115,8 @@ SHORT = [(*lengths, *way) for way in ((), ("_to",)) for lengths in ((0, 160), (0
 ENDS = range(1, 16)  # how many bytes a message may have after whole blocks
 SAYS_WHOLE = "48 a + r bytes of additional data and 768 n + s of text for every a and n: r, s"
 SAYS_EVERY = "every pair of lengths of additional data and text"
+SAYS_EVERY_PIECE = "a piece of every length, after every number of bytes"
+SAYS_EVERY_END = "after every pair of numbers of bytes of additional data and of text"
 SAYS_NONCE = "; then the way, and r of a nonce of 48 k + r bytes for every k, instead of one of 12 bytes"
 OTHER_NONCES = (0, 129, "", 33), (13, 33, "_to", 0)
 LONGEST = MOST_ADDITIONAL % 48, MOST % 768  # so that the longest allowed lengths are among them
@@ -193,7 +195,10 @@ GCM_ROWS = [
           ("finish", ENCRYPTING, "", (), ()),
           ("accept", VERIFYING, "; also of what is refused, and of a shorter tag",
            [(VERIFYING, 0, 7, 12), *((ADDITIONAL, 5, 0, n) for n in SHORT_TAGS)],
-           [(VERIFYING, 0, 7, n) for n in SHORT_TAGS if n != 12])))]
+           [(VERIFYING, 0, 7, n) for n in SHORT_TAGS if n != 12]))),
+    *(Row("every_" + call, SAYS_EVERY_PIECE, pairs=ONCE) for call in ("additional", "verify")),
+    Row("every_finish", SAYS_EVERY_END, pairs=ONCE),
+    Row("every_accept", SAYS_EVERY_END + "; also of what is refused, and of a shorter tag", pairs=[(), *SHORT_TAGS])]
 
 # Where calls of every length aren't proved (Row.left_out). Some have one longer length.
 LONG = 2048  # bytes

@@ -1,72 +1,100 @@
 """States the calls of fotsgure_gcm.h for pieces of messages, at every length. A piece has 48 n + `rest` bytes for every n, or 768 n +
-`rest` where the text changes. Before it came 16 u + `filled` bytes, for every u."""
-import functools
-
-from gcm_statements.byte_counts import Counts, bytes_of_counts
+`rest` where the text changes. Before it came 16 u + `filled` bytes, for every u. Statements that begin with `every` have every pair of
+such numbers, part by part (joints.py)."""
+from gcm_statements.byte_counts import Counts, any_came, bytes_of_counts
 from gcm_statements.gcm_header import ADDITIONAL, DECRYPTING, ENCRYPTING, MOST, MOST_ADDITIONAL, REST, VERIFYING
 from gcm_statements.pre_counter import ANY_J_0, any_pre_counter
+from gcm_statements.whole_messages import GROUP, counts_of
+from loops.joints import Part
 from loops.linear import unknown
 from machines.operands import Content
 from statements.calls import Stream
 from statements.keyed import PTRDIFF_MAX
+from statements.standards import padded
+from statements.steps import NO_STEP
 from symbols.bits import DATA, KEY
 
-FEW_ADDITIONAL = 7  # bytes of additional data before a text
+OF_ADDITIONAL, FILLED, LEFT = "bytes of the last block of additional data", "bytes of a block before a piece", "bytes after that block"
+# The parts in which GHASH reads a piece: the bytes that fill up a block, and those that are left then. The first piece of a text ends the
+# additional data before.
+HASHING = Part(FILLED, 16, 1), Part(LEFT, GROUP)
+FIRST = Part(OF_ADDITIONAL, 16, 1), HASHING[-1]
+SHORT = [(filled, count) for filled in range(16) for count in range(16 - filled)]  # pieces that don't fill up a block
 
 
 class AnyPiece:
     """Describes a piece of every length, and how GHASH reads it. Its first bytes fill up a block. Then three blocks are hashed at once, and
     fewer than 48 bytes are left. GHASH reads blocks of `bytes_`."""
 
-    def __init__(self, keyed, bytes_, filled, rest, step=48):
-        self.keyed, self.bytes, self.filled = keyed, bytes_, filled
-        self.before, self.size = unknown("u") * 16 + filled, unknown("n") * step + rest
-        self.facts = {unknown("u"), unknown("n"), PTRDIFF_MAX - self.size}
-        self.many = len(keyed.kept_powers())
+    def __init__(self, keyed, bytes_, filled, left, is_first=False):
+        """`filled` bytes of a block came before, and `left` bytes come after this block. The first piece of a text ends the additional
+        data, of whose last block any number of bytes came."""
+        self.keyed, self.bytes, self.filled, self.left, self.is_first = keyed, bytes_, filled, left, is_first
+        self.before, self.size = 0 if is_first else unknown("u") * 16 + filled, left + 16 - filled
+        self.facts = {*counts_of([self.before, left]), 15 - filled, PTRDIFF_MAX - self.size}
 
-    def pattern(self, bytes_):
-        """Gives the pattern of a buffer that begins after `filled` bytes of a block."""
+    def counts(self, phase):
+        """Gives the Counts before a piece of text, where `phase` is that of later pieces. Adds what is known of the additional data."""
+        if not self.is_first:
+            came = any_came(self.keyed, "additional data", MOST_ADDITIONAL, None)
+            self.facts |= came.facts
+            return Counts(came.number, self.before, 0, phase)
+        rest = unknown(OF_ADDITIONAL)
+        came = unknown("k") * 16 + rest
+        self.facts |= {unknown("k"), rest, 15 - rest, MOST_ADDITIONAL - came}
+        return Counts(came, 0, 0, ADDITIONAL)
+
+    def any_step(self, m, *phases):
+        """Gives the next step of a call whose first piece of a text ends the additional data. `phases` has functions that give the next step
+        of later phases."""
+        phase = m.phase - self.is_first
+        return self.end_of_additional(m) if phase < 0 else phases[phase](m) if phase < len(phases) else NO_STEP
+
+    def end_of_additional(self, m):
+        """Gives the next step of GHASH of the last block of additional data."""
+        (so_far, part), count, value = self.keyed.before_piece(), m.known(unknown(OF_ADDITIONAL)), self.value_before()
+        if m.steps_found:
+            return "again", (), ()
+        return self.keyed.group_step(so_far, padded(part[:count]), value) if count else ("here", so_far, value)
+
+    def value_before(self):
+        """Gives the value of GHASH before the piece."""
+        keyed = self.keyed
+        return keyed.made_once("value of additional data", keyed.fresh_value) if self.is_first else keyed.before_piece()[0]
+
+    # Three phases of GHASH.
+    def fill_up(self, m):
+        """Looks for the first block, which the piece fills up. Then the piece begins after this block."""
+        keyed, filled = self.keyed, m.known(self.filled)
+        if m.steps_found:
+            return "again", "text", (keyed.pattern(self.bytes), None, False, 16 - filled)
+        return "memory", keyed.before_piece()[1][:filled] + keyed.at_block(m, self.bytes, 0)[:16 - filled], keyed.full_block()
+
+    def hash_first(self, m):
+        return ("again", (), ()) if m.steps_found else self.keyed.group_step(
+            self.value_before(), [self.keyed.full_block()], self.keyed.middle_value())
+
+    def hash_rest(self, m):
+        """Gives the next step of GHASH of whole blocks after the first one. Then blocks are numbered again."""
+        keyed, left = self.keyed, m.known(self.left)
+        return keyed.any_group(m, keyed.middle_value(), self.bytes, left - left_of_block(left), len(keyed.kept_powers()), [], keyed.last_value())
+
+    def hash_last(self, m):
+        """Does the same for calls that end then."""
+        step = self.hash_rest(m)
+        return NO_STEP if step[0] == "again" else step
+
+    def shifted(self, bytes_):
+        """Gives the pattern of bytes that belong to whole blocks of the text, and not to those of the piece."""
         return [self.keyed.pattern([bytes_[t % 16]], t // 16)[0] for t in range(self.filled, self.filled + 16)]
 
-    def groups(self, m):
-        """Counts the groups of blocks that GHASH reads after the first block, and the bytes that are left then."""
-        left = m.known(self.size) + self.filled - 16
-        return divmod(left, 16 * self.many) if isinstance(left, int) else left.divided(16 * self.many)
-
-    def end(self, m):
-        """Counts the values after that of the first block, and the bytes that are left of a block."""
-        groups, left = self.groups(m)
-        return groups + (left >= 16), left % 16
-
-    def value(self, m, group):
-        """Gives the value of GHASH before a group."""
-        return self.keyed.at_block(m, self.keyed.hash_value, 1 + group * self.many)
-
-    def next_step(self, m):
-        """Gives the next step of GHASH."""
-        keyed = self.keyed
-        groups, left = self.groups(m)
-        value = functools.partial(self.value, m)
-        block = lambda k: keyed.at_block(m, self.bytes, k)
-        blocks = lambda group: [block(group * self.many + 1 + k) for k in range(self.many)]
-        group, full = m.steps_found - 2, keyed.full_block()
-        if isinstance(group, int) and group < 0:
-            so_far, part = keyed.before_piece()
-            if m.steps_found:
-                return keyed.group_step(so_far, [full], value(0))
-            return "memory", part[:self.filled] + block(0)[self.filled:], full
-        if m.is_below(group, groups):
-            return keyed.group_step(value(group), blocks(group), value(group + 1))
-        if group == groups and left >= 16:
-            return keyed.group_step(value(group), blocks(group)[:left // 16], value(group + 1))
-        return "nothing", (), ()
-
-    def left_of_block(self, m, end, count):
-        """Gives the `count` bytes from `end` on, which the piece leaves of a block, in two forms. The first form is for code that doesn't
-        know their block, and the second for code that does."""
-        text = m.regions["text"]
-        names = [self.keyed.domain.opaque((Content("text", end + k, "content %d" % text.turn), 0)) for k in range(count)]
-        return names, text.initial_at(m, "text", end, count)
+    def last_bytes(self, m):
+        """Gives the bytes that the piece leaves of a block, in two forms. The first form is for code that doesn't know their block, and the
+        second for code that does."""
+        text, left = m.regions["text"], m.known(self.left)
+        count = left_of_block(left)
+        names = [self.keyed.domain.opaque((Content("text", left - count + k, "content %d" % text.turn), 0)) for k in range(count)]
+        return names, text.initial_at(m, "text", left - count, count)
 
     def first_bytes(self, m, counts):
         """Gives the first bytes of a message with these Counts: the numbers and J_0."""
@@ -74,11 +102,20 @@ class AnyPiece:
 
     def message_after(self, m, counts):
         """Gives a message with these Counts after GHASH has read the piece."""
-        group, count = self.end(m)
-        rest, known = self.left_of_block(m, m.known(self.size) - count, count)
-        if rest != m.regions["message"].content[REST:REST + count]:
+        rest, known = self.last_bytes(m)
+        if rest != m.regions["message"].content[REST:REST + len(rest)]:
             rest = known
-        return self.first_bytes(m, counts) + self.value(m, group) + rest + [None] * (16 - count)
+        return self.first_bytes(m, counts) + self.keyed.last_value() + rest + [None] * (16 - len(rest))
+
+
+def left_of_block(left):
+    """Counts the bytes that a number of bytes leaves of a block."""
+    return left % 16 if isinstance(left, int) else left.divided(16)[1]
+
+
+def any_left(filled, rest, step):
+    """Gives how many bytes of a piece come after those that fill up a block, where the piece has `step` n + `rest` bytes for every n."""
+    return unknown("n") * step + rest + filled - 16
 
 
 class AnyPieces:
@@ -90,9 +127,10 @@ class AnyPieces:
     def before_piece(self):
         """Gives any value of GHASH, and any part of a block. These bytes belong to no block, so they stay when blocks are numbered
         again."""
-        def fresh(name):
-            return [self.domain.fresh("%s, byte %d" % (name, i), KEY | DATA) for i in range(16)]
-        return self.made_once("before a piece", lambda: (fresh("value so far"), fresh("part of a block")))
+        return self.made_once("before a piece", lambda: (self.fresh_value("value so far"), self.fresh_value("part of a block")))
+
+    def fresh_value(self, name="value of additional data"):
+        return [self.domain.fresh("%s, byte %d" % (name, i), KEY | DATA) for i in range(16)]
 
     def any_before(self, counts):
         """Gives a message before a call: these Counts, any J_0, any value of GHASH, and any part of a block."""
@@ -100,73 +138,106 @@ class AnyPieces:
 
     # Pieces that GHASH reads whole, where nothing is written to the text.
     def any_additional(self, filled, rest):
-        piece = AnyPiece(self, self.additional_bytes, filled, rest)
+        return self.additional_of(filled, any_left(filled, rest, GROUP))
+
+    def every_additional(self):
+        short = [self.any_then_additional(filled, count) for filled, count in SHORT]
+        return [*short, self.additional_of(unknown(FILLED), unknown(LEFT), HASHING)]
+
+    def additional_of(self, filled, left, parts=()):
+        piece = AnyPiece(self, self.additional_bytes, filled, left)
         before = Counts(piece.before, 0, 0, ADDITIONAL)
         after = before._replace(additional=piece.before + piece.size)
-        return self.any_absorbed("additional", piece, before, after, MOST_ADDITIONAL - after.additional)
+        return self.any_absorbed("additional", piece, before, after, MOST_ADDITIONAL - after.additional, parts)
 
     def any_verify(self, filled, rest):
-        piece = AnyPiece(self, self.sealed, filled, rest)
-        before = Counts(FEW_ADDITIONAL, piece.before, 0, VERIFYING)
-        after = before._replace(text=piece.before + piece.size)
-        return self.any_absorbed("verify", piece, before, after, MOST - after.text)
+        return self.verify_of(filled, any_left(filled, rest, GROUP))
 
-    def any_absorbed(self, name, piece, before, after, fits):
+    def every_verify(self):
+        return [*self.short_pieces("verify", VERIFYING), self.verify_of(0, unknown(LEFT), FIRST, True),
+                self.verify_of(unknown(FILLED), unknown(LEFT), HASHING)]
+
+    def verify_of(self, filled, left, parts=(), is_first=False):
+        piece = AnyPiece(self, self.sealed, filled, left, is_first)
+        before = piece.counts(VERIFYING)
+        after = before._replace(text=piece.before + piece.size, phase=VERIFYING)
+        return self.any_absorbed("verify", piece, before, after, MOST - after.text, parts)
+
+    def any_absorbed(self, name, piece, before, after, fits, parts):
         """States a call on a message with the Counts `before`. It has the Counts `after` then. `fits` is the fact that they aren't too
         many."""
         return self.call_on_message(name, self.any_before(before), lambda m: piece.message_after(m, after),
-                                    [Stream("text", piece.size, piece.pattern(piece.bytes)), piece.size],
-                                    facts=piece.facts | {fits}, steps=piece.next_step)
+                                    [Stream("text", piece.size, self.pattern(piece.bytes)), piece.size], facts=piece.facts | {fits},
+                                    steps=lambda m: piece.any_step(m, piece.fill_up, piece.hash_first, piece.hash_last), parts=parts)
+
+    def short_pieces(self, call, phase):
+        """Gives calls for pieces of a text that don't fill up a block, and for first pieces of less than a block."""
+        return [*(self.any_then_piece(call, phase, None, filled, count) for filled, count in SHORT),
+                *(self.any_then_piece(call, ADDITIONAL, rest, 0, count) for rest in range(16) for count in range(16))]
 
     # Pieces of a text that changes.
-    def any_crypted(self, filled, rest):
-        """Gives a piece that changes, the pattern of its keystream, and the arguments of Call that concern the counter."""
-        piece = AnyPiece(self, self.sealed, filled, rest, 768)
-        stream = piece.pattern(any_pre_counter(self).stream)
-        counter = ANY_J_0._replace(first=unknown("u") + 1)
-        facts = piece.facts | {MOST - piece.before - piece.size}
-        return piece, stream, dict(counter=counter, keystream=self.in_all_blocks(stream), facts=facts)
+    def crypted(self, piece):
+        """Gives the pattern of the keystream of a piece that changes, and the arguments of Call that concern the counter."""
+        stream = piece.shifted(any_pre_counter(self).stream)
+        first = 1 if piece.is_first else unknown("u") + 1
+        return stream, dict(counter=ANY_J_0._replace(first=first), keystream=self.in_all_blocks(stream),
+                            facts=piece.facts | {MOST - piece.before - piece.size})
 
     def any_encrypt(self, filled, rest):
+        return self.encrypt_of(filled, any_left(filled, rest, 768))
+
+    def encrypt_of(self, filled, left, parts=(), is_first=False):
         """States a call that encrypts first. Then the encrypted text becomes arbitrary bytes, and GHASH reads these."""
-        piece, stream, more = self.any_crypted(filled, rest)
-        before = Counts(FEW_ADDITIONAL, piece.before, 0, ENCRYPTING)
-        after = before._replace(text=piece.before + piece.size)
-        text, sealed = piece.pattern(self.text), piece.pattern(self.sealed)
+        piece = AnyPiece(self, self.sealed, filled, left, is_first)
+        before = piece.counts(ENCRYPTING)
+        after = before._replace(text=piece.before + piece.size, phase=ENCRYPTING)
+        stream, more = self.crypted(piece)
+        text, sealed = self.pattern(self.text), self.pattern(self.sealed)
         texts = Stream("text", piece.size, text, [self.aes.xor(text, stream), sealed], lambda m, number: [0] * 16)
-        steps = lambda m: piece.next_step(m) if m.phase else ("whole", "text", (sealed,))
-        return self.call_on_message("encrypt", self.any_before(before), lambda m: piece.message_after(m, after),
-                                    [texts, piece.size], steps=steps, plain=self.in_all_blocks(text), **more)
+        return self.call_on_message(
+            "encrypt", self.any_before(before), lambda m: piece.message_after(m, after), [texts, piece.size], parts=parts,
+            steps=lambda m: piece.any_step(m, lambda m: ("whole", "text", (sealed,)), piece.fill_up, piece.hash_first, piece.hash_last),
+            plain=self.in_all_blocks(text), **more)
 
     def any_decrypt(self, filled, rest):
+        return self.decrypt_of(filled, any_left(filled, rest, 768))
+
+    def decrypt_of(self, filled, left, parts=()):
         """States a call that decrypts a piece of a text whose tag was right, and doesn't hash it. `more` bytes of that text follow the
         piece."""
-        piece, stream, more = self.any_crypted(filled, rest)
-        before = Counts(FEW_ADDITIONAL, piece.before + piece.size + unknown("more"), piece.before, DECRYPTING)
+        piece = AnyPiece(self, self.sealed, filled, left)
+        before = piece.counts(DECRYPTING)._replace(text=piece.before + piece.size + unknown("more"), decrypted=piece.before)
         after = before._replace(decrypted=piece.before + piece.size)
-        sealed = piece.pattern(self.sealed)
+        stream, more = self.crypted(piece)
+        sealed = self.pattern(self.sealed)
         plain, state = self.aes.xor(sealed, stream), sum(self.before_piece(), [])
         more["facts"] |= {unknown("more"), MOST - before.text}
         return self.call_on_message("decrypt", self.any_before(before), lambda m: piece.first_bytes(m, after) + state,
-                                    [Stream("text", piece.size, sealed, plain), piece.size], plain=self.in_all_blocks(plain), **more)
+                                    [Stream("text", piece.size, sealed, plain), piece.size], plain=self.in_all_blocks(plain), parts=parts,
+                                    **more)
 
     def any_decrypt_unverified(self, filled, rest):
-        """States a call where GHASH comes first. Its value, and what is left of a block, become arbitrary bytes before blocks are numbered
-        again."""
-        piece, stream, more = self.any_crypted(filled, rest)
-        before = Counts(FEW_ADDITIONAL, piece.before, 0, VERIFYING)
-        after = before._replace(text=piece.before + piece.size)
-        sealed, block = piece.pattern(self.sealed), self.full_block()
-        plain, count = self.aes.xor(sealed, stream), (filled + rest) % 16
+        return self.decrypt_unverified_of(filled, any_left(filled, rest, 768))
 
-        def steps(m):
-            group, _ = piece.end(m)
-            done = m.steps_found - 2 - group
-            if m.phase or done not in (0, 1):
-                return ("nothing", (), ()) if m.phase else piece.next_step(m)
-            value, left = piece.value(m, group), sum(piece.left_of_block(m, m.known(piece.size) - count, count), [])
-            return ("again", (), ()) if done else ("here", value + left, self.last_value() + 2 * block[:count])
-        return self.call_on_message("decrypt_unverified", self.any_before(before), lambda m: piece.first_bytes(m, after)
-                                    + self.last_value() + block[:count] + [None] * (16 - count),
-                                    [Stream("text", piece.size, sealed, plain), piece.size], steps=steps, plain=self.in_all_blocks(plain),
-                                    **more)
+    def decrypt_unverified_of(self, filled, left, parts=(), is_first=False):
+        """States a call where GHASH comes first. What the piece leaves of a block becomes arbitrary bytes before blocks are numbered
+        again."""
+        piece = AnyPiece(self, self.sealed, filled, left, is_first)
+        before = piece.counts(VERIFYING)
+        after = before._replace(text=piece.before + piece.size, phase=VERIFYING)
+        stream, more = self.crypted(piece)
+        sealed, block = self.pattern(self.sealed), self.full_block()
+        plain = self.aes.xor(sealed, stream)
+
+        def rest(m):
+            step, count = piece.hash_rest(m), left_of_block(m.known(left))
+            if step[0] == "again" and m.regions["message"].content[REST:REST + count] != block[:count]:
+                return "here", sum(piece.last_bytes(m), []), 2 * block[:count]
+            return ("again", "text", (sealed, plain, False, filled - 16)) if step[0] == "again" else step
+
+        def message(m):
+            count = left_of_block(m.known(left))
+            return piece.first_bytes(m, after) + self.last_value() + block[:count] + [None] * (16 - count)
+        return self.call_on_message("decrypt_unverified", self.any_before(before), message,
+                                    [Stream("text", piece.size, sealed, plain), piece.size], plain=self.in_all_blocks(plain), parts=parts,
+                                    steps=lambda m: piece.any_step(m, piece.fill_up, piece.hash_first, rest), **more)

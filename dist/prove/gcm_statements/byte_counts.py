@@ -10,28 +10,29 @@ Counts = namedtuple("Counts", "additional text decrypted phase")
 
 
 class Came(namedtuple("Came", "words number rest facts")):
-    """Says how many bytes came before a call: 16 n + `rest` for every n. It has the words of that number, the number, and facts of
-    these."""
+    """Says how many bytes came before a call: 16 n + `rest` for every n, or any number if `rest` is None. It has the words of that number,
+    the number, and facts of these."""
 
     def __mod__(self, k):
         return self.rest % k
 
 
 def any_came(keyed, name, most, rest):
-    """Makes a number of bytes that came before, `most` at most: 16 n + `rest` for every n."""
-    blocks, high = unknown("blocks of " + name), unknown("higher word of " + name)
+    """Makes a number of bytes that came before, `most` at most: 16 n + `rest` for every n, or any number if `rest` is None."""
+    step, first = (1, 0) if rest is None else (16, rest)
+    counted, high = unknown(("bytes of " if step == 1 else "blocks of ") + name), unknown("higher word of " + name)
     base = keyed.highest + 1
-    low, sizes = blocks * 16 + rest, keyed.domain.sizes
-    sizes[blocks] = (min(most, keyed.highest) // 16).bit_length()
+    low, sizes = counted * step + first, keyed.domain.sizes
+    sizes[counted] = (min(most, keyed.highest) // step).bit_length()
     if most < base:
-        return Came([low], low, rest, {blocks, most - low})
+        return Came([low], low, rest, {counted, most - low})
     sizes[high] = (most // base).bit_length()
-    return Came([low, high], low + high * base, rest, {blocks, keyed.highest - low, high, most - low - high * base})
+    return Came([low, high], low + high * base, rest, {counted, keyed.highest - low, high, most - low - high * base})
 
 
 def came_in(keyed, phase, additional, text):
     """Makes the numbers of bytes of additional data and of text that came before: 16 k + `additional` and 16 m + `text`, for every k and m.
-    In the first phase no text came."""
+    One that is None may be any. In the first phase no text came."""
     came = any_came(keyed, "additional data", MOST_ADDITIONAL, additional)
     return came, 0 if phase == ADDITIONAL else any_came(keyed, "text", MOST, text)
 

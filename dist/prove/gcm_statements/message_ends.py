@@ -3,7 +3,7 @@
 Before such a call 16 k + `additional` bytes of additional data and 16 m + `text` bytes of text came, for every k and m. In the first phase
 no text came."""
 from gcm_statements.byte_counts import Came, Counts, came_in, length_in_bits
-from gcm_statements.gcm_header import ADDITIONAL, DECRYPTING, MESSAGE, MOST, MOST_ADDITIONAL, REFUSED
+from gcm_statements.gcm_header import ADDITIONAL, DECRYPTING, ENCRYPTING, MESSAGE, MOST, MOST_ADDITIONAL, REFUSED, VERIFYING
 from gcm_statements.pre_counter import any_pre_counter
 from statements.calls import Buffer
 from statements.standards import ZEROS
@@ -54,6 +54,18 @@ class MessageEnds:
         arguments = [length] * bool(length) + [Buffer("tag", tag), len(tag)]
         return self.call_on_message("accept" + "_short" * bool(length), before, after, arguments, reveals=self.aes.xor(tag, right),
                                     refused=REFUSED, **more)
+
+    # The same after every pair of numbers. If a text came, no remainder of additional data is known.
+    def every_finish(self):
+        return [self.any_finish(*came) for came in every_end(ENCRYPTING)]
+
+    def every_accept(self, length=None):
+        return [self.any_accept(*came, length) for came in every_end(VERIFYING)]
+
+
+def every_end(phase):
+    """Gives the arguments of any_end for every pair of numbers that may come before the end in this phase, or in the first one."""
+    return [(phase, None, rest) for rest in range(16)] + [(ADDITIONAL, rest, 0) for rest in range(16)]
 
 
 def after_any(call, fact, *came):

@@ -14,7 +14,7 @@ from loops.lengths import differences_from, general_regions, general_registers, 
 from loops.linear import Linear, implied, refuted, rewritten, terms, unknown
 from machines.operands import SECRET, is_int
 from machines.regions import Window
-from symbols.bits import KEY, Unproved
+from symbols.bits import DATA, KEY, Unproved
 
 SCOUTED = 0, 1, 16, 17  # the remainders with which the place of a joint is looked for
 LONGEST_TRAIL = 4000  # how many places are looked at there
@@ -222,7 +222,7 @@ def state_between(runs, names):
     general_regions(state, first, second, more)
     for region, other in zip(state.regions.values(), second.regions.values()):
         if isinstance(region, Window):
-            for what in "size", "end", "skip":
+            for what in "size", "end", "head", "skip":
                 setattr(region, what, generalized(getattr(region, what), getattr(other, what), more, state.highest))
     return state
 
@@ -284,9 +284,9 @@ def weaken(state, m, want):
     state.stack.join(m.stack)
     own, *others = (x.regions["stack"].content for x in (state, want, m))
     own[:] = common(own, *others)
-    for place, on in m.origins.items():  # (What depends on the key alone may not be left anywhere.)
-        if on != state.origins.setdefault(place, on) and on & state.origins[place] & KEY:
-            state.origins[place] = KEY
+    for place, on in m.origins.items():
+        if (kept := state.origins.setdefault(place, on)) != on and (on & kept & KEY or KEY not in (on, kept)):
+            state.origins[place] = KEY if on & kept & KEY else KEY | DATA
     secret = state.asked_of_secrets()
     state.answers = {flag: answer for flag, answer in state.answers.items() if flag in secret or m.answers.get(flag) == answer}
     state.note_buffers(m)
@@ -294,6 +294,6 @@ def weaken(state, m, want):
 
 def differences_of_windows(m, state):
     """Gives the names of buffers of any length that a machine and a state don't treat alike."""
-    what = "turn", "unit", "head", "backwards", "undoes", "waits", "want"
+    what = "turn", "unit", "backwards", "undoes", "waits", "want"
     return [name for name, w in state.regions.items() if isinstance(w, Window) and any(
         getattr(w, x) != getattr(m.regions[name], x) for x in what)]

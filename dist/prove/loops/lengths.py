@@ -15,7 +15,7 @@ from loops.linear import is_number, refuted, replaced, terms, unknown, wrapped
 from loops.unknowns import WRAPPED
 from machines.operands import FARTHEST, SECRET, Number, Pointer, is_int, is_pointer, lanes
 from machines.regions import Window
-from symbols.bits import KEY, LOST, Unproved
+from symbols.bits import DATA, KEY, LOST, Unproved
 
 FLAG = "a flag"  # a difference of two states
 PASS_NUMBERS = itertools.count()  # so that each unknown number of passes has a name of its own
@@ -333,7 +333,8 @@ def differences_from(m, want):
         FLAG: all(flag == SECRET or flag is None and not m.is_secret(m.flags[f]) for f, flag in want.flags.items()),
         "the use of the stack": want.stack.includes(m.stack),
         "the buffers that it wrote to": m.ever_written.keys() <= want.ever_written.keys(),
-        "origins": all(want.origins.get(place) in (on, KEY if on & KEY else on) for place, on in m.origins.items()),
+        # (What depends on the key alone may be left nowhere, and what depends on the key and on data in fewer places than data.)
+        "origins": all(want.origins.get(place) in (on, KEY if on & KEY else KEY | DATA) for place, on in m.origins.items()),
         "answers": want.answers.items() <= m.answers.items(),
         "what was asked of secrets": m.asked_of_secrets() == want.asked_of_secrets()}
     return wrong + [what for what, right in agrees.items() if not right]
@@ -341,7 +342,7 @@ def differences_from(m, want):
 
 def described(region):
     """Gives what two regions of a name have to have in common besides their bytes."""
-    return [region.size, region.end, region.skip, region.origin, region.initial, region.writable] if isinstance(region, Window) else []
+    return [getattr(region, x) for x in (*region.numbers, "initial", "writable")] if isinstance(region, Window) else []
 
 
 def check_ends(ends, facts, names):

@@ -140,7 +140,8 @@ class Unknowns:
         self.general = {r: new(v) & self.highest if isinstance(v, Linear) and is_int(new(v)) else new(v) for r, v in self.general.items()}
         for region in self.regions.values():
             if isinstance(region, Window):
-                region.size, region.end, region.origin, region.skip = map(new, (region.size, region.end, region.origin, region.skip))
+                for what in region.numbers:
+                    setattr(region, what, new(getattr(region, what)))
         self.counter, self.steps_found = new(self.counter), new(self.steps_found)
         self.numbers_by_frame = tuple((at, tuple(map(new, numbers))) for at, numbers in self.numbers_by_frame)
         self.loops, self.expected_step = {}, None

@@ -97,6 +97,8 @@ class Access:
         if not self.implied(offset) or not self.implied(window.whole - offset - size):
             raise Unproved("%s %d bytes at %s of %s, which has %s" % ("writes" if write else "reads", size, offset, base, window.whole))
         if is_int(offset) and offset < window.head:
+            if base + HEAD not in self.regions:
+                raise Unproved("accesses %s where all is done" % base)
             return self.place_in_region(self.regions[base + HEAD], base, offset, size, write, align)
         offset = window.turned(offset - window.head, size)
         if window.end != window.size and not self.implied(window.end - offset - size):

@@ -34,6 +34,8 @@ class Window(Region):
 
     The patterns are those of the block with number LEAD."""
 
+    numbers = "size", "end", "origin", "head", "skip"  # what may depend on a length
+
     def __init__(self, size, initial, want, head=0, backwards=False, skip=0):
         super().__init__([], want is not None)
         self.size, self.end = size, size
@@ -127,10 +129,11 @@ class Window(Region):
             return False
         return True
 
-    def begin_again(self, initial, want=None, undoes=False):
+    def begin_again(self, initial, want=None, undoes=False, head=0):
         """Lets blocks that are done be read once more, as `initial`. Then they become what `want` says, or nothing more is written. With
-        `undoes` they only change in a call that is refused."""
+        `undoes` they only change in a call that is refused. The first `head` bytes are left out: they can't be accessed any more."""
         self.initial = initial
+        self.head, self.size, self.end = self.head + head, self.size - head, self.end - head
         self.origin = 0
         self.content = []
         self.turn += 1
