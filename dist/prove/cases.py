@@ -91,7 +91,7 @@ AES_ROWS = [
           all_=[(13, 0, 16, 16), (9, 15, 255, 4, 6), (11, 9, 0, 6, 10)], left_out=ON_RISCV_32)
       for call, most, first in (("any_ccm_seal", (), [(8, 15, 33, 8), (8, 16, 33, 8, 6), (8, 16, 33, 8, 10)]),
                                 ("any_ccm_open", [(12, 15, 33, 8)], ()))),
-    *(Row("every_" + call, "every length of nonce, additional data, text and tag" + also, pairs=ONCE)
+    *(Row("every_" + call, "every length of nonce, additional data, text and tag" + also, every=ONCE)
       for call, also in (("ccm_seal", ""), ("ccm_open", "; also of what is refused"))),
     *(Row(call, "the lengths of nonce, additional data, text and tag", each=[(13, 8, 33, 8)],
           most=[(7, 0, 1, 4), (12, 14, 16, 16), (8, 15, 17, 6), (10, 33, 0, 14), (9, 0, 0, 10), (11, 0, 0, 12)],
@@ -196,9 +196,9 @@ GCM_ROWS = [
           ("accept", VERIFYING, "; also of what is refused, and of a shorter tag",
            [(VERIFYING, 0, 7, 12), *((ADDITIONAL, 5, 0, n) for n in SHORT_TAGS)],
            [(VERIFYING, 0, 7, n) for n in SHORT_TAGS if n != 12]))),
-    *(Row("every_" + call, SAYS_EVERY_PIECE, pairs=ONCE) for call in ("additional", "verify")),
-    Row("every_finish", SAYS_EVERY_END, pairs=ONCE),
-    Row("every_accept", SAYS_EVERY_END + "; also of what is refused, and of a shorter tag", pairs=[(), *SHORT_TAGS])]
+    *(Row("every_" + call, SAYS_EVERY_PIECE, every=ONCE) for call in ("additional", "verify")),
+    Row("every_finish", SAYS_EVERY_END, every=ONCE),
+    Row("every_accept", SAYS_EVERY_END + "; also of what is refused, and of a shorter tag", every=[(), *SHORT_TAGS])]
 
 # Where calls of every length aren't proved (Row.left_out). Some have one longer length.
 LONG = 2048  # bytes
