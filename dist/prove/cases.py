@@ -8,7 +8,7 @@ from gcm_statements.gcm_header import ADDITIONAL, ENCRYPTING, MOST, MOST_ADDITIO
 from gcm_statements.pre_counter import ANY_J_0_NONCE, EVERY as EVERY_NONCE, CarryTo
 from linked.builds import takes_few
 from machines.riscv import Riscv
-from remainders import AMONG_REMAINDERS, DIRECTIONS, EVERY, EVERY_REMAINDER, FEW, LENGTHS, LONGEST_CCM, PAIRS, TABLES, AtLengths
+from remainders import AMONG_REMAINDERS, DIRECTIONS, EVERY, EVERY_REMAINDER, FEW, LENGTHS, LONGEST_CCM, PAIRS, TABLES, WAYS, AtLengths
 from statements.headers import version
 
 # A statement (a method of KeyedAes, KeyedGcm or KeyedSiv, or one of TABLES), a description of its arguments, and lists of these. The page
@@ -45,6 +45,10 @@ AES_ROWS = [
     Row("any_low_keystream", "at 16 k + s for every k, 128 n + r bytes for every n: s, r; for every initial counter block whose low half "
         "doesn't carry", each=[(5, 122)], first=[(0, 0, "_with"), (5, 122, "_to")], remainders=EVERY["keystream"],
         lengths_24_32=[(5, 122, way) for way in ("", "_to", "_with")], left_out=ON_RISCV_32),
+    Row("every_short_keystream", "at 16 k + s for every k, every number of bytes that together with s is below 128, likewise: s",
+        every=[(s, way) for way in WAYS for s in range(16)]),
+    Row("every_long_keystream", "at every position, every other number of bytes, so that both together leave r by 16, likewise: r",
+        every=[(rest, way) for way in WAYS for rest in range(16)]),
     Row("any_keystream", "the same where the low half carries anywhere or nowhere", most=[(0, 0)], all_=[(5, 122), (3, 45, "_to")],
         left_out=ON_RISCV_32),
     Row("add_keystream", "the position, the number of bytes, and before which block the low half of the counter carries, if anywhere",
