@@ -101,7 +101,7 @@ EVERY_REMAINDER = {
         "any_unwrap_padded": [(rest,) for rest in range(1, 9)],
         "any_cmac": [(rest,) for rest in range(1, 17)],
         "any_cmac_verify": [(rest, tag) for rest in range(1, 17) for tag in CMAC_TAGS]},
-    "gcm": {"any_begin": [(rest,) for rest in range(48)]}, "siv": {}}
+    "gcm": {"any_begin": [(rest,) for rest in range(48)]}}
 TABLES = {"at_ends": LENGTHS, "at_pairs": PAIRS, "every_remainder": EVERY_REMAINDER}
 
 

@@ -68,12 +68,18 @@ class KeyedAes(SingleRounds, CmacCcm, KeyWrap, Keyed):
 
     # The same for every position and every length, where the low half doesn't carry. `end` counts the bytes from the beginning of the first
     # block of keystream on.
-    def every_short_keystream(self, skip, way=""):
+    def every_short_keystream(self, way=""):
+        return [self.short_keystream(skip, way) for skip in range(16)]
+
+    def every_long_keystream(self, way=""):
+        return [self.long_keystream(rest, way) for rest in range(16)]
+
+    def short_keystream(self, skip, way):
         """States counter mode at every position 16 k + `skip`, for every `end` below 128."""
         end = unknown("end")
         return self.keystream_of_any(skip, end - skip, way, NEVER, {end - skip, 127 - end}, 8, parts=[Part("end", 128)])
 
-    def every_long_keystream(self, rest, way=""):
+    def long_keystream(self, rest, way):
         """States counter mode at every position, for every `end` of 128 n + 16 k + `rest`, where n isn't 0."""
         n, skip, blocks = unknown("n"), unknown("skip"), unknown("blocks")
         end, buffer = n * 128 + blocks * 16 + rest, "output" if way == "_to" else "blocks"
