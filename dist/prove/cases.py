@@ -8,7 +8,7 @@ from gcm_statements.gcm_header import ADDITIONAL, ENCRYPTING, MOST, MOST_ADDITIO
 from gcm_statements.pre_counter import ANY_J_0_NONCE, EVERY as EVERY_NONCE, CarryTo
 from linked.builds import takes_few
 from machines.riscv import Riscv
-from remainders import AMONG_REMAINDERS, DIRECTIONS, EVERY, EVERY_REMAINDER, FEW, LENGTHS, LONGEST_CCM, PAIRS, TABLES, AtLengths
+from remainders import AMONG_REMAINDERS, DIRECTIONS, EVERY, EVERY_REMAINDER, FEW, LENGTHS, LONGEST_CCM, PAIRS, TABLES, WAYS, AtLengths
 from statements.headers import version
 
 # A statement (a method of KeyedAes, KeyedGcm or KeyedSiv, or one of TABLES), a description of its arguments, and lists of these. The page
@@ -45,6 +45,8 @@ AES_ROWS = [
     Row("any_low_keystream", "at 16 k + s for every k, 128 n + r bytes for every n: s, r; for every initial counter block whose low half "
         "doesn't carry", each=[(5, 122)], first=[(0, 0, "_with"), (5, 122, "_to")], remainders=EVERY["keystream"],
         lengths_24_32=[(5, 122, way) for way in ("", "_to", "_with")], left_out=ON_RISCV_32),
+    Row("every_short_keystream", "the same for every s, and fewer than 128 - s bytes", every=WAYS),
+    Row("every_long_keystream", "the same for every s, and all other numbers of bytes", every=WAYS),
     Row("any_keystream", "the same where the low half carries anywhere or nowhere", most=[(0, 0)], all_=[(5, 122), (3, 45, "_to")],
         left_out=ON_RISCV_32),
     Row("add_keystream", "the position, the number of bytes, and before which block the low half of the counter carries, if anywhere",
@@ -114,7 +116,7 @@ BORDERING = [*range(1, 6), *(n + by for n in (16, 32, 48, 64, 80, 112, 128, 144,
 SHORT = [(*lengths, *way) for way in ((), ("_to",)) for lengths in ((0, 160), (0, 161), (160, 0), (161, 0), (1, 3), (1, 4))]
 ENDS = range(1, 16)  # how many bytes a message may have after whole blocks
 SAYS_WHOLE = "48 a + r bytes of additional data and 768 n + s of text for every a and n: r, s"
-SAYS_EVERY = "every pair of lengths of additional data and text"
+SAYS_EVERY = "every pair of both lengths"
 SAYS_EVERY_PIECE = "a piece of every length, after every number of bytes"
 SAYS_EVERY_END = "after every pair of numbers of bytes of additional data and of text"
 SAYS_NONCE = "; then the way, and r of a nonce of 48 k + r bytes for every k, instead of one of 12 bytes"
@@ -243,7 +245,8 @@ def at_ends(library):
     return [Row("at_ends", "a call, at each remainder that its lengths may leave ([remainders.py](remainders.py))", first=names,
                 remainders=[name for name in LENGTHS[library] if name not in names]),
             Row("at_pairs", "a call, at each pair of remainders by 16 that two of its lengths may leave", remainders=PAIRS[library]),
-            Row("every_remainder", "a call of every length, with each remainder", every=EVERY_REMAINDER[library])]
+            *(Row("every_remainder", "a call of every length, at each remainder", every=names) for names in [EVERY_REMAINDER.get(library)]
+              if names)]
 
 
 def common_rows(library, version):

@@ -2,7 +2,7 @@
 states at joints (wrong_states.py), and wrong meanings of instructions. Each has to be refused. Run it as `make prove-controls` in dist.
 
 A fault is refused if the case that it names is not proved any more. That is a case of PROVE=builds. For Windows, `_v1` and RISC-V, and for
-every pair of lengths, it is one of PROVE=all. A fault for which a build has no place counts as missed. Any other failure ends the controls:
+every length, it is one of PROVE=all. A fault for which a build has no place counts as missed. Any other failure ends the controls:
 one of gcc or ld, a case that isn't there, or a planted instruction that isn't covered, unless that is the fault."""
 import argparse
 import re
@@ -25,7 +25,7 @@ from prove import options_of
 from symbols.bits import Unproved
 from tasks import pool_of
 
-EVERY_PAIR = "every_"  # how the names of cases begin that prove every pair of lengths
+EVERY_LENGTH = "every_"  # how the names of cases begin that prove every length, or every pair of lengths
 
 
 def verdict(what, attempt, reason=""):
@@ -84,7 +84,7 @@ class Planted:
         self.keyed = LIBRARIES[build.split("/")[1][:3]][0](assemble(build, source(options.dist, build), self.out), key_size)
         self.keyed.set_key()
         self.cases = {**self.cases_of(options.dist, "all" if takes_few(build) else "builds"),
-                      **self.cases_of(options.dist, "all", EVERY_PAIR), "set_key": None}
+                      **self.cases_of(options.dist, "all", EVERY_LENGTH), "set_key": None}
 
     def cases_of(self, dist, level, only=""):
         return dict(statements(self.keyed, argparse.Namespace(dist=dist, level=level, only=only), 0, 1))

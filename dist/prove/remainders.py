@@ -9,7 +9,7 @@ from aes_statements.cmac_ccm import CCM_TAGS, CMAC_TAGS, NONCES
 from gcm_statements.gcm_header import ADDITIONAL, ENCRYPTING, PHASES, SHORT_TAGS, VERIFYING
 from statements.keyed import NEVER as NO_CARRY
 
-DIRECTIONS, BLOCK = ("encrypt", "decrypt"), range(16)
+DIRECTIONS, WAYS, BLOCK = ("encrypt", "decrypt"), ("", "_to", "_with"), range(16)
 PARTS = range(1, 16)  # of a block
 
 # (additional data, text) in GCM. Each leaves each remainder by 48. A third of the texts has fewer than eight blocks, a third is written to
@@ -95,13 +95,13 @@ FEW = {
 # Calls with one length: each remainder that it may leave by the bytes or blocks that a statement of every length has in a group.
 EVERY_REMAINDER = {
     "aes": {
-        "any_blocks": [(direction, rest, way) for direction in DIRECTIONS for way in ("", "_to", "_with") for rest in BLOCK],
+        "any_blocks": [(direction, rest, way) for direction in DIRECTIONS for way in WAYS for rest in BLOCK],
         "any_cbc_decrypt": [(rest,) for rest in range(64)],
         "any_wrap_padded": [(rest,) for rest in range(1, 17)],
         "any_unwrap_padded": [(rest,) for rest in range(1, 9)],
         "any_cmac": [(rest,) for rest in range(1, 17)],
         "any_cmac_verify": [(rest, tag) for rest in range(1, 17) for tag in CMAC_TAGS]},
-    "gcm": {"any_begin": [(rest,) for rest in range(48)]}, "siv": {}}
+    "gcm": {"any_begin": [(rest,) for rest in range(48)]}}
 TABLES = {"at_ends": LENGTHS, "at_pairs": PAIRS, "every_remainder": EVERY_REMAINDER}
 
 

@@ -6,8 +6,9 @@ from aes_statements.any_ccm import AnyCcm
 from aes_statements.key_wrap import KeyWrap
 from aes_statements.single_rounds import SingleRounds
 from loops.joints import Part
+from loops.lengths import move_on
 from loops.linear import WORD, Linear, unknown
-from machines.operands import Pointer, Verdict
+from machines.operands import Pointer, Verdict, is_int
 from machines.regions import Window
 from statements.calls import Buffer, Call
 from statements.keyed import (ANY_COUNT, BATCH, DONE, KEY_LENGTH, KEYSTREAM_END, NEVER, NO_KEY, UNEQUAL_COUNTS, CounterWord, Keyed,
@@ -65,13 +66,46 @@ class KeyedAes(SingleRounds, AnyCcm, KeyWrap, Keyed):
         nowhere."""
         return self.keystream_of_any(skip, unknown("n") * 128 + rest, way, wrap)
 
-    def every_low_keystream(self, rest, way=""):
-        """States it at every position, for every length from 128 bytes on that ends `rest` bytes after a whole block of keystream."""
-        skip, blocks = unknown("skip"), unknown("blocks")
-        count = unknown("n") * 128 + blocks * 16 + rest - skip
-        return self.keystream_of_any(skip, count, way, NEVER, {unknown("n") - 1, *facts_of_range(skip, 0, 15), *facts_of_range(blocks, 0, 7)},
-                                     steps=lambda m: NO_STEP if m.phase else ("begun", "output" if way == "_to" else "blocks", ()),
-                                     parts=[Part("skip", 16, 1, ({-skip}, {skip - 1}), scouted=range(16)), Part("blocks", 8)])
+    # The same for every position and every length, where the low half doesn't carry. `end` counts the bytes from the beginning of the first
+    # block of keystream on.
+    def every_short_keystream(self, way=""):
+        return [self.short_keystream(skip, way) for skip in range(16)]
+
+    def every_long_keystream(self, way=""):
+        return [self.long_keystream(rest, way) for rest in range(16)]
+
+    def short_keystream(self, skip, way):
+        """States counter mode at every position 16 k + `skip`, for every `end` below 128."""
+        end = unknown("end")
+        return self.keystream_of_any(skip, end - skip, way, NEVER, {end - skip, 127 - end}, parts=[Part("end", 128)])
+
+    def long_keystream(self, rest, way):
+        """States counter mode at every position, for every `end` of 128 n + 16 k + `rest`, where n isn't 0."""
+        n, skip, blocks = unknown("n"), unknown("skip"), unknown("blocks")
+        end, buffer = n * 128 + blocks * 16 + rest, "output" if way == "_to" else "blocks"
+
+        def steps(m):
+            if m.phase == 0:
+                return "begun", buffer, ()
+            return ("now", buffer, ()) if m.phase == 1 and self.only_rest_is_left(m, m.regions[buffer], end) else NO_STEP
+        cases = {-skip}, {skip - 1, 1 - n}, {skip - 1, n - 2}
+        return self.keystream_of_any(skip, end - skip, way, NEVER, {n - 1, *facts_of_range(skip, 0, 15), *facts_of_range(blocks, 0, 7)},
+                                     steps=steps, parts=[Part("skip", 16, 1, ({-skip}, {skip - 1}), scouted=(0, 1, 4, 13)),
+                                                         Part("n", 1, 2, cases), Part("blocks", 8)])
+
+    def only_rest_is_left(self, m, window, end):
+        """Whether all 128 n bytes of `end` are done. Then n says how often a loop ran, and the last batch begins with the first block."""
+        window.settle(m)
+        whole = m.known(unknown("n")) * 128
+        left = whole - window.origin - window.skip
+        if not m.is_below(m.known(end) - whole + left, 128) or not (m.implied(left) and m.implied(-left)):
+            return False
+        if not is_int(left):
+            m.assume(left)
+        by = m.known(unknown("n")) * 8 - 8 - m.first_block
+        if by != 0:
+            move_on(m, by)
+        return True
 
     def keystream_of_any(self, skip, count, way, wrap, facts=(), **more):
         """States counter mode for `count` bytes, which are after `skip` bytes of a block."""

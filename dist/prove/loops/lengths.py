@@ -146,7 +146,14 @@ def arrive(known, m, back):
 
 def moved_on(m, blocks):
     """Gives a machine whose first block is `blocks` blocks later."""
-    m, d = m.copied(), m.domain
+    m = m.copied()
+    move_on(m, blocks)
+    return m
+
+
+def move_on(m, blocks):
+    """Lets the first block of a machine be `blocks` blocks later."""
+    d = m.domain
 
     def moved(b):
         try:
@@ -157,7 +164,6 @@ def moved_on(m, blocks):
     m.each_byte(moved)
     m.first_block += blocks
     m.origins = {(c, block and block - blocks): on for (c, block), on in m.origins.items() if not block or block > blocks}
-    return m
 
 
 def blocks_in_a_pass(first, second):

@@ -1,7 +1,7 @@
 """Lists faults in the library `aes` that only show at long lengths, or at certain ones. A statement of every length refuses each of them,
 and calls of lengths up to 64 blocks are proved in spite of it."""
 from planted.fault import (BATCHES, BLOCKS, BLOCKS_TO, BLOCKS_WITH, CALL_TO_DECRYPT, CALL_TO_ENCRYPT, CBC, CCM_OPEN, CCM_SEAL, CCM_STREAM,
-                           CMAC_TAG, ENTRY, IN_BATCHES, MEMSET, STANDS_STILL, UNWRAP, WIPE_STACK, WIPE_WORDS, WRAP_PADDED, Fault, call,
+                           CMAC_TAG, COUNTER, ENTRY, IN_BATCHES, MEMSET, STANDS_STILL, UNWRAP, WIPE_STACK, WIPE_WORDS, WRAP_PADDED, Fault, call,
                            exported, fewer, fewer_where_both, function, if_both, low)
 
 CASE, CASE_TO = "any_blocks encrypt 15", "any_blocks encrypt 7 _to"
@@ -185,6 +185,17 @@ LONG_AES_FAULTS = {
         Fault("another status for 2^32 blocks and more under a key", BLOCKS_WITH, found=ENTRY,
               becomes=r"\1\tmovq\t%rcx, %rax\n\tshrq\t$32, %rax\n\tje\t77f\n\tmovl\t$2, %eax\n\tretq\n77:\n",
               case="any_blocks encrypt 1 _with"),
+        Fault("bytes left out of counter mode after 2^20 where their number leaves 13 by 16 and the position 6", COUNTER, found=ENTRY,
+              becomes=lambda found: found[0] + fewer_where_both("r8", 13, "%rdx", 6), case="every_long_keystream"),
+        Fault("a byte left out of counter mode at a position that leaves 6, where there are 75 bytes", COUNTER, found=ENTRY,
+              becomes=lambda found: found[0] + "\tmovq\t%rdx, %r11\n\tandl\t$15, %r11d\n" + if_both(("%r8", 75), ("%r11", 6),
+                                                                                              "\tsubq\t%rax, %r8\n"),
+              case="every_short_keystream"),
+        Fault("2^20 blocks and more refused from one buffer to another where their number leaves 5 by 16", BLOCKS_TO, found=ENTRY,
+              becomes=r"\1" + fewer("rdx", 5), case="every_remainder any_blocks"),
+        Fault("bytes left out of CMAC after 2^20 where a length leaves 9 by 16 and a tag has 12 bytes", exported("aes_cmac_verify"),
+              found=ENTRY, becomes=lambda found: found[0] + fewer_where_both("rdx", 9, "%r8", 12),
+              case="every_remainder any_cmac_verify"),
     ],
     "x86_64/aes_v3": [
         Fault("a count of 32 bits that wraps around", IN_BATCHES, found=r"addq\t\$16, %(r\w+)\n", becomes=in_32_bits("addl\t$16, %%%s\n"),

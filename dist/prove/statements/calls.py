@@ -203,7 +203,7 @@ def places_of_joint(starts, call, part):
 def run_part(m, call, part, stopping):
     """Runs a part of a call to all its ends. `stopping` is called after each instruction."""
     known = lengths.GeneralStates()
-    steps = step_by_step(lambda m: call.steps(m) if m.phase != part.phase else NO_STEP)
+    steps = step_by_step(lambda m: call.steps(m) if call.steps and m.phase != part.phase else NO_STEP)
     return run_to_all_ends(m, call, [steps, stopping, functools.partial(lengths.watch, known)], known)
 
 

@@ -19,6 +19,7 @@ In a call of any length the steps may be a function of the machine. It returns a
     "whole"     the same, as soon as all of a buffer is done
     "refused"   the same, once it is known that the call refuses
     "begun"     another phase begins, in which blocks keep their numbers, as soon as the first block of a buffer is done
+    "now"       the same, at once
     "nothing"   no result is expected yet"""
 import functools
 import re
@@ -30,15 +31,16 @@ from symbols.bits import DATA, KEY, LOST, Unproved
 
 
 NO_STEP = "nothing", (), ()
-PHASE_BEGINNINGS = "again", "return", "whole", "refused", "begun"
+KEEPING_NUMBERS = "begun", "now"
+PHASE_BEGINNINGS = "again", "return", "whole", "refused", *KEEPING_NUMBERS
 
 
 def begins_phase(m, where, want):
     """Whether another phase begins."""
     if where == "return":
         return bool(re.match(m.returns, m.program.lines[m.last]))
-    if where == "begun":
-        return m.regions[want].has_begun(m)
+    if where in KEEPING_NUMBERS:
+        return where == "now" or m.regions[want].has_begun(m)
     return where == "again" or (m.regions[want].is_done(m) if where == "whole" else m.was_refused())
 
 
@@ -56,7 +58,7 @@ def step_by_step(steps):
             m.expected_step = where, want() if callable(want) else want, new
         where, want, new = m.expected_step
         if where in PHASE_BEGINNINGS and begins_phase(m, where, want):
-            m.next_phase() if where == "begun" else m.begin_again(*((want, *new) if want else ()))
+            m.next_phase() if where in KEEPING_NUMBERS else m.begin_again(*((want, *new) if want else ()))
             m.expected_step = None
         if where in PHASE_BEGINNINGS or where == "nothing":
             return
