@@ -37,8 +37,8 @@ BY_NONCE = [facts_of_range(ALL.nonce, n, n) | {longest_text(n) - ALL.text} for n
 # with the text, and with the tag. Then the tag is copied or compared.
 COUNTING, CHAINING = Part(NONCE, 7, 1), (
     Part(NONCE, 7, 1, is_empty_or_not(ALL[1:2])), Part(ADDITIONAL, 16, 3), Part(TEXT, 16, 4), Part(NONCE, 7, 5))
-SEALING = *CHAINING, Part(TAG, 8, 6), COUNTING.later(6), Part(TEXT, 256)
-OPENING = COUNTING, Part(TEXT, 256, 2), *(part.later(2) for part in CHAINING), Part(TAG, 8, 8), COUNTING.later(8), Part(TEXT, 256)
+SEALING = *CHAINING, Part(TAG, 8, 6), COUNTING.later(6), Part(TEXT, 128)
+OPENING = COUNTING, Part(TEXT, 128, 2), *(part.later(2) for part in CHAINING), Part(TAG, 8, 8), COUNTING.later(8), Part(TEXT, 128)
 
 
 class AnyCcm(CmacCcm):
