@@ -11,7 +11,7 @@ a run that was an instance of it stays one."""
 from collections import namedtuple
 
 from loops.lengths import differences_from, general_regions, general_registers, generalized
-from loops.linear import Linear, implied, refuted, rewritten, terms, unknown
+from loops.linear import Linear, implied, names_in, refuted, rewritten, terms, unknown
 from machines.operands import SECRET, is_int
 from machines.regions import Window
 from symbols.bits import DATA, KEY, Unproved
@@ -62,7 +62,7 @@ def names_of_lengths(m, part, rest):
     """Gives the names of unknown numbers whose sizes are looked at where runs with this remainder end: those of its length. With the first
     remainder, and if its length is known, they are those of all lengths."""
     own = terms(m.known(unknown(part.length)))
-    return own if rest and own else {name for fact in m.facts for name in terms(fact)}
+    return own if rest and own else names_in(m.facts)
 
 
 def begins_of(start, part, rests=None):

@@ -105,6 +105,11 @@ def terms(x):
     return dict(x.terms) if isinstance(x, Linear) else {}
 
 
+def names_in(numbers):
+    """Gives the names of the unknowns in these numbers."""
+    return {name for x in numbers for name in terms(x)}
+
+
 def step_of(x):
     """Gives the highest power of two that divides all coefficients. Modulo this power the number is known."""
     power = math.gcd(*(c for _, c in x.terms))

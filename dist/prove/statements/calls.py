@@ -10,7 +10,7 @@ from collections.abc import Callable, Collection, Sequence
 from dataclasses import KW_ONLY, dataclass, field
 
 from loops import joints, lengths
-from loops.linear import implied, is_number, refuted, terms, unknown
+from loops.linear import implied, is_number, names_in, refuted, unknown
 from machines.machine import Allowed
 from machines.native import Native
 from machines.operands import HEAD, Pointer, Question, Verdict, lanes
@@ -121,7 +121,7 @@ def prove_call(domain, program, call, seed=None):
     if seed is None:
         ends = run_to_all_ends(m, call, watches, known)
         if call.any_length:
-            lengths.check_ends(ends, call.facts, {name for fact in call.facts for name in terms(fact)})
+            lengths.check_ends(ends, call.facts, names_in(call.facts))
         return ends[-1]
     m.native = Native(m, seed, call.counter)
     try:
@@ -150,7 +150,7 @@ def machine_before(domain, program, call):
         raise Unproved("two buffers share bytes")
     if refuted(call.facts):
         raise Unproved("no arguments meet its facts")
-    names = {unknown(name) for fact in call.facts for name in terms(fact)}
+    names = {*map(unknown, names_in(call.facts))}
     if not all(implied(call.facts, x) for n in names & domain.sizes.keys() for x in (n, (1 << domain.sizes[n]) - 1 - n)):
         raise Unproved("its numbers have more bits than their bytes")
     return m
@@ -166,6 +166,7 @@ def numbers_of(m, call):
 def prove_parts(m, call):
     """Proves a call part by part. Each part is run from each state in which it may begin, with each remainder of its length."""
     starts = [joints.with_facts(m.copied(), case) for case in call.cases]
+    lengths.check_ends(starts, call.facts, names_in(call.facts))
     for part in call.parts:
         joint, places = joints.Joint(call, part, may_be_secret(call)), places_of_joint(starts, call, part) if part.phase else {}
         for start in starts:
