@@ -15,8 +15,8 @@ from statements.headers import version
 # says which builds and keys have a list. All builds have `most`, except those that takes_few (builds.py) names: these are compiled
 # from the sources of the others. Keys of 24 and 32 bytes have each call once, and the code that loops over round keys. Only the builds of
 # FIRST have `remainders` and `lengths_24_32`. These are other remainders of lengths, and each call at every length with keys of 24 and 32
-# bytes. With PROVE=all they also have `every`, and with keys of 24 and 32 bytes what is also in TABLES. left_out(word, values) says whether
-# builds for RISC-V, with words of so many bytes, leave these arguments out.
+# bytes. With PROVE=all they also have `every`. left_out(word, values) says whether builds for RISC-V, with words of so many bytes, leave
+# these arguments out.
 Row = collections.namedtuple("Row", "name what each most first remainders keys_24_32 lengths_24_32 all_ every left_out",
                              defaults=[()] * 8 + [lambda word, values: False])
 LISTS = Row._fields[2:-1]
@@ -284,8 +284,7 @@ def arguments_taken(row, build, key_size, level):
     if key_size != 16:
         many = [*row.each, *row.most] if level == "all" and not is_late else []
         once = row.keys_24_32 if level == "all" or not is_late else ()
-        every = row.every if level == "all" and is_first and row.name in TABLES else ()
-        return dict.fromkeys([*many, *once, *(row.lengths_24_32 if is_first else ()), *every])
+        return dict.fromkeys([*many, *once, *(row.lengths_24_32 if is_first else ())])
     remainders = row.remainders if is_first else ()
     if level == "all":
         return dict.fromkeys([*row.each, *row.most, *(() if is_late else [*row.first, *row.all_]), *remainders,

@@ -31,7 +31,7 @@ block with every nonce.
 - *Lengths 24, 32*: with these keys, `x86_64/aes.s` and `x86_64/gcm.s`, with `PROVE=builds` and `PROVE=all`.
 - *All*: with `PROVE=all`. The builds of *most* then also have *first* and *all* with keys of 16 bytes, and *each* and *most* with
   other keys. The other builds have *each* and *most* with keys of 16 bytes, and *24, 32* with other keys.
-- *Every*: with keys of 16 bytes, and `every_remainder` also with other keys: these two, with `PROVE=all`.
+- *Every*: with keys of 16 bytes, these two, with `PROVE=all`.
 
 Each build and each size of key also has `set_key` and all refusals. A refusal is proved for all its numbers: unknown counts, positions and
 lengths.

@@ -223,7 +223,8 @@ class Unknowns:
     def copy_all(self, to, source, count):
         """Copies a whole buffer that nothing wrote to another one."""
         a, b = self.window(to), self.window(source)
-        if not (a and b and a.size == b.size == count and a.backwards == b.backwards and a.writable and not b.writable):
+        alike = a and b and (a.backwards, a.skip) == (b.backwards, b.skip)
+        if not (alike and a.size == b.size == count and a.writable and not b.writable):
             raise Unproved("a copy of an unknown number of bytes, and not of a whole buffer")
         a.initial, a.origin, a.end, a.content = b.initial, 0, a.size, []
 
