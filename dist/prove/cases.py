@@ -117,13 +117,11 @@ SHORT = [(*lengths, *way) for way in ((), ("_to",)) for lengths in ((0, 160), (0
 ENDS = range(1, 16)  # how many bytes a message may have after whole blocks
 SAYS_WHOLE = "48 a + r bytes of additional data and 768 n + s of text for every a and n: r, s"
 SAYS_EVERY = "every pair of both lengths"
-SAYS_EVERY_PIECE = "a piece of every length, after every number of bytes"
-SAYS_EVERY_END = "after every pair of numbers of bytes of additional data and of text"
+SAYS_EVERY_PIECE = "every length, after every number of bytes"
 SAYS_NONCE = "; then the way, and r of a nonce of 48 k + r bytes for every k, instead of one of 12 bytes"
 OTHER_NONCES = (0, 129, "", 33), (13, 33, "_to", 0)
 LONGEST = MOST_ADDITIONAL % 48, MOST % 768  # so that the longest allowed lengths are among them
 LONGEST_TOO = (*LONGEST, "_to"), *((*LONGEST, way, MOST_NONCE % 48) for way in ("", "_to"))
-SAYS_PIECE = "%d n + r bytes for every n after 16 k + s for every k%s, and any J_0: s, r"
 SAYS_STATE = "the phase, and how many bytes of additional data and of text came before"
 SAYS_CAME = "the phase; after 16 k + s bytes of additional data and 16 m + t of text for every k and m, and any J_0: s, t"
 
@@ -144,9 +142,10 @@ GCM_ROWS = [
     Row("any_begin", "a nonce of 48 k + r bytes for every k: r", most=[8, LONGEST[0]],
         remainders=[19 * k % 48 for k in range(16) if k not in (5, 8)], lengths_24_32=[8], all_=[0, 12, 33, 47],
         left_out=ON_RISCV_32),
-    *(Row("any_" + call, SAYS_PIECE % (step, ", and 7 of additional data" * (call != "additional")), first=[(3, 46)],
-          lengths_24_32=[(3, 46)], all_=[(15, 48)], left_out=ON_RISCV)
-      for call, step in (("additional", 48), ("verify", 48), ("encrypt", 768), ("decrypt", 768), ("decrypt_unverified", 768))),
+    *(Row("any_" + call, what, first=[(3, 46)], lengths_24_32=[(3, 46)], all_=[(15, 48)], left_out=ON_RISCV)
+      for call, what in (("additional", "48 n + r bytes for every n after 16 k + s for every k, and any J_0: s, r"),
+                         ("verify", "the same, after any additional data"),
+                         *((call, "the same, of 768 n + r bytes") for call in ("encrypt", "decrypt", "decrypt_unverified")))),
     Row("seal", SAYS_LENGTHS + ", and a nonce of another length", each=[(13, 33), (13, 33, (), "_to"), *FEW["seal"]],
         most=[(0, 0), (0, 5), (1, 1), (13, 0), (16, 16), (20, 64), (32, 32), (49, 1), (0, 449, ANY_J_0_NONCE), (0, 0, (), "_to"),
               *((5, 20, nonce) for nonce in NONCES)],
@@ -199,8 +198,11 @@ GCM_ROWS = [
            [(VERIFYING, 0, 7, 12), *((ADDITIONAL, 5, 0, n) for n in SHORT_TAGS)],
            [(VERIFYING, 0, 7, n) for n in SHORT_TAGS if n != 12]))),
     *(Row("every_" + call, SAYS_EVERY_PIECE, every=ONCE) for call in ("additional", "verify")),
-    Row("every_finish", SAYS_EVERY_END, every=ONCE),
-    Row("every_accept", SAYS_EVERY_END + "; also of what is refused, and of a shorter tag", every=[(), *SHORT_TAGS])]
+    *(Row("every_" + call, what, every=["first", "blocks"]) for call, what in (
+        ("encrypt", "every length of the first piece of a text, or of one after whole blocks"), ("decrypt_unverified", "the same"))),
+    Row("every_decrypt", "every length, after whole blocks", every=ONCE),
+    Row("every_finish", "after every number of bytes of additional data and of text", every=ONCE),
+    Row("every_accept", "the same; also of what is refused, and of a shorter tag", every=[(), *SHORT_TAGS])]
 
 # Where calls of every length aren't proved (Row.left_out). Some have one longer length.
 LONG = 2048  # bytes

@@ -1,6 +1,6 @@
 """States the calls of fotsgure_gcm.h for pieces of messages, at every length. A piece has 48 n + `rest` bytes for every n, or 768 n +
-`rest` where the text changes. Before it came 16 u + `filled` bytes, for every u. Statements that begin with `every` have every pair of
-such numbers, part by part (joints.py)."""
+`rest` where the text changes. Before it came 16 u + `filled` bytes, for every u. Statements that begin with `every` have every length,
+part by part (joints.py)."""
 from gcm_statements.byte_counts import Counts, any_came, bytes_of_counts
 from gcm_statements.gcm_header import ADDITIONAL, DECRYPTING, ENCRYPTING, MOST, MOST_ADDITIONAL, REST, VERIFYING
 from gcm_statements.pre_counter import ANY_J_0, any_pre_counter
@@ -18,7 +18,10 @@ OF_ADDITIONAL, FILLED, LEFT = "bytes of the last block of additional data", "byt
 # The parts in which GHASH reads a piece: the bytes that fill up a block, and those that are left then. The first piece of a text ends the
 # additional data before.
 HASHING = Part(FILLED, 16, 1), Part(LEFT, GROUP)
-FIRST = Part(OF_ADDITIONAL, 16, 1), HASHING[-1]
+ENDING = Part(OF_ADDITIONAL, 16, 1)
+# The same where a text is encrypted before, or decrypted afterwards: 128 bytes at once. Then it begins with a block.
+ENCRYPTING_FIRST = Part(LEFT, 128, 1), Part(LEFT, GROUP)
+DECRYPTING_LAST = Part(LEFT, GROUP, 3), Part(LEFT, 128)
 SHORT = [(filled, count) for filled in range(16) for count in range(16 - filled)]  # pieces that don't fill up a block
 
 
@@ -45,8 +48,8 @@ class AnyPiece:
         return Counts(came, 0, 0, ADDITIONAL)
 
     def any_step(self, m, *phases):
-        """Gives the next step of a call whose first piece of a text ends the additional data. `phases` has functions that give the next step
-        of later phases."""
+        """Gives the next step of a call. Where the first piece of a text ends the additional data, this is a phase of its own. `phases` has
+        functions that give the next step of the phases after it."""
         phase = m.phase - self.is_first
         return self.end_of_additional(m) if phase < 0 else phases[phase](m) if phase < len(phases) else NO_STEP
 
@@ -76,8 +79,8 @@ class AnyPiece:
 
     def hash_rest(self, m):
         """Gives the next step of GHASH of whole blocks after the first one. Then blocks are numbered again."""
-        keyed, left = self.keyed, m.known(self.left)
-        return keyed.any_group(m, keyed.middle_value(), self.bytes, left - left_of_block(left), len(keyed.kept_powers()), [], keyed.last_value())
+        keyed, left, many = self.keyed, m.known(self.left), len(self.keyed.kept_powers())
+        return keyed.any_group(m, keyed.middle_value(), self.bytes, left - left_of_block(left), many, [], keyed.last_value())
 
     def hash_last(self, m):
         """Does the same for calls that end then."""
@@ -154,7 +157,8 @@ class AnyPieces:
         return self.verify_of(filled, any_left(filled, rest, GROUP))
 
     def every_verify(self):
-        return [*self.short_pieces("verify", VERIFYING), self.verify_of(0, unknown(LEFT), FIRST, True),
+        return [*self.short_pieces("verify", VERIFYING, False), *self.short_pieces("verify", VERIFYING, True),
+                self.verify_of(0, unknown(LEFT), (ENDING, HASHING[-1]), True),
                 self.verify_of(unknown(FILLED), unknown(LEFT), HASHING)]
 
     def verify_of(self, filled, left, parts=(), is_first=False):
@@ -170,10 +174,17 @@ class AnyPieces:
                                     [Stream("text", piece.size, self.pattern(piece.bytes)), piece.size], facts=piece.facts | {fits},
                                     steps=lambda m: piece.any_step(m, piece.fill_up, piece.hash_first, piece.hash_last), parts=parts)
 
-    def short_pieces(self, call, phase):
-        """Gives calls for pieces of a text that don't fill up a block, and for first pieces of less than a block."""
-        return [*(self.any_then_piece(call, phase, None, filled, count) for filled, count in SHORT),
-                *(self.any_then_piece(call, ADDITIONAL, rest, 0, count) for rest in range(16) for count in range(16))]
+    def short_pieces(self, call, phase, is_first):
+        """Gives calls for the first pieces of a text that have less than a block, or for later pieces that don't fill up a block."""
+        if is_first:
+            return [self.any_then_piece(call, ADDITIONAL, rest, 0, count) for rest in range(16) for count in range(16)]
+        return [self.any_then_piece(call, phase, None, filled, count) for filled, count in SHORT]
+
+    def from_block_on(self, call, state, phase, is_first, parts):
+        """Gives calls that state(filled, left, parts, is_first) and short_pieces state, for the first piece of a text, or for a piece after
+        whole blocks."""
+        parts = [ENDING, *(part.later(1) for part in parts)] if is_first else parts
+        return [*self.short_pieces(call, phase, is_first), state(0, unknown(LEFT), parts, is_first)]
 
     # Pieces of a text that changes.
     def crypted(self, piece):
@@ -185,6 +196,9 @@ class AnyPieces:
 
     def any_encrypt(self, filled, rest):
         return self.encrypt_of(filled, any_left(filled, rest, 768))
+
+    def every_encrypt(self, which):
+        return self.from_block_on("encrypt", self.encrypt_of, ENCRYPTING, which == "first", ENCRYPTING_FIRST)
 
     def encrypt_of(self, filled, left, parts=(), is_first=False):
         """States a call that encrypts first. Then the encrypted text becomes arbitrary bytes, and GHASH reads these."""
@@ -202,6 +216,10 @@ class AnyPieces:
     def any_decrypt(self, filled, rest):
         return self.decrypt_of(filled, any_left(filled, rest, 768))
 
+    def every_decrypt(self):
+        short = [self.any_then_decrypt(None, filled, count) for filled, count in SHORT]
+        return [*short, self.decrypt_of(0, unknown(LEFT), DECRYPTING_LAST[1:])]
+
     def decrypt_of(self, filled, left, parts=()):
         """States a call that decrypts a piece of a text whose tag was right, and doesn't hash it. `more` bytes of that text follow the
         piece."""
@@ -214,10 +232,13 @@ class AnyPieces:
         more["facts"] |= {unknown("more"), MOST - before.text}
         return self.call_on_message("decrypt", self.any_before(before), lambda m: piece.first_bytes(m, after) + state,
                                     [Stream("text", piece.size, sealed, plain), piece.size], plain=self.in_all_blocks(plain), parts=parts,
-                                    **more)
+                                    steps=lambda m: NO_STEP, **more)
 
     def any_decrypt_unverified(self, filled, rest):
         return self.decrypt_unverified_of(filled, any_left(filled, rest, 768))
+
+    def every_decrypt_unverified(self, which):
+        return self.from_block_on("decrypt_unverified", self.decrypt_unverified_of, VERIFYING, which == "first", DECRYPTING_LAST)
 
     def decrypt_unverified_of(self, filled, left, parts=(), is_first=False):
         """States a call where GHASH comes first. What the piece leaves of a block becomes arbitrary bytes before blocks are numbered

@@ -131,7 +131,10 @@ class Window(Region):
 
     def begin_again(self, initial, want=None, undoes=False, head=0):
         """Lets blocks that are done be read once more, as `initial`. Then they become what `want` says, or nothing more is written. With
-        `undoes` they only change in a call that is refused. The first `head` bytes are left out: they can't be accessed any more."""
+        `undoes` they only change in a call that is refused. The first `head` bytes are left out, if nothing was written: they can't be
+        accessed any more."""
+        if head and not self.is_untouched():
+            raise Unproved("leaves out bytes of a buffer that was written to")
         self.initial = initial
         self.head, self.size, self.end = self.head + head, self.size - head, self.end - head
         self.origin = 0

@@ -103,8 +103,14 @@ def if_both(first, second, then):
     return "\txorl\t%eax, %eax\n\txorl\t%r10d, %r10d\n" + "".join(flags) + "\taddl\t%r10d, %eax\n\tshrl\t$1, %eax\n" + then
 
 
+def where_both(first, second):
+    """Sets rax to -1 where two lengths leave certain remainders by 16, given as (a place, a remainder), and else to 0."""
+    masks = ["\tmovq\t%s, %%r10\n" % place + mask("r10", rest) for place, rest in (first, second)]
+    return masks[0] + "\tmovq\t%rax, %r11\n" + masks[1] + "\tandq\t%r11, %rax\n"
+
+
 def fewer_where_both(register, rest, place, other):
     """Gives instructions that reduce a length by 1 for each 2^20 in it, if its remainder by 16 is `rest`, and that of the length at a place
     is `other`. They have no jump and no condition."""
-    both = mask(register, rest) + "\tmovq\t%rax, %r11\n\tmovq\t" + place + ", %r10\n" + mask("r10", other) + "\tandq\t%r11, %rax\n"
-    return both + "\tmovq\t%%%s, %%r11\n\tshrq\t$20, %%r11\n\tandq\t%%r11, %%rax\n\tsubq\t%%rax, %%%s\n" % (register, register)
+    less = "\tmovq\t%%%s, %%r11\n\tshrq\t$20, %%r11\n\tandq\t%%r11, %%rax\n\tsubq\t%%rax, %%%s\n" % (register, register)
+    return where_both(("%" + register, rest), (place, other)) + less

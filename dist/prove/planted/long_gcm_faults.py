@@ -1,7 +1,7 @@
 """Lists faults in the library `gcm` that only show at long lengths, or at certain ones. A statement of every length refuses each of them,
 and calls of lengths up to 64 blocks are proved in spite of it."""
 from planted.fault import (CALL_TO_ENCRYPT, ENTRY, FINISH, GCTR, HASH_ON, HASH_PIECE, IS_SHORT_TAG, MEMSET, OPEN, PUT_TAG, SEAL, SIV_OPEN,
-                           STANDS_STILL, Fault, call, exported, fewer, fewer_where_both, function, if_both, low, second)
+                           STANDS_STILL, Fault, call, exported, fewer, fewer_where_both, function, if_both, low, second, where_both)
 
 # In GHASH: the end of the loop over groups of three blocks. One register points to the next group, another counts those that are left.
 THREES = r"\taddq\t\$48, %(?P<at>r\w+)\n\tdecq\t%(?P<left>r\w+)\n"
@@ -59,6 +59,15 @@ LONG_GCM_FAULTS = {
               becomes=r"\1\tcmpq\t$14, %rcx\n\tjne\t77f\n\tcmpq\t$9, (%rsi)\n\tjne\t77f\n\tcmpq\t$0, 8(%rsi)\n\tjne\t77f\n\tdecq\t%rcx\n"
                       r"77:\n",
               case="at_ends any_accept"),
+        Fault("bytes of additional data left out after 2^20 where a piece and what came before leave certain remainders",
+              exported("gcm_additional"), found=ENTRY, becomes=lambda found: found[0] + fewer_where_both("rcx", 9, "(%rsi)", 5),
+              case="every_additional"),
+        Fault("bytes of a first piece left out after 2^20 where it and the additional data leave certain remainders",
+              exported("gcm_encrypt"), found=ENTRY, becomes=lambda found: found[0] + fewer_where_both("rcx", 9, "(%rsi)", 5),
+              case="every_encrypt first"),
+        Fault("a byte of a short tag not compared where both numbers of bytes that came leave certain remainders", IS_SHORT_TAG,
+              found=ENTRY, becomes=lambda found: found[0] + where_both(("(%rsi)", 3), ("8(%rsi)", 9)) + "\taddq\t%rax, %rcx\n",
+              case="every_accept 14"),
         Fault("three blocks left out of the hash of a piece after 2^16", HASH_ON, found=THREES, becomes=LEFT_OUT,
               case="any_additional 3 46"),
         Fault("an aligned load of additional data of any length", HASH_ON, found=r"movdqu\t(-32\(%rbp\)), ", becomes=r"movdqa\t\1, ",
