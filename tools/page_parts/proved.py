@@ -19,9 +19,8 @@ This page is made by `tools/pages` from [cases.py](cases.py). [The first page](R
 
 Each row is a statement: a method of `KeyedAes`, `KeyedGcm` or `KeyedSiv`. Its docstring quotes the header. A statement whose name begins
 with `any_` is proved at every length of the form in its row. One whose name begins with `every_` is proved at every length, or at every pair
-of lengths. Others are proved at the lengths that are listed. A semicolon separates entries of a list. Long lists go on in the next rows.
-`_to` and `_with` are the calls with these endings. If a nonce doesn't have 12 bytes, J_0 is any block. In messages in pieces it is any
-block with every nonce.
+of lengths. Others are proved at the lengths that are listed. A semicolon separates entries of a list. `_to` and `_with` are the calls with
+these endings. If a nonce doesn't have 12 bytes, J_0 is any block. In messages in pieces it is any block with every nonce.
 
 - *Each*: all builds, with keys of 16 bytes.
 - *Most*: with keys of 16 bytes, all builds except `_v1` and those for Windows and RISC-V. Without `PROVE` also not `_v3`.
@@ -33,8 +32,7 @@ block with every nonce.
   other keys. The other builds have *each* and *most* with keys of 16 bytes, and *24, 32* with other keys.
 - *Every*: with keys of 16 bytes, these two, with `PROVE=all`.
 
-Each build and each size of key also has `set_key` and all refusals. A refusal is proved for all its numbers: unknown counts, positions and
-lengths.
+Each build and each size of key also has `set_key` and [all refusals](LENGTHS.md#longest-lengths-borders-and-refusals).
 """
 RISCV = """
 ## RISC-V
