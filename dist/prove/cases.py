@@ -199,8 +199,8 @@ GCM_ROWS = [
            [(VERIFYING, 0, 7, n) for n in SHORT_TAGS if n != 12]))),
     *(Row("every_" + call, SAYS_EVERY_PIECE, every=ONCE) for call in ("additional", "verify")),
     *(Row("every_" + call, what, every=["first", "blocks"]) for call, what in (
-        ("encrypt", "every length of the first piece of a text, or of one after whole blocks"), ("decrypt_unverified", "the same"))),
-    Row("every_decrypt", "every length, after whole blocks", every=ONCE),
+        ("encrypt", "every first piece of a text, or one after whole blocks"), ("decrypt_unverified", "the same"))),
+    Row("every_decrypt", "every one after whole blocks", every=ONCE),
     Row("every_finish", "after every number of bytes of additional data and of text", every=ONCE),
     Row("every_accept", "the same; also of what is refused, and of a shorter tag", every=[(), *SHORT_TAGS])]
 
