@@ -1,8 +1,8 @@
 """Lists faults in the library `aes` that only show at long lengths, or at certain ones. A statement of every length refuses each of them,
 and calls of lengths up to 64 blocks are proved in spite of it."""
 from planted.fault import (BATCHES, BLOCKS, BLOCKS_TO, BLOCKS_WITH, CALL_TO_DECRYPT, CALL_TO_ENCRYPT, CBC, CCM_OPEN, CCM_SEAL, CCM_STREAM,
-                           CMAC_TAG, COUNTER, ENTRY, IN_BATCHES, MEMSET, STANDS_STILL, UNWRAP, WIPE_STACK, WIPE_WORDS, WRAP_PADDED, Fault, call,
-                           exported, fewer, fewer_where_both, function, if_both, low)
+                           CMAC_TAG, COUNTER, ENTRY, IN_BATCHES, MEMSET, STANDS_STILL, UNWRAP, WIPE_STACK, WIPE_WORDS, WRAP_PADDED, Fault,
+                           call, exported, fewer, fewer_where_both, function, if_both, low)
 
 CASE, CASE_TO = "any_blocks encrypt 15", "any_blocks encrypt 7 _to"
 KEYSTREAM, CHAIN = exported("aes_add_keystream"), function("cmac::chaining::chain")
