@@ -17,6 +17,8 @@ MANY = r"(?=[\s\S]*?\tmovq\t%rcx, %(?P<count>r\w+)\n)(?=[\s\S]*?\tmovq\t%rdi, %(
 IN_MANY = [MANY + r"(?P<before>[\s\S]*?)(?P<call>" + called + ")" for called in (WIPE_WORDS, WIPE_STACK)]
 # In call_to_encrypt: the addition to the counter's halves for a block of a batch. A register has how many bytes of the text are done.
 CARRY = r"(?P<before>\taddq\t\$128, %%(?P<done>r\w+)\n[\s\S]*?\taddq\t\$%d, %%r\w+\n(?:\tmovq\t.*\n)?)\tadcq\t\$0, %%(?P<high>r\w+)\n"
+# In counter mode: sets r11 to the remainder of the position.
+POSITION_BY_16 = "\tmovq\t%rdx, %r11\n\tandl\t$15, %r11d\n"
 # The call in CCM's `decrypt` that encrypts a refused text again.
 AGAIN = r"(?P<before>%s[\s\S]*?)(?P<call>%s)" % (CCM_STREAM, CCM_STREAM)
 # In key wrap: NUMBER is where the number of a step is used, in W and in its inverse. TURN is the end of the loop in a turn of W. A
@@ -188,8 +190,7 @@ LONG_AES_FAULTS = {
         Fault("bytes left out of counter mode after 2^20 where their number leaves 13 by 16 and the position 6", COUNTER, found=ENTRY,
               becomes=lambda found: found[0] + fewer_where_both("r8", 13, "%rdx", 6), case="every_long_keystream"),
         Fault("a byte left out of counter mode at a position that leaves 6, where there are 75 bytes", COUNTER, found=ENTRY,
-              becomes=lambda found: found[0] + "\tmovq\t%rdx, %r11\n\tandl\t$15, %r11d\n" + if_both(("%r8", 75), ("%r11", 6),
-                                                                                              "\tsubq\t%rax, %r8\n"),
+              becomes=lambda found: found[0] + POSITION_BY_16 + if_both(("%r8", 75), ("%r11", 6), "\tsubq\t%rax, %r8\n"),
               case="every_short_keystream"),
         Fault("2^20 blocks and more refused from one buffer to another where their number leaves 5 by 16", BLOCKS_TO, found=ENTRY,
               becomes=r"\1" + fewer("rdx", 5), case="every_remainder any_blocks"),
