@@ -194,8 +194,7 @@ GCM_ROWS = [
            [(VERIFYING, 0, 7, 12), *((ADDITIONAL, 5, 0, n) for n in SHORT_TAGS)],
            [(VERIFYING, 0, 7, n) for n in SHORT_TAGS if n != 12]))),
     *(Row("every_" + call, SAYS_EVERY_PIECE, pairs=ONCE) for call in ("additional", "verify")),
-    *(Row("every_" + call, what, pairs=["first", "blocks"]) for call, what in (
-        ("encrypt", "every length of the first piece of a text, or of one after whole blocks"), ("decrypt_unverified", "the same"))),
+    *(Row("every_first_" + call, "every length of the first piece of a text", pairs=ONCE) for call in ("encrypt", "decrypt_unverified")),
     Row("every_decrypt", "every length, after whole blocks", pairs=ONCE),
     Row("every_finish", "after every number of bytes of additional data and of text", pairs=ONCE),
     Row("every_accept", "the same; also of what is refused, and of a shorter tag", pairs=[(), *SHORT_TAGS])]
