@@ -157,8 +157,8 @@ class AnyPieces:
         return self.verify_of(filled, any_left(filled, rest, GROUP))
 
     def every_verify(self):
-        return [*self.short_pieces("verify", VERIFYING, False), *self.short_pieces("verify", VERIFYING, True),
-                self.verify_of(0, unknown(LEFT), (ENDING, HASHING[-1]), True),
+        short = [self.any_then_piece("verify", VERIFYING, None, filled, count) for filled, count in SHORT]
+        return [*self.first_pieces("verify", self.verify_of, HASHING[1:]), *short,
                 self.verify_of(unknown(FILLED), unknown(LEFT), HASHING)]
 
     def verify_of(self, filled, left, parts=(), is_first=False):
@@ -174,17 +174,11 @@ class AnyPieces:
                                     [Stream("text", piece.size, self.pattern(piece.bytes)), piece.size], facts=piece.facts | {fits},
                                     steps=lambda m: piece.any_step(m, piece.fill_up, piece.hash_first, piece.hash_last), parts=parts)
 
-    def short_pieces(self, call, phase, is_first):
-        """Gives calls for the first pieces of a text that have less than a block, or for later pieces that don't fill up a block."""
-        if is_first:
-            return [self.any_then_piece(call, ADDITIONAL, rest, 0, count) for rest in range(16) for count in range(16)]
-        return [self.any_then_piece(call, phase, None, filled, count) for filled, count in SHORT]
-
-    def from_block_on(self, call, state, phase, is_first, parts):
-        """Gives calls that state(filled, left, parts, is_first) and short_pieces state, for the first piece of a text, or for a piece after
-        whole blocks."""
-        parts = [ENDING, *(part.later(1) for part in parts)] if is_first else parts
-        return [*self.short_pieces(call, phase, is_first), state(0, unknown(LEFT), parts, is_first)]
+    def first_pieces(self, call, state, parts):
+        """Gives calls for the first piece of a text of every length, which `state` states. `parts` come after the end of the additional
+        data."""
+        short = [self.any_then_piece(call, ADDITIONAL, rest, 0, count) for rest in range(16) for count in range(16)]
+        return [*short, state(0, unknown(LEFT), [ENDING, *(part.later(1) for part in parts)], True)]
 
     # Pieces of a text that changes.
     def crypted(self, piece):
@@ -197,8 +191,8 @@ class AnyPieces:
     def any_encrypt(self, filled, rest):
         return self.encrypt_of(filled, any_left(filled, rest, 768))
 
-    def every_encrypt(self, which):
-        return self.from_block_on("encrypt", self.encrypt_of, ENCRYPTING, which == "first", ENCRYPTING_FIRST)
+    def every_first_encrypt(self):
+        return self.first_pieces("encrypt", self.encrypt_of, ENCRYPTING_FIRST)
 
     def encrypt_of(self, filled, left, parts=(), is_first=False):
         """States a call that encrypts first. Then the encrypted text becomes arbitrary bytes, and GHASH reads these."""
@@ -237,8 +231,8 @@ class AnyPieces:
     def any_decrypt_unverified(self, filled, rest):
         return self.decrypt_unverified_of(filled, any_left(filled, rest, 768))
 
-    def every_decrypt_unverified(self, which):
-        return self.from_block_on("decrypt_unverified", self.decrypt_unverified_of, VERIFYING, which == "first", DECRYPTING_LAST)
+    def every_first_decrypt_unverified(self):
+        return self.first_pieces("decrypt_unverified", self.decrypt_unverified_of, DECRYPTING_LAST)
 
     def decrypt_unverified_of(self, filled, left, parts=(), is_first=False):
         """States a call where GHASH comes first. What the piece leaves of a block becomes arbitrary bytes before blocks are numbered

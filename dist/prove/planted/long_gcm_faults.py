@@ -64,7 +64,7 @@ LONG_GCM_FAULTS = {
               case="every_additional"),
         Fault("bytes of a first piece left out after 2^20 where it and the additional data leave certain remainders",
               exported("gcm_encrypt"), found=ENTRY, becomes=lambda found: found[0] + fewer_where_both("rcx", 9, "(%rsi)", 5),
-              case="every_encrypt first"),
+              case="every_first_encrypt"),
         Fault("a byte of a short tag not compared where both numbers of bytes that came leave certain remainders", IS_SHORT_TAG,
               found=ENTRY, becomes=lambda found: found[0] + where_both(("(%rsi)", 3), ("8(%rsi)", 9)) + "\taddq\t%rax, %rcx\n",
               case="every_accept 14"),
