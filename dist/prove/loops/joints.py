@@ -220,6 +220,8 @@ def state_between(runs, names):
         if type(v) is type(w := second.general[r]) is tuple:
             state.general[r] = tuple(byte_between(state, *both, more) for both in zip(v, w))
     general_regions(state, first, second, more)
+    own, *others = (x.regions["stack"].content for x in (state, first, second))
+    own[:] = [byte_between(state, x, y, more) if x != y and b == state.any_byte() else b for b, x, y in zip(own, *others)]
     for region, other in zip(state.regions.values(), second.regions.values()):
         if isinstance(region, Window):
             for what in "size", "end", "head", "skip":
