@@ -73,6 +73,10 @@ static void slices(size_t size)
             same &= fotsgure_aes_encrypt_blocks(&aes, single + 1 + 16 * i, 1) == FOTSGURE_AES_DONE;
         same &= fotsgure_aes_encrypt_blocks_to(&aes, text + 1, count, other + 1, count) == FOTSGURE_AES_DONE;
         same &= !memcmp(whole, single, sizeof text) && !memcmp(whole, other, sizeof text);
+        same &= fotsgure_aes_decrypt_blocks_with(counted + 1, size, other + 1, count) == FOTSGURE_AES_DONE;
+        same &= !memcmp(other, text, sizeof text);
+        same &= fotsgure_aes_encrypt_blocks_with(counted + 1, size, other + 1, count) == FOTSGURE_AES_DONE;
+        same &= !memcmp(other, whole, sizeof text);
         same &= (count == 0) == !memcmp(whole, text, sizeof text);
         for (size_t i = 0; i < count; i++)
             same &= fotsgure_aes_decrypt_blocks(&aes, single + 1 + 16 * i, 1) == FOTSGURE_AES_DONE;
@@ -81,7 +85,7 @@ static void slices(size_t size)
         same &= !memcmp(whole, text, sizeof text) && !memcmp(single, text, sizeof text) &&
             !memcmp(other, text, sizeof text);
     }
-    expect(same, "0 to 40 blocks, in place, to a buffer and one by one", size);
+    expect(same, "0 to 40 blocks, in place, to a buffer, in one call and one by one", size);
 }
 
 /* A row of F.5, ready for calls. */
@@ -156,7 +160,8 @@ static void stream_end(const struct stream *row)
         fotsgure_aes_add_keystream_with(row->key, row->size, &ctr, bytes, 4) == FOTSGURE_AES_KEYSTREAM_END &&
         !memcmp(bytes, plain, 64) && ctr.position == UINT64_MAX - 3, "the other calls refuse it too", row->size);
     expect(fotsgure_aes_add_keystream(aes, &ctr, bytes, 3) == FOTSGURE_AES_DONE &&
-        ctr.position == UINT64_MAX, "up to the end", row->size);
+        ctr.position == UINT64_MAX && fotsgure_aes_add_keystream(aes, &ctr, bytes, 1) == FOTSGURE_AES_KEYSTREAM_END,
+        "up to the end, and no byte more", row->size);
 }
 
 static void counter_mode(size_t size, const char *key_digits, const char *digits)
@@ -319,7 +324,8 @@ static void tags(size_t row)
             right &= fotsgure_aes_cmac_verify(&aes, message, length, tag, 16) == FOTSGURE_AES_REFUSED;
             tag[at] ^= 0x80;
         }
-        expect(right, "tags of each length, and with each byte changed", length);
+        right &= fotsgure_aes_cmac_verify(&aes, message, length ? length - 1 : 1, tag, 16) == FOTSGURE_AES_REFUSED;
+        expect(right, "tags of each length, with each byte changed, and of another message", length);
     }
 }
 
@@ -369,10 +375,14 @@ static void lengths_of_messages(void)
         int is_tag = size >= 4 && size <= 16 && size % 2 == 0;
         right &= fotsgure_aes_ccm_seal(&aes, nonce, 12, NULL, 0, NULL, 0, tag, size) ==
             (is_tag ? FOTSGURE_AES_DONE : FOTSGURE_AES_TAG_LENGTH);
+        right &= fotsgure_aes_ccm_open(&aes, nonce, 12, NULL, 0, NULL, 0, tag, size) ==
+            (is_tag ? FOTSGURE_AES_DONE : FOTSGURE_AES_TAG_LENGTH);
     }
-    for (size_t size = 0; size <= 15; size++)
-        right &= fotsgure_aes_ccm_seal(&aes, nonce, size, NULL, 0, NULL, 0, tag, 8) ==
-            (size >= 7 && size <= 13 ? FOTSGURE_AES_DONE : FOTSGURE_AES_NONCE_LENGTH);
+    for (size_t size = 0; size <= 15; size++) {
+        enum fotsgure_aes_status status = size >= 7 && size <= 13 ? FOTSGURE_AES_DONE : FOTSGURE_AES_NONCE_LENGTH;
+        right &= fotsgure_aes_ccm_seal(&aes, nonce, size, NULL, 0, NULL, 0, tag, 8) == status;
+        right &= fotsgure_aes_ccm_open(&aes, nonce, size, NULL, 0, NULL, 0, tag, 8) == status;
+    }
     right &= fotsgure_aes_ccm_seal(&aes, nonce, 13, NULL, 0, text, 65536, tag, 8) == FOTSGURE_AES_TOO_LONG;
     right &= fotsgure_aes_ccm_open(&aes, nonce, 13, NULL, 0, text, 65536, tag, 8) == FOTSGURE_AES_TOO_LONG;
     right &= fotsgure_aes_ccm_seal(&aes, nonce, 13, NULL, 0, text, 65535, tag, 8) == FOTSGURE_AES_DONE;

@@ -32,7 +32,7 @@ static void calls_without_key(const struct fotsgure_aes *aes, size_t wiped)
     size_t length = 7;
     fill(text, sizeof text, 7);
     memcpy(bytes, text, sizeof text);
-    expect(fotsgure_aes_encrypt_blocks(aes, bytes, 3) == FOTSGURE_AES_NO_KEY &&
+    expect(fotsgure_aes_key_length(aes) == 0 && fotsgure_aes_encrypt_blocks(aes, bytes, 3) == FOTSGURE_AES_NO_KEY &&
         fotsgure_aes_decrypt_blocks(aes, bytes, 3) == FOTSGURE_AES_NO_KEY &&
         fotsgure_aes_encrypt_blocks_to(aes, counted, 2, bytes, 2) == FOTSGURE_AES_NO_KEY &&
         fotsgure_aes_decrypt_blocks_to(aes, counted, 2, bytes, 2) == FOTSGURE_AES_NO_KEY &&

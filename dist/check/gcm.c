@@ -1,6 +1,8 @@
 /* The library of GCM from C. Messages in pieces are in pieces.h, and AES-GCM-SIV is in siv.h. The last line is
  * `PROGRAM: N passed, M failed`. It tries:
  * - test cases 1 to 4, 13 and 16 of the submission of GCM (McGrew and Viega, appendix B), also from buffer to buffer;
+ * - messages of NIST's, in gcmEncryptExtIV128.rsp, 192 and 256: the first of each with a text of 51 bytes, a tag of 16, and 12, 1 and
+ *   128 bytes of a nonce, 48, 20 and 90 of additional data;
  * - nonces under which the counter wraps;
  * - texts of 0 to 700 bytes there and back, and with WITH_OPENSSL against OpenSSL;
  * - every status, that nothing is written after a refusal, and NULL with a length of 0;
@@ -54,7 +56,6 @@ static int is_emptied(const void *bytes, size_t count, uint8_t before)
  * chosen to end in fffffffd and in ffffffff. So the third block, or the first, is that of the counter 0. The nonce N of one
  * block follows from J_0 = (N H + L) H, where L is the block of its length. The cipher texts and tags are those of OpenSSL's
  * libcrypto. */
-enum { WRAPS = 2, WRAP_LENGTH = 70 };
 #define WRAP_THIRD "520f83f07980ff6e39a219f2b2be77da"
 #define WRAP_FIRST "4384f2e1345fa9cc9d0989c25d707885"
 #define WRAP_ADDITIONAL "feedfacedeadbeef"
@@ -72,6 +73,25 @@ static const struct { const char *key, *nonce, *additional, *plain, *cipher, *ta
     {KEY, NONCE, ADDITIONAL, PLAIN, CIPHER_16, "5bc94fbc3221a5db94fae95ae7121a47"},
     {ZERO_KEY ZERO_KEY, ZERO_NONCE, "", "", "", "530f8afbc74536b9a963b4f1c4cb738b"},
     {KEY KEY, NONCE, ADDITIONAL, PLAIN, CIPHER_32, "76fc6ece0f4e1768cddf8853bb2d551b"},
+    {"3c50622868f450aa0928990c15e1eb36", "811d5290768d57e7d87bb6c7",
+        "dae2c7e0a3d3fd2bc04eca19b15178a003b5cf84890c28c2a615f20f8adb427f70698c12b2ef87780c1193fbb8cd1674",
+        "edd0a8f82833e919740fe2bf9edecf4ac86c72dc89490cef7b6983aaaf99fc856c5cc87d63f98a7c861bf3271fea6da86a15ab",
+        "a51425b0608d3b4b46d4ec05ca1ddaf02bdd2089ae0554ecfb2a1c84c63d82dc71ddb9ab1b1f0b49de2ad27c2b5173e7000aa6",
+        "bd9b5efca48008cd973a4f7d2c723844"},
+    {"5239df04663a1cad2db6eca280cfda6a592baf88c49725c4", "28",
+        "e7139e5c3698f3dc5c67dd4ef16dd991c9d60b7e",
+        "f577fef731dba70d2859ec2b3177b03c1855660a016632a9968983a917a335d33191ccba85dcd844009da10ab9411f11ce84ff",
+        "ecffc2c4f2c6798bcd61205b18f4453d5fec4676cd465549fbe576b32dec9a1fa41d91b3738ca3b54755ce225f71ab61a96e91",
+        "926b3cdcdfe6fd285526c1e52da7f30e"},
+    {"65b7171b55b22edd711a076f2eb6a125e873993e8d54564cd62d03c665cd6374",
+        "54d118d32a56138f04212684b1e47c5d6808c128996e1d6ebf739ef9ff138aac1181fcde820a5f68749e1fed791314c73c54169aee5556bf"
+        "206998d95432719fc9ffe22fbbc4925f32774d31e075393c0907e27c3f40da02c424b402eff596f6300b881b8f561d5ae4535a1fa9d4bafe"
+        "86dd6751b0da245ae7b74ddcc3f5033c",
+        "4a3b04decbec0a549666e87036e78433b896270792e7932810c38eb063139ade6a4befd4dfdb38d53cdb95accbdee7ad5478c3bc55a21226"
+        "c2b0fa79fe7c30262fa5383de3d3b45e951d7ef955f3a18b9689783898bedb66f0b8",
+        "0521e41d827d6104ecdab1f8e7fb70cd8abca87500ecd36e65906194327b1b61014fd310f4e1bf7d5bf356a5d731c0d0d47c7e",
+        "2ecf7a3a35abb50d212588c2ef50880212b53c052738767c9ea215709208afae6e94acd68980207bf63382495be1acde784b92",
+        "49563e12797eefbee2fd75a1e844869b"},
     {KEY, WRAP_THIRD, WRAP_ADDITIONAL, WRAP_PLAIN, WRAP_CIPHER_THIRD, "2bb267d3f606892268029de02d67a467"},
     {KEY, WRAP_FIRST, WRAP_ADDITIONAL, WRAP_PLAIN, WRAP_CIPHER_FIRST, "7588ddf7ad6e4dc32185f8861ef1b8d8"},
 };
@@ -79,7 +99,7 @@ static const struct { const char *key, *nonce, *additional, *plain, *cipher, *ta
 /* A published message from one buffer to another, and with its tag changed, which leaves zeros. */
 static void to_a_buffer(const struct fotsgure_gcm *gcm, size_t row)
 {
-    uint8_t nonce[16], additional[32], plain[80], cipher[80], output[80], wanted[16], tag[16];
+    uint8_t nonce[128], additional[90], plain[80], cipher[80], output[80], wanted[16], tag[16];
     size_t bytes = from_hex(nonce, cases[row].nonce), extra = from_hex(additional, cases[row].additional);
     size_t length = from_hex(plain, cases[row].plain);
     from_hex(cipher, cases[row].cipher);
@@ -115,7 +135,7 @@ static void key_of(const struct fotsgure_gcm *gcm, size_t row)
 static void published(void)
 {
     for (size_t i = 0; i < sizeof cases / sizeof *cases; i++) {
-        uint8_t key[32], nonce[16], additional[32], plain[80], cipher[80], text[80], wanted[16], tag[16];
+        uint8_t key[32], nonce[128], additional[90], plain[80], cipher[80], text[80], wanted[16], tag[16];
         size_t key_length = from_hex(key, cases[i].key), extra = from_hex(additional, cases[i].additional);
         size_t length = from_hex(plain, cases[i].plain), bytes = from_hex(nonce, cases[i].nonce);
         struct fotsgure_gcm gcm = {0, {0}, {0}};
@@ -131,7 +151,7 @@ static void published(void)
         to_a_buffer(&gcm, i);
         key_of(&gcm, i);
         fotsgure_gcm_wipe(&gcm);
-        expect(all(&gcm, sizeof gcm, 0), "wipe", i);
+        expect(all(&gcm, sizeof gcm, 0) && fotsgure_gcm_key_length(&gcm) == 0, "wipe", i);
     }
 }
 

@@ -1,5 +1,5 @@
-/* Messages in pieces, a part of gcm.c: cut in many ways, under counted nonces, out of turn, under nonces with which the counter
- * wraps; their fields; short tags; every status. */
+/* Messages in pieces, a part of gcm.c: cut in many ways, the published ones too; under counted nonces, out of turn; their fields; short
+ * tags; every status. */
 static uint8_t plain[300], text[300], sealed[300], additional[300], tag[16], wanted[16];
 
 /* Whether a message in pieces of `piece` bytes is that of one call, and comes back in pieces, in both ways. */
@@ -155,17 +155,19 @@ static void out_of_turn(const struct fotsgure_gcm *gcm)
     }
 }
 
-/* Messages under the nonces of the last cases, in pieces that end before the wrap, at it and after it. */
-static void wraps_in_pieces(void)
+/* The published messages, in pieces of each size. Where the counter wraps, these end before the wrap, at it and after it. What one call
+ * makes of them is what is published. */
+static void published_in_pieces(void)
 {
-    const size_t count = sizeof cases / sizeof *cases;
-    for (size_t i = count - WRAPS; i < count; i++) {
-        uint8_t key[16], nonce[16];
+    for (size_t i = 0; i < sizeof cases / sizeof *cases; i++) {
+        uint8_t key[32], nonce[128];
         struct fotsgure_gcm gcm;
+        size_t bytes = from_hex(nonce, cases[i].nonce), extra = from_hex(additional, cases[i].additional);
+        size_t length = from_hex(plain, cases[i].plain);
         if (fotsgure_gcm_set_key(&gcm, key, from_hex(key, cases[i].key)) != FOTSGURE_GCM_DONE)
             abort();
-        for (size_t piece = 1; piece <= WRAP_LENGTH; piece++)
-            expect(cut(&gcm, nonce, from_hex(nonce, cases[i].nonce), piece, 20, WRAP_LENGTH), "cut at a wrap", piece);
+        for (size_t piece = 1; piece <= length; piece++)
+            expect(cut(&gcm, nonce, bytes, piece, extra, length), "a published message, cut", 100 * i + piece);
         fotsgure_gcm_wipe(&gcm);
     }
 }
@@ -178,13 +180,15 @@ static void refused_pieces(const struct fotsgure_gcm *gcm, const struct fotsgure
     if (fotsgure_gcm_begin(gcm, &message, nonce, 12) != FOTSGURE_GCM_DONE)
         abort();
     before = message;
-    expect(fotsgure_gcm_begin(none, &message, NULL, 0) == FOTSGURE_GCM_NONCE_LENGTH, "begin", 0);
+    expect(fotsgure_gcm_begin(none, &message, NULL, 0) == FOTSGURE_GCM_NONCE_LENGTH &&
+        fotsgure_gcm_begin(gcm, &message, NULL, 0) == FOTSGURE_GCM_NONCE_LENGTH, "begin", 0);
     expect(fotsgure_gcm_begin(none, &message, nonce, 12) == FOTSGURE_GCM_NO_KEY, "begin", 1);
     expect(fotsgure_gcm_additional(none, &message, NULL, 0) == FOTSGURE_GCM_NO_KEY, "no key", 0);
     expect(fotsgure_gcm_encrypt(none, &message, NULL, 0) == FOTSGURE_GCM_NO_KEY, "no key", 1);
     expect(fotsgure_gcm_finish(none, &message, tag) == FOTSGURE_GCM_NO_KEY, "no key", 2);
     expect(fotsgure_gcm_verify(none, &message, NULL, 0) == FOTSGURE_GCM_NO_KEY, "no key", 3);
-    expect(fotsgure_gcm_accept(none, &message, tag, 15) == FOTSGURE_GCM_TAG_LENGTH, "no key", 4);
+    expect(fotsgure_gcm_accept(none, &message, tag, 15) == FOTSGURE_GCM_TAG_LENGTH &&
+        fotsgure_gcm_accept(gcm, &message, tag, 15) == FOTSGURE_GCM_TAG_LENGTH, "no key", 4);
     expect(fotsgure_gcm_accept(none, &message, tag, 16) == FOTSGURE_GCM_NO_KEY, "no key", 5);
     expect(fotsgure_gcm_decrypt(none, &message, NULL, 0) == FOTSGURE_GCM_NO_KEY, "no key", 6);
     expect(fotsgure_gcm_decrypt_unverified(none, &message, NULL, 0) == FOTSGURE_GCM_NO_KEY, "no key", 7);
@@ -213,7 +217,7 @@ static void pieces(void)
             expect(cut(&gcm, nonce, piece % 2 ? 12 : 1 + length % 60, piece, length * 7 % 200, length), "cut", length);
     out_of_turn(&gcm);
     fields(&gcm);
-    wraps_in_pieces();
+    published_in_pieces();
     counted_pieces(&gcm, &none);
     short_tags(&gcm);
     refused_pieces(&gcm, &none);

@@ -17,8 +17,6 @@ mod single_rounds;
 mod status;
 mod stream;
 mod tags;
-#[cfg(test)]
-mod tests;
 mod width;
 mod wrapping;
 

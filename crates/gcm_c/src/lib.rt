@@ -16,8 +16,6 @@ mod siv;
 mod siv_kept;
 mod siv_to;
 mod status;
-#[cfg(test)]
-mod tests;
 mod whole;
 mod whole_to;
 mod width;
