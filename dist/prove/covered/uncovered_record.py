@@ -1,6 +1,6 @@
 """Keeps the record of places that stay uncovered with PROVE=builds: uncovered.tsv. `prove.py --record` writes it, and other runs compare
-with it. A line has an assembly file, a function, a kind, the number of its places of that kind, and their hashes (code_places.py). So no
-place can be mistaken for another one. uncovered.py has the reasons.
+with it. A line has an assembly file, a function, and for each kind that it has KIND=HASH,HASH, the hashes of its places (code_places.py).
+So no place can be mistaken for another one. uncovered.py has the reasons.
 
 Refusals are proved for all numbers. Their instructions count as run. But the ways of their conditions don't count: else they would cover a
 condition that asks for a single length. If an assembly file changes, its record has to be written again."""
@@ -39,8 +39,8 @@ def read():
     """Reads the record: {name of an assembly file: {function: {kind: hashes}}}."""
     out = {}
     with open(PATH) as file:
-        for assembly, name, kind, _, hashes in (line.rstrip("\n").split("\t") for line in file):
-            out.setdefault(assembly, {}).setdefault(name, {})[kind] = {*hashes.split()}
+        for assembly, name, *kinds in (line.rstrip("\n").split("\t") for line in file):
+            out.setdefault(assembly, {})[name] = {kind: {*hashes.split(",")} for kind, hashes in (it.split("=") for it in kinds)}
     return out
 
 
@@ -50,8 +50,9 @@ def write(new):
     with open(PATH, "w") as file:
         for assembly, functions in sorted(assemblies.items()):
             for name, kinds in sorted(functions.items()):
-                for kind in (kind for kind in Uncovered._fields if kinds.get(kind)):
-                    file.write("\t".join((assembly, name, kind, str(len(kinds[kind])), " ".join(sorted(kinds[kind])))) + "\n")
+                columns = [kind + "=" + ",".join(sorted(kinds[kind])) for kind in Uncovered._fields if kinds.get(kind)]
+                if columns:
+                    file.write("\t".join((assembly, name, *columns)) + "\n")
 
 
 def faults(assembly, found):
