@@ -5,15 +5,31 @@ ghost use Rattle.std.specs.Prelude.{◌<◌};
 
 use aes_cipher::cipher::Block;
 
-// A message with its key, and what it becomes.
+// The word of that number in a row of a table: digits, or `-` for no bytes.
+pub(crate) fn word(row: &str, number: usize) -> &str {
+    row.split_whitespace().nth(number).unwrap_or("")
+}
+
+// A message with its key, and what it becomes: the words of a row, in this order.
 #[derive(Drop)]
-pub(crate) struct Case {
-    pub(crate) key: &'static str,
-    pub(crate) nonce: &'static str,
-    pub(crate) additional: &'static str,
-    pub(crate) text: &'static str,
-    pub(crate) encrypted: &'static str,
-    pub(crate) tag: &'static str,
+pub(crate) struct Case<'a> {
+    pub(crate) key: &'a str,
+    nonce: &'a str,
+    additional: &'a str,
+    text: &'a str,
+    encrypted: &'a str,
+    tag: &'a str,
+}
+
+pub(crate) fn case_of(row: &str) -> Case<'_> {
+    Case {
+        key: word(row, 0),
+        nonce: word(row, 1),
+        additional: word(row, 2),
+        text: word(row, 3),
+        encrypted: word(row, 4),
+        tag: word(row, 5),
+    }
 }
 
 // A mode under a key. Tests compare results, so nothing is promised.
@@ -50,7 +66,7 @@ pub(crate) fn decoded<const N: usize>(digits: &str) -> [u8; N] {
 // and if zeros follow its additional data.
 fn refuses_changes<M: Mode>(
     mode: &M,
-    case: &Case,
+    case: &Case<'_>,
     additional: &[u8],
     text: &mut [u8],
     tag: &Block,
@@ -74,7 +90,7 @@ fn refuses_changes<M: Mode>(
 
 // Whether a mode encrypts a case as it should, refuses changes of it without a change of the text,
 // and decrypts it again.
-pub(crate) fn is_right<M: Mode>(mode: &M, case: &Case) -> bool {
+pub(crate) fn is_right<M: Mode>(mode: &M, case: &Case<'_>) -> bool {
     let nonce = decoded(case.nonce);
     let room: [u8; 96] = decoded(case.additional);
     let additional = &room[..(case.additional.len() / 2).min(96)];

@@ -17,7 +17,7 @@ const KEY_DATA: [u64; 4] = [
     0x08090a0b0c0d0e0f,
 ];
 
-pub(super) fn semiblocks<const N: usize>(numbers: &[u64; N]) -> [Semiblock; N] {
+fn semiblocks<const N: usize>(numbers: &[u64; N]) -> [Semiblock; N] {
     let mut halves = [[0; 8]; N];
     for i in 0..N {
         halves[i] = numbers[i].to_be_bytes();

@@ -6,7 +6,7 @@ ghost use Rattle.gcm_siv.specs.GcmSiv.{tag, IsSivKeySize};
 
 mod vectors;
 
-use super::cases::{Case, Mode, decoded, is_right};
+use super::cases::{Mode, case_of, decoded, is_right};
 use aes_cipher::cipher::{Block, BlockCipherEncrypt, KeyInit};
 use aes_hybrid::{Aes128Enc, Aes256Enc};
 use gcm_siv::{GcmSiv, TooLong};
@@ -35,13 +35,14 @@ impl<C: KeyInit + BlockCipherEncrypt + Drop> Mode for GcmSiv<C> {
 }
 
 // Whether ciphers of a type do as they should under the key of each case.
-fn are_right<C: KeyInit + BlockCipherEncrypt + Drop>(cases: &[Case]) -> bool
+fn are_right<C: KeyInit + BlockCipherEncrypt + Drop>(rows: &[&str]) -> bool
     requires { IsSivKeySize C.KEY_SIZE }
 {
-    for case in cases {
+    for row in rows {
+        let case = case_of(row);
         let key: [u8; 32] = decoded(case.key);
         let is_right = match C::new_from_slice(&key[..(case.key.len() / 2).min(32)]) {
-            Ok(cipher) => is_right(&GcmSiv::new(cipher), case),
+            Ok(cipher) => is_right(&GcmSiv::new(cipher), &case),
             Err(_) => false,
         };
         if !is_right {
