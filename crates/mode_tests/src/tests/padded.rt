@@ -9,8 +9,8 @@ use aes_hybrid::BothWaysKeys;
 use aes_hybrid::widths::Width128;
 use key_wrap::{InvalidCount, NotUnwrapped, Semiblock, unwrap_padded, wrap_padded};
 
-// NIST's KWP_AE_128: the first key of each length but the longest. A row has the key that wraps, the
-// key that is wrapped, and what it becomes.
+// NIST's KWP_AE_128: the first key of each length but the longest. A row has the key that wraps,
+// the key that is wrapped, and what it becomes.
 const OF_16: [&str; 4] = [
     "6decf10a1caf8e3b80c7a4be8c9c84e8 49 01a7d657fc4a5b216f261cca4d052c2b",
     "a8e06da625a65b25cf5030826830b661 43acff293120dd5d b6f967616dd8d772e9fea295a456dba7",
