@@ -70,8 +70,8 @@ last_padded i s rest at some is =
 
 -- bytes with what another string has behind them are that string exactly if they are its first
 -- bytes
-pub are_first : (x y : List ℕ) → (x ++ drop (length x) y ≡ y) ↔ (x ≡ take (length x) y)
-are_first x y = (
+pub first_bytes_tell : (x y : List ℕ) → (x ++ drop (length x) y ≡ y) ↔ (x ≡ take (length x) y)
+first_bytes_tell x y = (
   λ e. sym (take-append_seam x (drop (length x) y)) ∙ ap (take (length x)) e,
   λ e. ap (λ l. l ++ drop (length x) y) e ∙ take-append-drop (length x) y,
 )

@@ -23,17 +23,17 @@ abbrev pub places_in : List (List ℕ) → ℕ → List ℕ
 places_in tables k = get_or tables k []
 
 -- if each of four tables has indices, so has the one for n modulo 4
-pub are_indices : (tables : List (List ℕ))
+pub indices_at : (tables : List (List ℕ))
     → AreIndices (places_in tables 0) → AreIndices (places_in tables 1)
     → AreIndices (places_in tables 2) → AreIndices (places_in tables 3)
     → (n : ℕ) → AreIndices (places_in tables (n % 4))
-are_indices tables a b c d n =
+indices_at tables a b c d n =
     by_four (λ k. AreIndices (places_in tables k)) a b c d (n % 4) (omega arith)
 
 -- each table of SHIFTED_ROWS has indices
 pub shifted_indices : (n : ℕ) → AreIndices (places_in SHIFTED_ROWS (n % 4))
 unfolding is_index
-shifted_indices = are_indices SHIFTED_ROWS refl refl refl refl
+shifted_indices = indices_at SHIFTED_ROWS refl refl refl refl
 
 -- the table of SHIFTED_ROWS that undoes n ShiftRows has indices
 pub shifted_back_indices : (n : ℕ) → AreIndices (places_in SHIFTED_ROWS ((4 - n % 4) % 4))
@@ -42,12 +42,12 @@ shifted_back_indices n = shifted_indices (4 - n % 4)
 -- each table of NEXT_ROW has indices
 pub next_indices : (n : ℕ) → AreIndices (places_in NEXT_ROW (n % 4))
 unfolding is_index
-next_indices = are_indices NEXT_ROW refl refl refl refl
+next_indices = indices_at NEXT_ROW refl refl refl refl
 
 -- each table of ROW_BEFORE has indices
 pub before_indices : (n : ℕ) → AreIndices (places_in ROW_BEFORE (n % 4))
 unfolding is_index
-before_indices = are_indices ROW_BEFORE refl refl refl refl
+before_indices = indices_at ROW_BEFORE refl refl refl refl
 
 -- ---- ShiftRows some times
 

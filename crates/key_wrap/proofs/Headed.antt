@@ -47,14 +47,14 @@ semiblocks_joined s (suc n) =
     ∙ ap (λ m. take m s) more
 
 -- each semiblock of a string is eight bytes
-are_semiblocks : (s : List ℕ) (n : ℕ) → IsBytes s → 8 * n ≤ length s
+semiblocks_long : (s : List ℕ) (n : ℕ) → IsBytes s → 8 * n ≤ length s
     → All IsSemiblock (semiblocks s n)
 unfolding semiblocks
-are_semiblocks s zero small fits = All-nil IsSemiblock
-are_semiblocks s (suc n) small fits =
+semiblocks_long s zero small fits = All-nil IsSemiblock
+semiblocks_long s (suc n) small fits =
     let size : ℕ = 8 * n + 8 - 8 * n in
     All-push IsSemiblock (semiblocks s n) (slice_range s (8 * n) (8 * n + 8))
-    (are_semiblocks s n small (omega (arith, fits))) (
+    (semiblocks_long s n small (omega (arith, fits))) (
       omega (arith, length-take size (drop (8 * n) s), length-drop (8 * n) s, fits),
       take_bytes size (drop (8 * n) s) (drop_bytes (8 * n) s small),
     )
@@ -101,7 +101,7 @@ headed_semiblocks key small =
     let n : ℕ = filled (length key) in
     All-cons IsSemiblock (heading (length key)) (semiblocks (padded key) n)
     (heading_semiblock (length key))
-    (are_semiblocks (padded key) n (append_bytes key _ small (zeros_are_bytes (8 * n - length key)))
+    (semiblocks_long (padded key) n (append_bytes key _ small (zeros_are_bytes (8 * n - length key)))
     (omega (arith, length-padded key)))
 
 -- the semiblock with the padding, where the comparisons look for it

@@ -8,11 +8,9 @@ use Rattle.aes_planes.proofs.Bits.ByteCases.{all_below, all_below_tells}
 use Rattle.gcm.specs.Gcm.{bit_of, v_at, next_v, product}
 use Rattle.gcm.specs.Multiples.{sum_of, byte_of, nibble_multiple, byte_multiple}
 use Rattle.gcm.proofs.Products.Linear.{term, term_adds, term_keeps, term_zero, term_below}
-use Rattle.gcm.proofs.Products.Linear.{term_mapped, term_through}
-use Rattle.gcm.proofs.Products.Linear.{product_terms, product_bytes, byte_small, sum-agree, sum-add}
-use Rattle.gcm.proofs.Products.Linear.{sum-zero, sum-through, v-sum, v_keeps, v_zero, v_swap}
-use Rattle.gcm.proofs.Products.Linear.{v_below}
-use Rattle.gcm.proofs.Products.Linear.{sum-below}
+use Rattle.gcm.proofs.Products.Linear.{term_mapped, term_through, product_terms, product_bytes}
+use Rattle.gcm.proofs.Products.Linear.{byte_small, sum-agree, sum-add, sum-zero, sum-through, v-sum}
+use Rattle.gcm.proofs.Products.Linear.{v_keeps, v_zero, v_swap, v_below, sum-below}
 use Rattle.gcm.proofs.Products.Reduction.{number_sum, placed}
 
 -- ---- products keep sums

@@ -19,8 +19,7 @@ use Rattle.gcm.specs.declared.moved_rows.TheConstants.{FALLEN_FIRST, FALLEN_SECO
 use Rattle.gcm.specs.Gcm.{next_v, v_at}
 use Rattle.gcm.specs.Multiples.{byte_of, nibble_multiple, multiples_row, multiples_rows, row_at}
 use Rattle.gcm.proofs.Products.Linear.{sum-agree, v-sum, v_keeps, v_swap, v_shifted, term}
-use Rattle.gcm.proofs.Products.Linear.{term_through}
-use Rattle.gcm.proofs.Products.Linear.{sum_without_carry, nibble_below}
+use Rattle.gcm.proofs.Products.Linear.{term_through, sum_without_carry, nibble_below}
 use Rattle.gcm.proofs.Tables.Rows.{byte_of_sum, zero_at}
 
 -- ---- a number times x^4

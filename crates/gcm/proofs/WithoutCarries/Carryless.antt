@@ -1,8 +1,7 @@
 -- Products of numbers without carries: they keep sums, split into products of parts, and are
 -- products of blocks before the reduction.
 use Rattle.std.proofs.Common.{◌≡◌, ℕ, zero, suc, ◌+◌, ◌-◌, ◌*◌, ◌/◌, ◌%◌, ◌^◌, ◌<◌, ◌==◌}
-use Rattle.std.proofs.Common.{if◌then◌else◌, true, bit_xor, refl, ap, sym, ◌∙◌, arith}
-use Rattle.std.proofs.Common.{subst}
+use Rattle.std.proofs.Common.{if◌then◌else◌, true, bit_xor, refl, ap, sym, ◌∙◌, arith, subst}
 use Rattle.std.proofs.lemmas.Nat.{xor_comm, xor_shr, xor_mod, xor_block, xor_lt, shr_below, shr-shr}
 use Rattle.std.proofs.lemmas.Nat.{pow_pos}
 use Rattle.std.proofs.lemmas.Bool.{eqb-true}

@@ -13,7 +13,7 @@ use Rattle.gcm.proofs.WithoutCarries.Carryless.{carryless_left_zero, carryless_r
 use Rattle.gcm.proofs.WithoutCarries.Carryless.{carryless_right_shifted, carryless_split}
 use Rattle.gcm.proofs.WithoutCarries.Carryless.{carryless_no_bits}
 use Rattle.gcm.proofs.Products.Linear.{sum-agree, sum-first, sum-swap, sum-through}
-use Rattle.gcm.proofs.WithoutCarries.Digits.{masked_sum, masked_shifted, holes_next, are_ones}
+use Rattle.gcm.proofs.WithoutCarries.Digits.{masked_sum, masked_shifted, holes_next, masked_digits}
 use Rattle.gcm.proofs.WithoutCarries.Digits.{digits_times}
 
 -- every fourth bit of a word from bit r on
@@ -81,7 +81,7 @@ product_at_digits x y r s t hr hs is =
     (omega (arith, few_bits (x / 2 ^ 0))) (omega (arith, few_bits (x / 2 ^ 1)))
     (omega (arith, few_bits (x / 2 ^ 2))) (omega (arith, few_bits (x / 2 ^ 3))) r hr in
     let bits : bit_and (a * b) (holes 16) ≡ carryless 32 a b =
-    (digits_times 8 8 a b (omega arith) (are_ones 8 (x / 2 ^ r)) (are_ones 8 (y / 2 ^ s))).bits in
+    (digits_times 8 8 a b (omega arith) (masked_digits 8 (x / 2 ^ r)) (masked_digits 8 (y / 2 ^ s))).bits in
     let left : carryless 32 (a * 2 ^ r) b ≡ carryless 32 a b * 2 ^ r =
     ap (λ j. carryless j (a * 2 ^ r) b) (sym whole) ∙ carryless_left_shifted (32 - r) r a b fits
     ∙ ap (λ j. carryless j a b * 2 ^ r) whole in
