@@ -60,7 +60,8 @@ last_word_substituted x a b e f =
     (f ∙ ap fips.inv_mix_columns e ∙ mixing_undone x)
 
 module _ (x y z u v : List ℕ) (hx : u ≡ x) (hy : v ≡ y) where
-  -- SubWord of RotWord of the last column and a round constant, summed onto the columns of a block
+  -- SubWord of RotWord of the last column and a round constant, summed onto the columns of a block,
+  -- are `columns_summed` with the constant block
   pub rotated_is : (w s : List ℕ) (k : ℕ) → z ≡ summed_from u s
       → s ≡ fips.add_words
       (slice_index w 1 ∷ slice_index w 2 ∷ slice_index w 3 ∷ slice_index w 0 ∷ [])
@@ -73,7 +74,7 @@ module _ (x y z u v : List ℕ) (hx : u ≡ x) (hy : v ≡ y) where
       ∙ (λ i. columns_summed 1 3 (hx i)
       (fips.add_round_key (fips.sub_bytes (hy i)) (constant_block k)))
 
-  -- SubWord of the last column, summed onto the columns of a block
+  -- SubWord of the last column, summed onto the columns of a block, is `columns_summed`
   pub substituted_is : (w : List ℕ) → z ≡ summed_from u w
       → w ≡ fips.word (λ r. fips.byte_at (fips.sub_bytes v) r 3)
       → z ≡ columns_summed 0 3 x (fips.sub_bytes y)

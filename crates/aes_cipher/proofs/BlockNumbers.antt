@@ -32,7 +32,7 @@ pub bytes_of_halves : (n : ℕ)
     (15 ∷ 14 ∷ 13 ∷ 12 ∷ 11 ∷ 10 ∷ 9 ∷ 8 ∷ 7 ∷ 6 ∷ 5 ∷ 4 ∷ 3 ∷ 2 ∷ 1 ∷ 0 ∷ []) ≡ to_be_bytes w128 n
 bytes_of_halves n = bytes_from_last _ n (omega arith)
 
--- the number of the bytes of a number
+-- a number below 2 ^ 128 is the number of its own sixteen bytes
 pub number_back : (n : ℕ) (x : List ℕ) → n < 2 ^ 128 → x ≡ to_be_bytes w128 n
     → from_be_bytes w128 x ≡ n
 number_back n x small e = ap (from_be_bytes w128) e ∙ omega arith

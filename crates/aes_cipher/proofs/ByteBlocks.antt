@@ -97,7 +97,7 @@ pub parted : (bs : List (List ℕ)) → Sixteens bs
 parted bs h = ap (λ m. first_chunks 16 m (concat bs)) (omega (arith, length-joined bs h))
     ∙ chunks_of_joined bs h
 
--- byte j of block i
+-- byte j of block i stands at place 16 * i + j
 pub byte_in_chunk : (i j m : ℕ) (xs : List ℕ) → i < m → j < 16
     → get_or (get_or (first_chunks 16 m xs) i []) j 0 ≡ get_or xs (16 * i + j) 0
 byte_in_chunk i j zero xs h k = absurd (omega arith)
@@ -107,7 +107,7 @@ byte_in_chunk (suc i) j (suc m) xs h k =
     byte_in_chunk i j m (drop 16 xs) (omega arith) k ∙ get_or-drop 16 xs (16 * i + j) 0
     ∙ ap (λ q. get_or xs q 0) (omega arith)
 
--- byte i of joined blocks
+-- byte i of joined blocks is byte i % 16 of block i / 16
 pub byte_of_joined : (bs : List (List ℕ)) (i : ℕ) → Sixteens bs → i < 16 * length bs
     → get_or (concat bs) i 0 ≡ get_or (get_or bs (i / 16) []) (i % 16) 0
 byte_of_joined bs i h lt =
@@ -124,7 +124,7 @@ pub ruleset byte_laws = (chunks_joined, parted, length-chunks, byte_in_chunk, by
 abbrev pub processed_from : (List ℕ → List ℕ) → ℕ → ℕ → List ℕ → List (List ℕ)
 processed_from f m i xs = first_chunks 16 i xs ++ map f (first_chunks 16 (m - i) (drop (16 * i) xs))
 
--- f of each of n blocks from block i on, written in their places
+-- writing f of n blocks from block i on in their places keeps what the loop leaves in the end
 pub processed_run : (f : List ℕ → List ℕ) (m i n p k : ℕ) (xs ys : List ℕ) → p ≡ 16 * i
     → k ≡ 16 * n → i + n ≤ m
     → 16 * m ≤ length xs

@@ -31,7 +31,7 @@ bits_of_zero n xs l p =
     ext_get_or false xs (replicate n false) (l ∙ sym (length-replicate n false))
     (λ i h. let k : i < n = omega (arith, l) in p i k ∙ sym (get_or-replicate n i false false k))
 
--- f of an element in every place
+-- a map of a list that repeats x repeats f of x
 pub map_replicate : {X Y : Type 0} (f : X → Y) (n : ℕ) (x : X)
     → map f (replicate n x) ≡ replicate n (f x)
 map_replicate f zero x = refl

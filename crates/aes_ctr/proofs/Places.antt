@@ -145,7 +145,7 @@ pub ruleset filled = (
   left_after_one,
 )
 
--- the whole block as the counter
+-- the keystream of blocks that are whole counters is the standard's
 pub whole_blocks : (w : List (List ℕ)) (iv : List ℕ) (p : ℕ) (data_bytes : List ℕ)
     → plus_stream (stream_byte w (counter_block iv)) p data_bytes
     ≡ plus_stream (keystream_byte w iv) p data_bytes

@@ -116,7 +116,7 @@ of_bytes = record {
   constant = 0x63;
 }
 
--- the products with the inverse S-box
+-- what a round looks up makes the products of row 0 with the inverse S-box of a byte
 products_made : Makes decryption_untower plain_inverse_sbox (products of_bytes)
 unfolding all_below first_of second_of decryption_untower field_mul
 products_made = refl
@@ -251,7 +251,7 @@ of_key = record {
   constant = 0;
 }
 
--- the products with a byte
+-- what is looked up of a byte of a round key makes the products of row 0 with that byte
 round_key_products_made : Makes decryption_untower (λ b. b) (products of_key)
 unfolding all_below decryption_untower field_mul
 round_key_products_made = refl

@@ -135,7 +135,7 @@ unfolding build state shift_rows shift_times
 on_lanes = by_four (λ k. (f g h : ℕ → ℕ) → MadeUp k (build 16 f) (build 16 g) (build 16 h))
     (λ f g h. (refl, refl)) (λ f g h. (refl, refl)) (λ f g h. (refl, refl)) (λ f g h. (refl, refl))
 
--- `MadeUp` of all blocks
+-- any blocks have `MadeUp`, since each is built of its bytes
 made_up : (k : ℕ) (o t key : List ℕ) → k < 4 → length o ≡ 16 → length t ≡ 16 → length key ≡ 16
     → MadeUp k o t key
 made_up k o t key small l m n =
@@ -180,7 +180,7 @@ deferred_is n x key some block long is_o is_t is_p =
 
 -- ---- the last round
 
--- the rows of the last round: those of all the ShiftRows that were left out, and of its own
+-- the lanes of the last round are those of its own ShiftRows after all that were left out
 made_up_last : (k : ℕ) → k < 4 → (p : List ℕ) → length p ≡ 16
     → permuted p (places_in SHIFTED_ROWS k) ≡ permuted (shift_times (before k) p) (places_in SHIFTED_ROWS 1)
 unfolding build state shift_rows shift_times

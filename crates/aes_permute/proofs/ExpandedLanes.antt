@@ -210,12 +210,12 @@ last_column = 12 ∷ 13 ∷ 14 ∷ 15 ∷ 12 ∷ 13 ∷ 14 ∷ 15 ∷ 12 ∷ 13 
 abbrev pub second_column : List ℕ
 second_column = 4 ∷ 5 ∷ 6 ∷ 7 ∷ 4 ∷ 5 ∷ 6 ∷ 7 ∷ 4 ∷ 5 ∷ 6 ∷ 7 ∷ 4 ∷ 5 ∷ 6 ∷ 7 ∷ []
 
--- 0x63 in the tower basis
+-- 0x6e stands for 0x63 in the tower basis
 of_constant : untower 0x6e ≡ 0x63
 unfolding untower
 of_constant = refl
 
--- 0x63 in the tower basis, in each lane
+-- lanes of 0x6e stand for lanes of 0x63
 constants_untowered : map untower (replicate 16 0x6e) ≡ replicate 16 0x63
 constants_untowered = λ i. replicate 16 (of_constant i)
 
@@ -228,7 +228,7 @@ substituted_lanes y ks = map plus63 (sub_bytes (swizzled y ks))
 abbrev added_to_row : List ℕ → ℕ → ℕ → ℕ
 added_to_row y rows r = plus63 (plus63 (byte_at (sub_bytes y) ((r + rows) % 4) 3))
 
--- the columns from a substituted and rotated last column, row by row
+-- the columns from a substituted and rotated last column on are sums, row by row
 rotated_state : (x y : List ℕ) → length y ≡ 16
     → from_start x (substituted_lanes y rotated_column) (replicate 16 0x63)
     ≡ state (λ r c. summed field_add (byte_at x r) (added_to_row y 1 r) c)
@@ -237,7 +237,7 @@ rotated_state x y =
     same_on_block (λ y. from_start x (substituted_lanes y rotated_column) (replicate 16 0x63))
     (λ y. state (λ r c. summed field_add (byte_at x r) (added_to_row y 1 r) c)) (λ f. refl) y
 
--- the columns from a substituted last column without a rotation, row by row
+-- the columns from a substituted last column without a rotation on are sums, row by row
 substituted_state : (x y : List ℕ) → length y ≡ 16
     → from_start x (substituted_lanes y last_column) (replicate 16 0x63)
     ≡ state (λ r c. summed field_add (byte_at x r) (added_to_row y 0 r) c)
@@ -271,7 +271,8 @@ sub_length : (y : List ℕ) → length y ≡ 16 → length (sub_bytes y) ≡ 16
 unfolding sub_bytes
 sub_length y l = map_length sbox y ∙ l
 
--- SubWord of RotWord of the last column and a round constant, summed onto the columns of a block
+-- on lanes, SubWord of RotWord of the last column and a round constant, summed onto the columns of
+-- a block, are `columns_summed` with the constant block
 pub rotated_is : {x y : List ℕ} (u v b s z : List ℕ) (k : ℕ) → map untower u ≡ x → map untower v ≡ y
     → length u ≡ 16 → length v ≡ 16
     → map untower b ≡ zip2 bit_xor (map untower u) (k ∷ replicate 15 0)
@@ -296,7 +297,7 @@ rotated_is u v b s z k is_x is_y u_long v_long is_b is_s is_z =
     ∙ rotated_sums x (sub_bytes y) k (sub_length y y_long)
     ∙ (λ i. columns_summed 1 3 (is_x i) (add_round_key (sub_bytes (is_y i)) (constant_block k)))
 
--- SubWord of the last column, summed onto the columns of a block
+-- on lanes, SubWord of the last column, summed onto the columns of a block, is `columns_summed`
 pub substituted_is : {x y : List ℕ} (u v s z : List ℕ) → map untower u ≡ x → map untower v ≡ y
     → length v ≡ 16
     → map untower s ≡ map plus63 (sub_bytes (map untower (swizzled v last_column)))

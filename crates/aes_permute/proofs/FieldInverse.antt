@@ -11,12 +11,12 @@ use Rattle.aes_permute.proofs.Lookups.{each_passes}
 
 -- ---- lanes that are made of the bytes of a block
 
--- lanes looked up in a table
+-- a look-up of f of each byte is one map
 looked_of : (f : ℕ → ℕ) (t x : List ℕ) {y z : List ℕ} → z ≡ map (looked t) y → y ≡ map f x
     → z ≡ map (λ b. looked t (f b)) x
 looked_of f t x e made = e ∙ ap (map (looked t)) made ∙ map-map (looked t) f x
 
--- the sum of two
+-- a sum of two maps of the same bytes is one map
 pub sum_of : (f h : ℕ → ℕ) (x : List ℕ) {y v z : List ℕ} → z ≡ zip2 bit_xor y v → y ≡ map f x
     → v ≡ map h x
     → z ≡ map (λ b. bit_xor (f b) (h b)) x

@@ -64,7 +64,7 @@ decryption_untower_linear = (refl, refl)
 abbrev pub SumsOfThree : (ℕ → ℕ) → Type 0
 SumsOfThree v = (a b c : ℕ) → v (bit_xor (bit_xor a b) c) ≡ bit_xor (bit_xor (v a) (v b)) (v c)
 
--- three summands, by two at a time
+-- what takes a sum of two to a sum does so with three
 linear_three : (v : ℕ → ℕ) → ((a b : ℕ) → v (bit_xor a b) ≡ bit_xor (v a) (v b)) → SumsOfThree v
 linear_three v l a b c = l (bit_xor a b) c ∙ ap (λ u. bit_xor u (v c)) (l a b)
 

@@ -30,7 +30,7 @@ written_after b (suc n) i k xs after =
     get_or-set_other (written b n i xs) (i + n) k (b n) [] other
     ∙ written_after b n i k xs (omega (arith, after))
 
--- f of n blocks from place i on, written in their places
+-- writing f of n blocks from place i on in their places keeps what the loop leaves in the end
 pub finished_written : (f : List ℕ → List ℕ) (b : ℕ → List ℕ) (n i : ℕ) (xs : List (List ℕ))
     → i + n ≤ length xs
     → ((k : ℕ) → k < n → b k ≡ f (get_or xs (i + k) []))
@@ -47,7 +47,8 @@ finished_written f b (suc n) i xs fits is =
     (is n (omega arith) ∙ ap f (sym (written_after b n i (i + n) xs (omega arith))))
     ∙ finished_written f b n i xs (omega (arith, fits)) (λ k below. is k (omega (arith, below)))
 
--- f of 2 n blocks from place i on, those of two vectors, written in their places
+-- writing f of 2 n blocks from place i on, those of two vectors, keeps what the loop leaves in the
+-- end
 pub finished_two : (f : List ℕ → List ℕ) (b c : ℕ → List ℕ) (n i : ℕ) (xs : List (List ℕ))
     → i + 2 * n ≤ length xs
     → ((k : ℕ) → k < n → b k ≡ f (get_or xs (i + k) []))

@@ -6,7 +6,7 @@ use Rattle.aes_planes.proofs.Lists.{map-same}
 use Rattle.aes_planes.proofs.Standard.EquivalentInverse.{eq_inv_is_inv}
 use Rattle.aes_planes.proofs.Standard.InvertedKeys.{inverted_end, inverted_length, inverted_middle}
 
--- blocks decrypted by EqInvCipher under inverted round keys
+-- EqInvCipher under inverted round keys decrypts each block as InvCipher does
 pub inverse_of_each : (w v : List (List ℕ)) (xs ys : List (List ℕ)) → v ≡ fips.inverted_keys w
     → 2 ≤ length w
     → ys ≡ map (fips.eq_inv_cipher_with v) xs → ys ≡ map (fips.inv_cipher_with w) xs

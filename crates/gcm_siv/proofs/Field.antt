@@ -97,7 +97,7 @@ back_by b (suc j) n small =
     ∙ ap next_v (back_by b j (suc n) small)
     ∙ times_x_undone (times_power b n) (power_small b n small)
 
--- one power of x^-1 more, by the definition
+-- one power of x^-1 more is one step of the definition
 one_more : (y n : ℕ) → v_at y (suc n) ≡ next_v (v_at y n)
 unfolding v_at
 one_more y n = refl
@@ -165,7 +165,7 @@ dot_is a b small =
     ∙ sym (product_right_v a (times_power b 127) 128)
     ∙ ap (product a) (back_one b small)
 
--- POLYVAL's value after j blocks, by GCM's products
+-- GCM's products make POLYVAL's value after j blocks
 pub polyval_summed : (h s : ℕ) (x : List ℕ) (j : ℕ) → h < 2 ^ 128
     → hashed_as (from_le_bytes w128) (next_v h) s x j ≡ summed h s x j
 unfolding hashed_as summed number_at block_at

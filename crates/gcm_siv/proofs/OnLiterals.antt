@@ -33,7 +33,7 @@ unfoldable pub siv_messages : ⊤
 unfolding cipher hash tag_under tag keystream_byte counter_mode text_under text
 siv_messages = tt
 
--- a text by the ciphers of its counter blocks
+-- a text in counter mode follows from the ciphers of its counter blocks
 pub blocks_by : (w : List (List ℕ)) (start : List ℕ) (blocks : List (List ℕ)) (x : List ℕ)
     → ((m : ℕ) → m < length blocks → slice_index_or blocks m []
     ≡ cipher_with w (counter_block start m))

@@ -104,7 +104,7 @@ headed_semiblocks key small =
     (semiblocks_long (padded key) n (append_bytes key _ small (zeros_are_bytes (8 * n - length key)))
     (omega (arith, length-padded key)))
 
--- the semiblock with the padding, where the comparisons look for it
+-- the last semiblock of a string stands where the comparisons look for the padding
 last_semiblock : (s : List ℕ) (n k : ℕ) → n ≡ suc k
     → get_or (semiblocks s n) k [] ≡ slice_range s (8 * k) (8 * k + 8)
 unfolding semiblocks

@@ -63,7 +63,7 @@ semiblock_more key others i half lt sized is before =
 -- ---- a string that is a block, and a longer one
 
 module _ (f : List ℕ → List ℕ) (steps : List (List ℕ) → ℕ → List (List ℕ)) where
-  -- the halves of f of a block
+  -- the halves of f of a block are what is written for a string of two semiblocks
   pub two_semiblocks_as_block : (a : List ℕ) (others : List (List ℕ)) (a_new r_new : List ℕ) → length others ≡ 1
       → a_new ≡ take 8 (f (a ++ get_or others 0 [])) → r_new ≡ drop 8 (f (a ++ get_or others 0 []))
       → a_new ∷ set others 0 r_new ≡ block_or_steps f steps (a ∷ others)

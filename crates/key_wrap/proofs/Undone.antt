@@ -61,7 +61,7 @@ module _ (w : List (List ℕ))
   low_semiblock : (b : List ℕ) → IsBlock b → IsSemiblock (drop 8 b)
   low_semiblock b is = (omega (arith, length-drop 8 b, is.0), drop_bytes 8 b is.1)
 
-  -- the cipher of two halves, undone
+  -- the inverse cipher undoes the cipher of two halves
   halves_back : (a r : List ℕ) → IsSemiblock a → IsSemiblock r
       → let b = cipher_with w (a ++ r) in
       (take 8 (inv_cipher_with w (take 8 b ++ drop 8 b)) ≡ a)
@@ -126,7 +126,7 @@ module _ (w : List (List ℕ))
   after_length s zero = refl
   after_length s (suc t) = step_length (suc t) (wrapped_after w s t) ∙ after_length s t
 
-  -- the steps of W, undone
+  -- the inverse undoes the steps of W
   after_undone : (s : List (List ℕ)) (t : ℕ) → t < 2 ^ 64 → All IsSemiblock s → 2 ≤ length s
       → unwrapped_from w (wrapped_after w s t) t ≡ s
   unfolding wrapped_after unwrapped_from
@@ -137,7 +137,7 @@ module _ (w : List (List ℕ))
       (omega (arith, some, after_length s t)))
       ∙ after_undone s t (omega arith) all some
 
-  -- a key, wrapped and unwrapped
+  -- unwrapping undoes wrapping, and finds the check in front of the key
   pub wrapped_undone : (key : List (List ℕ)) → All IsSemiblock key → 1 ≤ length key
       → length key < 2 ^ 54
       → unwrapped w (wrapped w key) ≡ integrity_check ∷ key
@@ -151,7 +151,7 @@ module _ (w : List (List ℕ))
       (All-cons IsSemiblock integrity_check key (number_semiblock 0xa6a6a6a6a6a6a6a6) all)
       (omega (arith, some))
 
-  -- a string of two semiblocks or more, wrapped and unwrapped
+  -- the inverse of W undoes W on a string of two semiblocks or more
   pub string_undone : (s : List (List ℕ)) → All IsSemiblock s → 2 ≤ length s → length s < 2 ^ 54
       → unwrapped_string w (wrapped_string w s) ≡ s
   unfolding unwrapped_string wrapped_string block_or_steps

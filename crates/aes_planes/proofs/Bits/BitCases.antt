@@ -68,7 +68,7 @@ swapped x y z own partner e =
 
 -- ---- lists
 
--- a list of eight by its elements
+-- a list of eight is the list of its elements
 pub eight : {A : Type 0} (xs : List A) (a b c d e f g h : A) → length xs ≡ 8
     → xs ≡ get_or xs 0 a ∷ get_or xs 1 b ∷ get_or xs 2 c ∷ get_or xs 3 d ∷ get_or xs 4 e
     ∷ get_or xs 5 f ∷ get_or xs 6 g

@@ -99,7 +99,7 @@ bit_shl_high x n i h =
     ap (λ v. v == 1) (ap (λ v. bit_at v i) (sym (add-zero (x * 2 ^ n)))
     ∙ bit_at_cat_high x n 0 i (pow_pos n) h)
 
--- a shift up within w bits
+-- a shift up by n within w bits moves each bit n places up, and zeros into the first
 pub bit_shl : (w x n i : ℕ) → i < w → bit (x * 2 ^ n % 2 ^ w) i ≡ (nat_le n i && bit x (i - n))
 bit_shl w x n i h = bit_low (x * 2 ^ n) w i h ∙ elim (cases_lt i n) [
   | inl lt ↦ bit_shl_low x n i lt ∙ ap (λ b. b && bit x (i - n)) (sym (lt-leb n i lt))
@@ -202,7 +202,7 @@ number_is (b ∷ bs) = ap (λ v. cond b 1 0 + 2 * v) (number_is bs)
 pub number_below : (bs : List Bool) → number bs < 2 ^ length bs
 number_below bs = rw (number_is bs) (mask_l-lt bs)
 
--- the bits of the number of some bits
+-- the number of some bits has those bits
 pub bit_of_number : (bs : List Bool) (i : ℕ) → bit (number bs) i ≡ at bs i
 unfolding bit
 bit_of_number bs i = rw (number_is bs) (ap (λ v. v == 1) (bit_mask_l bs i)

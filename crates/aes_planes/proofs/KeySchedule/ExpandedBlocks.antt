@@ -79,7 +79,8 @@ module _ (key : List ℕ) (nk : ℕ) (own : key_words key ≡ nk) (some : 0 < nk
       ∙ (λ t. add_words (expanded_word key (less t))
       (added_word (own t) i (expanded_word key (one t))))
 
-  -- the recursion where Nk divides the place
+  -- word j * Nk is the one Nk words before, SubWord of RotWord of the word before and a round
+  -- constant, summed
   pub first_word : (j : ℕ) → i ≡ j * nk → expanded_word key i
       ≡ add_words (expanded_word key b)
       (add_words (sub_word (rot_word (expanded_word key p))) (round_constant j))
@@ -112,7 +113,8 @@ pub round_key_at : (key : List ℕ) (j o : ℕ) → o ≡ 4 * j → j < rounds k
     ≡ block_at key o
 round_key_at key j o e lt = round_key_words key j lt ∙ ap (block_at key) (sym e)
 
--- the last two of four words and the first two of the next four
+-- the last two of four words and the first two of the next four are the four words from the third
+-- on
 pub straddled_at : (key : List ℕ) (o p m : ℕ) → p ≡ o + 4 → m ≡ o + 2
     → columns_straddled (block_at key o)
     (block_at key p) ≡ block_at key m
@@ -129,7 +131,8 @@ straddled_at key o p m ep em = state_same _ _ (λ r c h l. cond_both (nat_lt c 2
 
 -- ---- sums of columns from a column on
 
--- the constant in row 1 of column 3 and the S-box, a row on
+-- with the constant block added, the last column after SubBytes, a row on, is SubWord of RotWord of
+-- the last word, and the constant
 substituted_column : (f : ℕ → List ℕ) (x : ℕ)
     → word (λ r. byte_at (add_round_key (sub_bytes (of_words f)) (constant_block x))
     ((r + 1) % 4) 3)
@@ -193,7 +196,8 @@ module _ (key : List ℕ) (nk : ℕ) (own : key_words key ≡ nk) (four : 4 ≤ 
         ])
       ]) (omega (arith, back)) (omega arith))
 
-  -- the four words at the next multiple of Nk, of the four Nk words before and the last four
+  -- the four words from a multiple of Nk on are sums of the four Nk words before and of the last
+  -- four, substituted and rotated
   pub first_block : (j o p m : ℕ) → o ≡ j * nk → m ≡ o + nk → m ≡ p + 4
       → columns_summed 1 3 (block_at key o)
       (add_round_key (sub_bytes (block_at key p)) (constant_block (power_of_x j)))
@@ -234,7 +238,7 @@ module _ (key : List ℕ) (nk : ℕ) (own : key_words key ≡ nk) (four : 4 ≤ 
       (omega arith)
       ∙ sym (plain_column (λ c. expanded_word key (p + c)) (expanded_word key o)))
 
-  -- sixteen bytes of the key, from a word on
+  -- four of the first Nk words are sixteen bytes of the key
   pub key_block : (o p : ℕ) → p ≡ 4 * o → o + 4 ≤ nk → length key ≡ 4 * nk
       → block_at key o ≡ take 16 (drop p key)
   key_block o p at room l =

@@ -55,7 +55,7 @@ module _ (key : List ℕ) where
       (next_word_if (nat_lt i (key_words key)) key (expanded_words key i) i)
       [] []
 
-  -- the recursion of 5.2
+  -- from word Nk on, a word is the one Nk words before and what 5.2 adds of the word before
   pub expanded_word_next : (i : ℕ) → nat_lt i (key_words key) ≡ false → 0 < key_words key → 0 < i
       → expanded_word key i ≡ add_words (expanded_word key (i - key_words key))
       (added_word (key_words key) i (expanded_word key (i - 1)))

@@ -49,11 +49,11 @@ form are key nk four sized = record { are = are; key = key; nk = nk; four = four
 module _ {V : Type 0} (s : Form V) where
   open s use {are, key, nk, four, sized}
 
-  -- the standard's Nk, from the length of the key
+  -- the standard's Nk is the number of the key's words
   key_words_are : key_words key ≡ nk
   key_words_are = omega (arith, sized)
 
-  -- no round key yet
+  -- at the start no round key has to be stored
   pub none_stored : (stored : ℕ → List ℕ → Type 0) → AreStored stored key 0
   none_stored stored j lt = absurd (omega arith)
 
@@ -87,19 +87,19 @@ module _ {V : Type 0} (s : Form V) where
       (done i (omega arith))
 
   module _ (w : V) where
-    -- four words of the key itself
+    -- sixteen bytes of the key are four words of the expansion
     pub loaded : (o p : ℕ) → are w (take 16 (drop p key)) → p ≡ 4 * o → o + 4 ≤ nk
         → are w (block_at key o)
     loaded o p is at room =
         subst (are w) (sym (key_block key nk key_words_are four o p at room sized)) is
 
-    -- the last two of four words and the first two of the next four
+    -- the last two of four words and the first two of the next four are four words of the expansion
     pub straddled : (o p m : ℕ) → are w (columns_straddled (block_at key o) (block_at key p))
         → p ≡ o + 4 → m ≡ o + 2
         → are w (block_at key m)
     straddled o p m is next at = subst (are w) (straddled_at key o p m next at) is
 
-    -- the four words at the next multiple of nk
+    -- sums with a round constant are the four words from a multiple of nk on
     pub rotated : (j o p m : ℕ) → are w (columns_summed 1 3 (block_at key o)
         (add_round_key (sub_bytes (block_at key p)) (constant_block (slice_index listed_powers j))))
         → j < 10

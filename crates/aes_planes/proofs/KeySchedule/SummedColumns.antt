@@ -142,7 +142,7 @@ first_of : {A : Type 0} (xs : List A) → 0 < length xs → A
 first_of [] h = absurd (omega arith)
 first_of (x ∷ xs) h = x
 
--- the last columns of a state and the first of another, by their bytes
+-- the last columns of a state and the first of another have the bytes that the states are built of
 ends : (f g : ℕ → ℕ → ℕ) (r c : ℕ) → r < 4 → c < 4 → cond (nat_lt c 2) (f r (c + 2)) (g r (c - 2))
     ≡ cond (nat_lt c 2) (byte_at (state f) r (c + 2)) (byte_at (state g) r (c - 2))
 ends f g r c h = by_four (λ c. cond (nat_lt c 2) (f r (c + 2)) (g r (c - 2)) ≡ cond (nat_lt c 2)

@@ -83,7 +83,7 @@ wrapped m x q h =
     mod-mul (q * m + x) {m = 4} {c = m} (omega arith) (omega arith)
     ∙ (λ t. (digits_div q h t % 4) * m + digits_mod q h t)
 
--- the place d rows on
+-- moving on by d rows leads to the place in row (r + d) % 4 of the same column
 pub row_on : (n r c k d : ℕ) → r < 4 → c < 4 → k < n → d < 4
     → (place n r c k + d * (4 * n)) % (16 * n) ≡ place n ((r + d) % 4) c k
 row_on n r c k d h i j l =

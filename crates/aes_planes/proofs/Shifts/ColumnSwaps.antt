@@ -38,7 +38,7 @@ module _ {A : Type 0} {bits : A → List Bool} {n B R H Q N S : ℕ}
       let column : p % R / Q ≡ c = column_of n R Q r c k shape.four shape.one h l kn in
       reads p b ∙ (λ t. bit (get_or nibbles (row t) 0) (column t))
 
--- f of whichever of three numbers two tests choose
+-- f of the number that two tests choose is the value that they choose
 value_of_choice : (b q : Bool) (f : ℕ → Bool) (u v x : ℕ)
     → cond b (f u) (cond q (f v) (f x)) ≡ f (cond b u (cond q v x))
 value_of_choice true q f u v x = refl

@@ -176,7 +176,8 @@ module _ (f g h : ℕ → ℕ) where
 
 -- ---- rounds of the cipher
 
--- SubBytes as the circuit computes it, without 0x63, before ShiftRows
+-- SubBytes without 0x63, as the circuit computes it, and then ShiftRows are the standard's two
+-- without 0x63
 substituted : (s : List ℕ) → length s ≡ 16
     → shift_rows (map (λ b. plus63 (sbox b)) s) ≡ map plus63 (shift_rows (sub_bytes s))
 unfolding sub_bytes

@@ -3,7 +3,7 @@ use Rattle.std.proofs.Common.{◌≡◌, ℕ, zero, suc, ◌-◌, ◌≤◌, Lis
 use Rattle.aes_planes.specs.Fips197 as fips
 use Rattle.aes_planes.specs.Rounds.{rounds_after, all_rounds}
 
--- the state after one more round
+-- a step and AddRoundKey lead from the state after n - 1 rounds to that after n
 pub rounds_more : (step : List ℕ → List ℕ) (w : List (List ℕ)) (b : List ℕ) (n : ℕ) → 1 ≤ n
     → fips.add_round_key (step (rounds_after step w b (n - 1))) (fips.round_key w n)
     ≡ rounds_after step w b n

@@ -70,7 +70,7 @@ standard_added true b j w = refl
 standard_added false true j w = refl
 standard_added false false j w = refl
 
--- word i of the key expansion, from the words before it
+-- the standard's word i, from the words before it, is that by the S-box
 standard_next_word : (a : Bool) (key : List ℕ) (ws : List (List ℕ)) (i : ℕ)
     → next_word_if a key ws i ≡ next_word_with_sbox sbox a key ws i
 unfolding next_word_if next_word_with_sbox
@@ -81,7 +81,7 @@ standard_next_word false key ws i =
     (standard_added (i % nk == 0) (nat_lt 6 nk && (i % nk == 4)) (i / nk)
     (slice_index_or ws (i - 1) []))
 
--- the first n words of the key expansion
+-- the standard's first n words are those by the S-box
 standard_words : (key : List ℕ) (n : ℕ) → expanded_words key n ≡ words_with_sbox sbox key n
 unfolding expanded_words words_with_sbox
 standard_words key zero = refl
@@ -90,7 +90,7 @@ standard_words key (suc n) =
     ∙ ap (λ v. words_with_sbox sbox key n ++ v ∷ [])
     (standard_next_word (nat_lt n (key_words key)) key (words_with_sbox sbox key n) n)
 
--- the round keys of the key expansion
+-- the standard's round keys are those by the S-box
 standard_expansion : (key : List ℕ) → key_expansion key ≡ expansion_with_sbox sbox key
 unfolding key_expansion expansion_with_sbox
 standard_expansion key =

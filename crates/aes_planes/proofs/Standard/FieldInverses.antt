@@ -115,7 +115,7 @@ power_only b c h n k e =
 inverse_listed_of : (b : ℕ) → b < 256 → b ≢ 0 → field_inverse b ≡ untransformed b
 inverse_listed_of b h n = let r = inverse_right b h n in power_only b (field_inverse b) h n r.0 r.1
 
--- the inverse of a byte, and 0 for 0, without a search
+-- the table gives the inverse of a byte, and 0 for 0, without a search
 pub inverse_listed : (b : ℕ) → b < 256 → field_inverse b ≡ untransformed b
 unfolding field_inverse field_mul least_byte first_from untransformed turned_left sbox_table
 inverse_listed zero h = refl

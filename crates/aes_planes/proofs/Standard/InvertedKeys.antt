@@ -18,7 +18,7 @@ module _ (w : List (List ℕ)) (i : ℕ) (lt : i < length w) where
       if same then fips.round_key w (fips.last_round w - i) else fips.inv_mix_columns
       (fips.round_key w (fips.last_round w - i))
 
-  -- the definition at place i
+  -- place i of the inverted round keys has the key that the test for the ends chooses
   inverted_at : slice_index_or (fips.inverted_keys w) i []
       ≡ key_if ((i == 0) || (i == fips.last_round w))
   unfolding fips.inverted_keys key_if

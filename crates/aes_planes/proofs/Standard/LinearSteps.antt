@@ -179,7 +179,7 @@ pub inv_mix_columns_add : (s t : List ℕ) → inv_mix_columns (add_round_key s 
 unfolding inv_mix_columns times
 inv_mix_columns_add s t = times_add inv_mix_row s t
 
--- two matrices, one after the other, column by column
+-- one matrix after another is the two on each column
 times_times : (m n : ℕ → List ℕ) (s : List ℕ) → times m (times n s)
     ≡ state (λ r c. matrix m (matrix n (first_rows 4 (column s c))) r)
 unfolding times first_rows

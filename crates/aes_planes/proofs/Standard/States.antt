@@ -14,7 +14,7 @@ pub state_length : (f : ℕ → ℕ → ℕ) → length (state f) ≡ 16
 unfolding state
 state_length f = refl
 
--- reading a state that was built
+-- a state that is built of f has the byte f r c in row r and column c
 pub byte_at-state : (f : ℕ → ℕ → ℕ) (r c : ℕ) → r < 4 → c < 4 → byte_at (state f) r c ≡ f r c
 unfolding state
 byte_at-state f r c h k =
@@ -50,7 +50,7 @@ state_block f h = (state_length f, state_bytes f h)
 abbrev pub RowsBytes : List (List ℕ) → Type 0
 RowsBytes m = (i : ℕ) → IsBytes (slice_index_or m i [])
 
--- a list of bytes, by a test of each
+-- a list whose numbers all pass the test for a byte is a list of bytes
 pub bytes_by_test : (s : List ℕ) → list_all (λ x. nat_lt x 256) s ≡ true → IsBytes s
 bytes_by_test [] h i = omega arith
 bytes_by_test (x ∷ s) h zero =
@@ -75,7 +75,7 @@ append_bytes [] t h k i = k i
 append_bytes (x ∷ s) t h k zero = h 0
 append_bytes (x ∷ s) t h k (suc i) = append_bytes s t (λ j. h (suc j)) k i
 
--- the rows of a matrix of bytes
+-- a matrix whose numbers all pass the test for a byte has rows of bytes
 pub rows_by_test : (m : List (List ℕ)) → list_all (list_all (λ x. nat_lt x 256)) m ≡ true
     → RowsBytes m
 rows_by_test [] h r = λ i. omega arith

@@ -102,7 +102,7 @@ pub record Undoes (f g : List ℕ → List ℕ) : Type 0 where
   -- f leaves of what g left the block that g was given
   pub undone : (s : List ℕ) → IsBlock s → f (g s) ≡ s
 
--- one step and then another, undone in the other order
+-- one step and then another are undone in the other order
 pub both_undone : {f g f' g' : List ℕ → List ℕ} → Undoes f g → Undoes f' g'
     → Undoes (λ s. f (f' s)) (λ s. g' (g s))
 both_undone {f = f} {g = g} p q = record {

@@ -69,7 +69,7 @@ column_below i R Q some e =
     let m : i % R < R = mod-lt i (omega (arith, e, some)) in
     row_below (i % R) Q (omega (arith, m, e))
 
--- one nibble in every row
+-- a list of four times the same nibble has it in every row
 pub same_nibble : (b j : ℕ) → j < 4 → get_or (b ∷ b ∷ b ∷ b ∷ []) j 0 ≡ b
 same_nibble b j h = by_four (λ j. get_or (b ∷ b ∷ b ∷ b ∷ []) j 0 ≡ b) refl refl refl refl j h
 
@@ -112,7 +112,7 @@ rows_packed_16 r0 r1 r2 r3 i h0 h1 h2 h3 =
     } in
     rows_packed (own r0 h0) (own r1 h1) (own r2 h2) (own r3 h3) i
 
--- a number in four parts of w bits
+-- bit i of part p of a number in four parts of w bits is bit w * p + i of the number
 quarter_bit : (w x p i : ℕ) → p < 4 → i < w
     → bit (get_or (x % 2 ^ w ∷ x / 2 ^ w % 2 ^ w ∷ x / 2 ^ (2 * w) % 2 ^ w
     ∷ x / 2 ^ (3 * w) ∷ []) p 0) i
@@ -142,15 +142,15 @@ pub joined_bit : (a b c d p i : ℕ) → a < 2 ^ 16 → b < 2 ^ 16 → c < 2 ^ 1
 joined_bit a b c d p i f0 f1 f2 f3 hp hi =
     rows_joined 64 16 a b c d p i (16 * p + i) refl f0 f1 f2 f3 hp hi (omega arith)
 
--- a byte in every byte of a word of 16 bits
+-- a byte times 0x0101 has the byte in both bytes of 16 bits
 pub bytes_of_16 : (b : ℕ) → b < 256 → (i : ℕ) → i < 16 → bit (b * 0x0101) i ≡ bit b (i % 8)
 bytes_of_16 b f = byte_repeated 16 2 b _ refl f (omega arith)
 
--- a byte in every byte of a word of 32 bits
+-- a byte times 0x01010101 has the byte in every byte of 32 bits
 pub bytes_of_32 : (b : ℕ) → b < 256 → (i : ℕ) → i < 32 → bit (b * 0x01010101) i ≡ bit b (i % 8)
 bytes_of_32 b f = byte_repeated 32 4 b _ refl f (omega arith)
 
--- a byte in every byte of a word of 64 bits
+-- a byte times 0x0101010101010101 has the byte in every byte of 64 bits
 pub bytes_of_64 : (b : ℕ) → b < 256 → (i : ℕ) → i < 64
     → bit (b * 0x0101010101010101) i ≡ bit b (i % 8)
 bytes_of_64 b f = byte_repeated 64 8 b _ refl f (omega arith)

@@ -53,7 +53,7 @@ number_bits xs d f = build-ext 128 _ _ (λ i h.
 
 -- ---- lanes in their order
 
--- sixteen lanes, one after another
+-- sixteen lanes lie one after another
 pub narrow : IsLayout 16 128 (λ i. i / 8)
 narrow = record {
   sized = refl;

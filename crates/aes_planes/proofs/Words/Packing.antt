@@ -148,7 +148,7 @@ module _ {A : Type 0} (bits : A → List Bool) (n : ℕ) (whose from : ℕ → �
       (λ t ht j p hj hp. loaded t ht j p hj hp ∙ ap (λ x. at x (8 * j + p))
       (sym (get_or-map bits words t d [] (omega (arith, lw, ht))))))
 
--- planes of one block, each a word
+-- eight words that have the bits of a block's bytes are planes that hold the block
 pub one_packed : (planes block : List ℕ) → length planes ≡ 8 → IsBlock block
     → ((p i : ℕ) → p < 8 → i < 16 → bit (get_or planes p 0) i ≡ bit (row_byte block i) p)
     → held 1 (map (word_bits 16) planes) ≡ block ∷ []
@@ -186,7 +186,7 @@ word_of_four : (f : ℕ → ℕ) (bs : List ℕ) (x : ℕ) → length bs ≡ 4 �
     → (j p : ℕ) → j < 4 → p < 8 → bit (f j) p ≡ at (word_bits 32 x) (8 * j + p)
 word_of_four f bs x l s e = word_to_four f bs x (sym (le_bytes_4 bs x l s e))
 
--- a column of a block as a word
+-- the word of a column of a block has the bits of the column's bytes
 pub column_word : (xs : List ℕ) (c j p x : ℕ) → ((i : ℕ) → get_or xs i 0 < 256) → c < 4
     → j < 4 → p < 8
     → x ≡ from_le_bytes w32 (get_or xs (4 * c) 0 ∷ get_or xs (4 * c + 1) 0 ∷ get_or xs (4 * c + 2) 0

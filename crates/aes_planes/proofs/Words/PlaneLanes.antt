@@ -15,7 +15,7 @@ use Rattle.aes_planes.proofs.Words.Packing.{swizzled, together}
 
 -- ---- lanes of another width
 
--- a lane of sixteen bits, of two of sixty-four
+-- lane p of sixteen bits is a quarter of one of two lanes of sixty-four
 pub narrow_lane : (low high p i : ℕ) → low < 2 ^ 64 → high < 2 ^ 64 → p < 8 → i < 16
     → bit (get_or (digits_l (2 ^ 16) 8
     (number_l (2 ^ 8) (digits_l (2 ^ 8) 16 (number_l (2 ^ 64) (low ∷ high ∷ []))))) p

@@ -189,7 +189,7 @@ unfolding all_below
 bit_of_lane j h = eqb-true _ _
     (all_below_tells 16 (λ j. get_or (powers ++ powers) j 0 == 2 ^ (j % 8)) refl j h)
 
--- one byte in eight lanes, and another in eight more
+-- of sixteen lanes, the first eight have one byte and the others another
 pub byte_of_lane : (low high j : ℕ) → j < 16
     → get_or (replicate 8 low ++ replicate 8 high) j 0 ≡ get_or (low ∷ high ∷ []) (j / 8) 0
 byte_of_lane low high j h =
@@ -209,7 +209,7 @@ lane_of_ones : (b : Bool) (p : ℕ) → p < 8 → bit (cond b 255 0) p ≡ b
 lane_of_ones true p h = bit_ones 8 p h
 lane_of_ones false p h = bit_zero p
 
--- bit p of byte q of a word of sixteen bits
+-- bit p of byte q of a word of sixteen bits is bit 8 * q + p of the word
 byte_of_two : (x q p : ℕ) → q < 2 → p < 8
     → bit (get_or (x % 256 ∷ x / 256 ∷ []) q 0) p ≡ bit x (8 * q + p)
 byte_of_two x q p hq hp =

@@ -46,7 +46,7 @@ flipped_by_mask_if a b c false k e = xor_false a
 abbrev pub differing : ℕ → ℕ → ℕ → ℕ → ℕ
 differing s m low high = bit_and (bit_xor high (low / 2 ^ s)) m
 
--- bit j of `differing`
+-- bit j of `differing` says whether two bits differ under the mask
 differing_bit : (s m low high j : ℕ) → bit (differing s m low high) j
     ≡ (xor (bit high j) (bit low (j + s)) && bit m j)
 differing_bit s m low high j = bit_of_and (bit_xor high (low / 2 ^ s)) m j
@@ -97,7 +97,7 @@ chosen_same a false x y u v e f g = ap (λ c. cond c x y) e ∙ g
 
 module _ (w s m M low high : ℕ) (f : m * 2 ^ s < 2 ^ 8) (k : s < 8)
     (rep : (i : ℕ) → i < w → bit M i ≡ bit m (i % 8)) where
-  -- the bit of a mask that repeats a byte, s places below bit r of a lane
+  -- s places below bit r of a lane, a mask that repeats a byte has bit r - s of the byte, or none
   masked_below : (j r : ℕ) → 8 * j + 8 ≤ w → r < 8 → (r < s) ⊎ (s ≤ r)
       → (8 * j + r < s) ⊎ (s ≤ 8 * j + r)
       → (nat_le s (8 * j + r) && bit M (8 * j + r - s)) ≡ (nat_le s r && bit m (r - s))

@@ -135,7 +135,7 @@ rotated_byte x d = Places-build 256 _ _ (λ i l.
     (all_below_tells 256 (λ i. get_or byte_on (lane_of i) 0 == lane_of ((i + 8) % 256)) refl i l)
     (λ t. (omega arith, omega arith)) (λ t. absurd (grind (arith, t))))
 
--- a shuffle with zeros
+-- 32 lanes of 0
 abbrev zeros : List ℕ
 zeros = replicate 32 0
 
@@ -218,7 +218,7 @@ pub ruleset bytes_left_calls = (left_even, left_odd)
 
 -- ---- by bits
 
--- a rotation by any number of bits, from that by bytes
+-- two rotations by neighbouring numbers of bytes, joined within each lane, are a rotation by n bits
 pub rotate_part : (x a b : List ℕ) (n : ℕ) → length a ≡ 32 → length b ≡ 32 → Each1 (Fits w8) a
     → Turned 256 (wide_bits x) (wide_bits a) (8 * (n / 8))
     → Turned 256 (wide_bits a) (wide_bits b) 8
@@ -229,7 +229,7 @@ rotate_part x a b n a_long b_long a_fits a_is b_is =
 
 pub ruleset rotate_calls = (rotate_whole, rotate_part)
 
--- a shift to the right by any number of bits, from that by bytes
+-- two shifts right by neighbouring numbers of bytes, joined within each lane, are a shift by n bits
 pub shift_right_part : (x a b : List ℕ) (n : ℕ) → length a ≡ 32 → length b ≡ 32 → Each1 (Fits w8) a
     → Right 256 (wide_bits x) (wide_bits a) (8 * (n / 8)) → Right 256 (wide_bits a) (wide_bits b) 8
     → Right 256 (wide_bits x) (wide_bits (funneled 32 (n % 8) (8 - n % 8) a b)) n
@@ -240,7 +240,7 @@ shift_right_part x a b n a_long b_long a_fits a_is b_is =
 
 pub ruleset shift_right_calls = (shift_right_whole, shift_right_part)
 
--- a shift to the left by any number of bits, from that by bytes
+-- two shifts left by neighbouring numbers of bytes, joined within each lane, are a shift by n bits
 pub shift_left_part : (x a b : List ℕ) (n : ℕ) → length a ≡ 32 → length b ≡ 32 → Each1 (Fits w8) b
     → Left 256 (wide_bits x) (wide_bits a) (8 * (n / 8)) → Left 256 (wide_bits a) (wide_bits b) 8
     → Left 256 (wide_bits x) (wide_bits (funneled 32 (8 - n % 8) (n % 8) b a)) n
@@ -257,7 +257,7 @@ pub ruleset shift_left_calls = (shift_left_whole, shift_left_part)
 abbrev pub twice : List ℕ
 twice = columns
 
--- sixteen lanes in both halves: each bit of the word of 128 bits twice
+-- sixteen lanes in both halves have each bit of the word of 128 bits twice
 pub twice_places : (x : List ℕ) (i : ℕ) → length x ≡ 16 → i < 256
     → at (wide_bits (pick_l 0 (x ++ x) twice)) i ≡ at (lane_bits x) (8 * (i / 16) + i % 8)
 unfolding all_below
@@ -285,7 +285,7 @@ twice_rows x r d t i l =
 abbrev pub upper_16 : List ℕ
 upper_16 = 16 ∷ 17 ∷ 18 ∷ 19 ∷ 20 ∷ 21 ∷ 22 ∷ 23 ∷ 24 ∷ 25 ∷ 26 ∷ 27 ∷ 28 ∷ 29 ∷ 30 ∷ 31 ∷ []
 
--- two vectors side by side: the first has every other eight bits of the word, from the lowest on
+-- of two vectors side by side, the first has every other eight bits of the word, from the lowest on
 pub joined_low : (x y : List ℕ) (j p : ℕ) → length x ≡ 16 → j < 16 → p < 8
     → at (lane_bits x) (8 * j + p)
     ≡ at (wide_bits (pick_l 0 (x ++ y) (sixteen ++ upper_16))) (16 * j + p)
@@ -297,7 +297,7 @@ joined_low x y j p d h hp = lane_at x j p h hp
     ∙ bit_at wide (pick_l 0 (x ++ y) (sixteen ++ upper_16)) j p (16 * j + p) (omega arith)
     (omega arith) (omega arith)
 
--- two vectors side by side: the second has the other eight bits of each sixteen
+-- of two vectors side by side, the second has the other eight bits of each sixteen
 pub joined_high : (x y : List ℕ) (j p : ℕ) → length x ≡ 16 → j < 16 → p < 8
     → at (lane_bits y) (8 * j + p) ≡ at (wide_bits (pick_l 0 (x ++ y) (sixteen ++ upper_16)))
     (16 * j + 8 + p)
@@ -310,7 +310,7 @@ joined_high x y j p d h hp = lane_at y j p h hp
     (omega arith) (omega arith)
     (omega arith)
 
--- the lower half alone
+-- the lower half of 32 lanes has every other eight bits of the word, from the lowest on
 pub lower : (x : List ℕ) (j p : ℕ) → length x ≡ 32 → j < 16 → p < 8
     → at (lane_bits (pick_l 0 (x ++ x) sixteen)) (8 * j + p) ≡ at (wide_bits x) (16 * j + p)
 unfolding all_below
@@ -320,7 +320,7 @@ lower x j p d h hp = lane_at (pick_l 0 (x ++ x) sixteen) j p h hp
     ∙ get_or_append_left x x 0 j (omega (arith, d, h)))
     ∙ bit_at wide x j p (16 * j + p) (omega arith) (omega arith) (omega arith)
 
--- the upper half alone
+-- the upper half of 32 lanes has the other eight bits of each sixteen
 pub upper : (x : List ℕ) (j p : ℕ) → length x ≡ 32 → j < 16 → p < 8
     → at (lane_bits (pick_l 0 (x ++ x) upper_16)) (8 * j + p) ≡ at (wide_bits x) (16 * j + 8 + p)
 unfolding all_below

@@ -60,7 +60,8 @@ filled h y v s rest b block after is whole written =
           (omega (arith, places)));
     }
 
--- GHASH after a string of whole blocks and a piece of whole blocks
+-- after a string of whole blocks, a piece of whole blocks is hashed, and no byte is left in the
+-- block
 pub whole_blocks : (h y v : ℕ) (s rest b after : List ℕ) → IsHashing h y s v rest
     → length s % 16 ≡ 0
     → length b % 16 ≡ 0
@@ -143,7 +144,7 @@ closed h y v s rest is =
     ∙ sym (hashed_on h y a (padded t) n (length (padded t) / 16) a_long)
     ∙ (λ i. hashed h y (whole i) (count i))
 
--- S of additional data and text, by the value after both and by their lengths
+-- S of additional data and text follows from the value after both and from their lengths
 pub summed : (h v m n : ℕ) (a c : List ℕ)
     → v ≡ hashed h (hashed_padded h a) (padded c) (length (padded c) / 16)
     → m ≡ length a → n ≡ length c

@@ -190,7 +190,7 @@ fallen_long table m t last end long sized t_is last_is =
     length-zip2 bit_xor m t (long ∙ sym (ap length t_is ∙ length-map last (looked table)
     ∙ ap length last_is ∙ length-map end low_nibble ∙ sized)) ∙ long
 
--- the first row of a number times x^4: no row comes before it
+-- the first row of a number times x^4 has nothing of a row before it
 pub first_row : (v : ℕ) (rows : List (List ℕ)) (m t last : List ℕ) → v < 2 ^ 128
     → rows ≡ multiples_rows v → length m ≡ 16 → length (get_or rows 15 []) ≡ 16
     → ((n : ℕ) → n < 16 → get_or m n 0 ≡ bit_xor (get_or (get_or rows 0 []) n 0 / 16)
@@ -207,7 +207,7 @@ first_row v rows m t last small is long sized lanes t_is last_is =
     (looked FALLEN_FIRST (lane_of_row v 15 n rows is (omega arith) h u % 16)))
     ∙ sym (four_first (nibble_multiple v n) (nibble_below v n small)))
 
--- the second row of a number times x^4
+-- the second row of a number times x^4 has nibbles of the rows before it
 pub second_row : (v : ℕ) (rows : List (List ℕ)) (m t last : List ℕ)
     → rows ≡ multiples_rows v → length m ≡ 16 → length (get_or rows 15 []) ≡ 16
     → ((n : ℕ) → n < 16 → get_or m n 0 ≡ bit_xor (get_or (get_or rows 2 []) n 0 / 16)

@@ -70,7 +70,8 @@ zip2_append f (x ∷ a) b [] d same = absurd (omega (arith, same))
 zip2_append f (x ∷ a) b (y ∷ c) d same =
     ap (λ l. f x y ∷ l) (zip2_append f a b c d (omega (arith, same)))
 
--- what the nibbles of a block look up in both halves, summed
+-- the nibbles of a block, looked up in both halves and summed, are the look-ups by nibbles in each
+-- half
 pub rows_in_halves : (l1 l2 h1 h2 x lows highs low high : List ℕ) → length x ≡ 16
     → lows ≡ map low_nibble x ++ map low_nibble x → highs ≡ map high_nibble x ++ map high_nibble x
     → ((p q : List ℕ) → length p ≡ 16 → length q ≡ 16 → lows ≡ p ++ q
@@ -105,7 +106,8 @@ pub zeros_upper : (x : List ℕ) → length x ≡ 32
     → 0 ∷ pick_l 0 x (range_with_len 16 15) ≡ 0 ∷ take 15 (drop 16 x)
 zeros_upper x long = ap (λ l. 0 ∷ l) (pick_l-range_with_len 0 x 16 15 (omega (arith, long)))
 
--- the bytes of the lower half after the byte that fell out of the other vector's
+-- the byte that falls out of the lower half of one vector comes before the first fifteen of the
+-- other's
 pub lasts_lower : (x y : List ℕ) → length x ≡ 32 → length y ≡ 32
     → get_or (x ++ y) 15 0 ∷ pick_l 0 (x ++ y) (range_with_len 32 15)
     ≡ get_or (take 16 x) 15 0 ∷ take 15 (take 16 y)
@@ -117,7 +119,8 @@ lasts_lower x y x_long y_long =
     ∙ ap (take 15) (drop_at x y 32 x_long) ∙ sym (take-take 15 16 y (omega arith)) in
     λ t. last t ∷ rest t
 
--- the bytes of the upper half after the byte that fell out of the other vector's
+-- the byte that falls out of the upper half of one vector comes before the first fifteen of the
+-- other's
 pub lasts_upper : (x y : List ℕ) → length x ≡ 32 → length y ≡ 32
     → get_or (x ++ y) 31 0 ∷ pick_l 0 (x ++ y) (range_with_len 48 15)
     ≡ get_or (drop 16 x) 15 0 ∷ take 15 (drop 16 y)

@@ -58,7 +58,7 @@ high_row rows rest h r is inside =
     ∙ get_or-build 16 p row [] (omega (arith, inside))
     ∙ ap (multiples_row h) back
 
--- the rows of a table by the last four bits of a byte
+-- row 16 + place_of r of a table is row r of the multiples of the number times x^4
 pub low_row : (rows : List (List ℕ)) (h r : ℕ) → rows ≡ table_of h → r < 16
     → get_or rows (16 + place_of r) [] ≡ multiples_row (v_at h 4) r
 unfolding table_of multiples_rows

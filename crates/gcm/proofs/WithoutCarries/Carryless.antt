@@ -134,7 +134,7 @@ middle a b c d =
     ∙ ap (λ s. bit_xor s (bit_xor c d)) (ap (λ s. bit_xor s a) (xor_comm a b) ∙ add_twice b a))
     ∙ xor_assoc b (bit_xor c d) d ∙ ap (bit_xor b) (add_twice c d)
 
--- a product without carries of 2 n bits by three products of n bits (Karatsuba)
+-- three products of n bits make a product without carries of 2 n bits (Karatsuba)
 pub karatsuba : (n x y x0 x1 y0 y1 : ℕ) → x1 ≡ x / 2 ^ n → x0 ≡ x % 2 ^ n → y1 ≡ y / 2 ^ n
     → y0 ≡ y % 2 ^ n → (l h m : ℕ) → l ≡ carryless n x0 y0 → h ≡ carryless n x1 y1
     → m ≡ bit_xor (bit_xor (carryless n (bit_xor x0 x1) (bit_xor y0 y1)) l) h
@@ -264,7 +264,7 @@ folded_in =
     (λ i l. eqb-true _ _ (all_below_tells 128
     (λ i. v_at (2 ^ i) 128 == folded (spread (2 ^ i))) bit_test i l))
 
--- the product of two blocks, by the halves of the product without carries
+-- the halves of the product without carries, reduced, are the product of two blocks
 pub reduced_product : (x h high low : ℕ) → high * 2 ^ 128 + low ≡ carryless 128 x h → h < 2 ^ 128
     → low < 2 ^ 128
     → bit_xor (bit_xor (high * 2 % 2 ^ 128) (low / 2 ^ 127)) (folded (spread (low * 2 % 2 ^ 128)))
@@ -293,7 +293,7 @@ reduced_product x h high low is small fits =
     sum_without_carry 1 high (low / 2 ^ 127) (omega (arith, fits)) in
     ap (λ z. bit_xor (bit_xor z (low / 2 ^ 127)) w) kept ∙ ap (λ z. bit_xor z w) joint ∙ whole
 
--- the upper and the lower half of a product of 256 bits, by the products of its parts
+-- the products of the parts make the upper and the lower half of a product of 256 bits
 pub columns : (h m l : ℕ) → l < 2 ^ 128 → bit_xor h (m / 2 ^ 64) * 2 ^ 128
     + bit_xor l (m * 2 ^ 64 % 2 ^ 128)
     ≡ bit_xor (bit_xor (h * 2 ^ 64 * 2 ^ 64) (m * 2 ^ 64)) l

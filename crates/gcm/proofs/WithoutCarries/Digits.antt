@@ -36,7 +36,8 @@ masked_shifted k n m r small =
     ap (bit_and (n * 2 ^ k + r)) mask ∙ and_block k n m r 0 small (pow_pos k)
     ∙ ap (λ z. bit_and n m * 2 ^ k + z) (and_zero_r r) ∙ omega arith
 
--- the lowest bits of n + 1 digits, by those of the first n and the last one
+-- the lowest bits of n + 1 digits are those of the digits above the first, one digit up, and that
+-- of the first
 pub holes_next : (x n : ℕ) → bit_and x (holes (suc n)) ≡ bit_and (x / 16) (holes n) * 16 + x % 2
 unfolding holes
 holes_next x n =

@@ -20,7 +20,8 @@ use Rattle.gcm.proofs.WithoutCarries.Digits.{digits_times}
 unfoldable pub every_fourth : ℕ → ℕ → ℕ
 every_fourth x r = bit_and x (holes 8 * 2 ^ r)
 
--- every fourth bit of a word from bit r on, shifted to bit 0
+-- every fourth bit of a word from bit r on is every fourth bit from bit 0 on of the word shifted
+-- down, shifted up again
 from_first : (x r : ℕ) → every_fourth x r ≡ bit_and (x / 2 ^ r) (holes 8) * 2 ^ r
 unfolding every_fourth
 from_first x r =

@@ -13,7 +13,7 @@ w = key_expansion (bytes 16 0x000102030405060708090a0b0c0d0e0f)
 abbrev begun : List (List ℕ)
 begun = integrity_check ∷ bytes 8 0x0011223344556677 ∷ bytes 8 0x8899aabbccddeeff ∷ []
 
--- a step of W, by its block
+-- one step of W follows from the cipher of its block
 step : (t : ℕ) (a r next b : List ℕ) → wrapped_after w begun t ≡ a ∷ r ∷ next ∷ []
     → cipher_with w (a ++ r) ≡ b
     → wrapped_after w begun (suc t) ≡ number_added (take 8 b) (suc t) ∷ next ∷ drop 8 b ∷ []
