@@ -3,9 +3,9 @@ use Rattle.std.proofs.Common.{◌≡◌, ℕ, ◌+◌, ◌≤◌, List, [], ◌�
 use Rattle.std.proofs.Common.{◌∙◌, arith}
 use Rattle.std.proofs.lemmas.List.{ext_get_or}
 use Rattle.aes_planes.specs.Fips197 as fips
-use Rattle.aes_planes.specs.Planes.{constant_block, summed, columns_summed, columns_straddled}
+use Rattle.aes_planes.specs.Planes.{constant_block, fold_to, columns_summed, columns_straddled}
 use Rattle.aes.proofs.SingleRounds.{mixing_undone}
-use Rattle.aes_planes.proofs.KeySchedule.ExpansionLength.{expansion_length}
+use Rattle.aes_planes.proofs.KeySchedule.ExpansionLength.{length-key_expansion}
 
 -- round keys are those of a key, if each is
 pub same_round_keys : (key : List ℕ) (keys : List (List ℕ)) (last : ℕ) → last ≡ fips.rounds key
@@ -13,12 +13,12 @@ pub same_round_keys : (key : List ℕ) (keys : List (List ℕ)) (last : ℕ) →
     → ((i : ℕ) → i ≤ last → fips.round_key keys i ≡ fips.round_key (fips.key_expansion key) i)
     → keys ≡ fips.key_expansion key
 same_round_keys key keys last e l each =
-    ext_get_or [] keys (fips.key_expansion key) (omega (arith, l, e, expansion_length key))
+    ext_get_or [] keys (fips.key_expansion key) (omega (arith, l, e, length-key_expansion key))
     (λ i lt. each i (omega (arith, l, lt)))
 
 -- the sums of the columns of a block and of a word
 abbrev pub summed_from : List ℕ → List ℕ → List ℕ
-summed_from x s = fips.state (λ r c. summed fips.field_add (fips.byte_at x r) (slice_index s r) c)
+summed_from x s = fips.state (λ r c. fold_to fips.field_add (fips.byte_at x r) (slice_index s r) c)
 
 -- the four bytes of a block from one on
 abbrev pub word_at : List ℕ → ℕ → List ℕ

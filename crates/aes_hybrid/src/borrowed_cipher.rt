@@ -3,7 +3,7 @@
 ghost use Rattle.std.specs.Prelude.{◌≡◌, ℕ, List};
 ghost use Rattle.aes_planes.specs.Each.{Each};
 ghost use Rattle.aes_planes.specs.Fips197 as fips;
-ghost use Rattle.aes_planes.proofs.Standard.CipherLaws.{two_keys};
+ghost use Rattle.aes_planes.proofs.Standard.CipherLaws.{two_expanded};
 ghost use Rattle.aes_permute.specs.Keys.{encrypting, key_of_lanes, IsCipherSchedule};
 ghost use Rattle.aes_permute.specs.Stored.{round_keys_of};
 
@@ -116,7 +116,7 @@ impl<D: LaneRounds, W> RoundKeysUser for BorrowedCipher<'_, D, W> {
         let _ = &self.keys;
     }
 
-    ghost two_round_keys = { two_keys };
+    ghost two_round_keys = { two_expanded };
 }
 
 impl<W: Width> BlockCipherEncrypt for BorrowedCipher<'_, Encrypt, W> {

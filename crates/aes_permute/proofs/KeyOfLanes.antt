@@ -4,13 +4,13 @@ use Rattle.std.proofs.Common.{refl, ap, sym, subst, ◌∙◌, arith}
 use Rattle.aes_planes.specs.Fips197 as fips
 use Rattle.aes_planes.specs.Rounds.{all_rounds}
 use Rattle.aes_planes.proofs.KeySchedule.ExpandedBlocks.{first_bytes}
-use Rattle.aes_planes.proofs.KeySchedule.ExpansionLength.{expansion_length}
-use Rattle.aes_planes.proofs.Standard.CipherLaws.{two_keys}
+use Rattle.aes_planes.proofs.KeySchedule.ExpansionLength.{length-key_expansion}
+use Rattle.aes_planes.proofs.Standard.CipherLaws.{two_expanded}
 use Rattle.aes_cipher.specs.KeySizes.{IsKeySize}
 use Rattle.aes_permute.specs.Keys.{encrypting, cipher_form, key_of_lanes, leading_key}
 use Rattle.aes_permute.specs.Keys.{lane_key_size, IsCipherSchedule}
 use Rattle.aes_permute.specs.Stored.{round_keys_of, LaneForm}
-use Rattle.aes_permute.proofs.StoredStates.{keys_length}
+use Rattle.aes_permute.proofs.StoredStates.{length-round_keys_of}
 
 -- the key that begins its own schedule
 begins_with_key : (size : ℕ) (key : List ℕ) → IsKeySize size → length key ≡ size
@@ -59,7 +59,7 @@ pub two_stored : (form : LaneForm) → ((w : List (List ℕ)) → length (form.d
     → round_keys_of form stored ≡ form.direction_keys (fips.key_expansion key)
     → 2 ≤ length stored
 two_stored form same stored key e =
-    omega (arith, keys_length form stored, ap length e, same (fips.key_expansion key), two_keys key)
+    omega (arith, length-round_keys_of form stored, ap length e, same (fips.key_expansion key), two_expanded key)
 
 -- all rounds under stored round keys of a key are what the direction does under the key
 pub direction_rounds : (step last_step : List ℕ → List ℕ) {processed : List (List ℕ) → List ℕ → List ℕ}
@@ -71,7 +71,7 @@ pub direction_rounds : (step last_step : List ℕ → List ℕ) {processed : Lis
     → (b : List ℕ) → all_rounds step last_step (round_keys_of form stored) b
     ≡ processed (fips.key_expansion key) b
 direction_rounds step last_step form follow stored key e b =
-    ap (λ w. all_rounds step last_step w b) e ∙ follow (fips.key_expansion key) b (two_keys key)
+    ap (λ w. all_rounds step last_step w b) e ∙ follow (fips.key_expansion key) b (two_expanded key)
 
 -- stored round keys that stand for the expansion of a key of 16, 24 or 32 bytes are those of the
 -- key that they are read as
@@ -80,4 +80,4 @@ pub expansion_read : (stored : List (List ℕ)) (key : List ℕ) → IsKeySize (
     → encrypting stored ≡ fips.key_expansion key → IsCipherSchedule stored
 expansion_read stored key one b e =
     schedule_read stored key one
-    (omega (arith, keys_length cipher_form stored, ap length e, expansion_length key)) b e
+    (omega (arith, length-round_keys_of cipher_form stored, ap length e, length-key_expansion key)) b e

@@ -182,7 +182,7 @@ held_of n planes blocks l sized h =
     (λ k lt. state_is _ (get_or blocks k []) (sized k lt) (λ r c i j. h r c k i j lt))
 
 -- a list of one is its element
-pub single : {A : Type 0} (xs : List A) (d : A) → length xs ≡ 1 → xs ≡ get_or xs 0 d ∷ []
-single [] d e = absurd (omega arith)
-single (x ∷ []) d e = refl
-single (x ∷ y ∷ xs) d e = absurd (omega arith)
+pub list_of_one : {A : Type 0} (xs : List A) (d : A) → length xs ≡ 1 → xs ≡ get_or xs 0 d ∷ []
+list_of_one [] d e = absurd (omega arith)
+list_of_one (x ∷ []) d e = refl
+list_of_one (x ∷ y ∷ xs) d e = absurd (omega arith)

@@ -85,14 +85,14 @@ laid w lane xs = build w (λ i. bit (get_or xs (lane i) 0) (i % 8))
 
 module _ {n w : ℕ} {lane : ℕ → ℕ} (laws : IsLayout n w lane) where
   -- bit i of the word is that of the lane there
-  pub reads : (xs : List ℕ) (i : ℕ) → i < w
+  pub at-laid : (xs : List ℕ) (i : ℕ) → i < w
       → bit (get_or xs (lane i) 0) (i % 8) ≡ at (laid w lane xs) i
-  reads xs i h = sym (get_or-build w i (λ i. bit (get_or xs (lane i) 0) (i % 8)) false h)
+  at-laid xs i h = sym (get_or-build w i (λ i. bit (get_or xs (lane i) 0) (i % 8)) false h)
 
   -- bit i of the word, where the lane and the place in it are given by other terms
   pub bit_at : (xs : List ℕ) (j r i : ℕ) → i < w → j ≡ lane i → r ≡ i % 8
       → bit (get_or xs j 0) r ≡ at (laid w lane xs) i
-  bit_at xs j r i h e f = (λ t. bit (get_or xs (e t) 0) (f t)) ∙ reads xs i h
+  bit_at xs j r i h e f = (λ t. bit (get_or xs (e t) 0) (f t)) ∙ at-laid xs i h
 
   -- bit r of byte j of the word is bit r of the lane there
   pub at_byte : (xs : List ℕ) (j r : ℕ) → 8 * j + 8 ≤ w → r < 8
@@ -106,15 +106,15 @@ module _ {n w : ℕ} {lane : ℕ → ℕ} (laws : IsLayout n w lane) where
       ap (λ v. bit v (i % 8)) (get_or-replicate n (lane i) b 0 (laws.within i h)))
 
   -- bit i % 8 of a lane that was picked so is bit k of the word, or none
-  read : (x : List ℕ) (i k o source : ℕ) (some : Bool)
+  bit_picked : (x : List ℕ) (i k o source : ℕ) (some : Bool)
       → (some ≡ true → (k < w) × (source < 16) × (o + source ≡ lane k) × (i % 8 ≡ k % 8))
       → (some ≡ false → 16 ≤ source)
       → bit (lane_from x o source) (i % 8) ≡ (some && at (laid w lane x) k)
-  read x i k o source true there none =
+  bit_picked x i k o source true there none =
       let t = there refl in
       ap (λ b. bit (cond b (get_or x (o + source) 0) 0) (i % 8)) (lt-ltb source 16 t.1)
       ∙ bit_at x (o + source) (i % 8) k t.0 t.2 t.3
-  read x i k o source false there none =
+  bit_picked x i k o source false there none =
       ap (λ b. bit (cond b (get_or x (o + source) 0) 0) (i % 8)) (le-ltb source 16 (none refl))
       ∙ bit_zero (i % 8)
 
@@ -136,7 +136,7 @@ module _ {n w : ℕ} {lane : ℕ → ℕ} (laws : IsLayout n w lane) where
       (omega arith)
       (laws.within i l))
       ∙ ap (λ o. lane_from x o source) start)
-      ∙ read x i k (16 * (j / 16)) source some there none
+      ∙ bit_picked x i k (16 * (j / 16)) source some there none
 
   -- ---- rotations and shifts by bits, made of those by bytes
   -- (in each lane are the high bits of a, and then the low bits of b)

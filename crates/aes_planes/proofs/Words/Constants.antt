@@ -9,7 +9,7 @@ use Rattle.aes_planes.specs.Words.{word_bits}
 use Rattle.aes_planes.proofs.Bits.BitCases.{same, same_tells}
 use Rattle.aes_planes.proofs.Bits.ByteCases.{all_below, all_below_tells, all_pairs_tell, by_four}
 use Rattle.aes_planes.proofs.Bits.Digits.{field_bit, rows_joined, byte_repeated}
-use Rattle.aes_planes.proofs.Bits.NumberBits.{bit_low, bit_shr, reads, number_calls}
+use Rattle.aes_planes.proofs.Bits.NumberBits.{bit_low, bit_shr, at-word_bits, number_calls}
 
 -- ---- a row of n bits a column
 
@@ -21,8 +21,8 @@ nibble_row b n =
     (b / 8 * 2 ^ (3 * n) % 2 ^ 32) * (1 * 2 ^ n % 2 ^ 32 - 1)
 
 -- a test of all bits of a nibble's row, and that it fits in a row and in 32 bits
-row_case : ℕ → ℕ → Bool
-row_case n b =
+row_test : ℕ → ℕ → Bool
+row_test n b =
     (nat_lt (nibble_row b n) (2 ^ (4 * n)) && nat_lt (nibble_row b n) (2 ^ 32))
     && all_below (4 * n) (λ q. same (bit (nibble_row b n) q) (bit b (q / n)))
 
@@ -30,11 +30,11 @@ row_case n b =
 row_right : (b n : ℕ) → b ≤ 15 → 1 ≤ n → n ≤ 8
     → (nibble_row b n < 2 ^ (4 * n)) × (nibble_row b n < 2 ^ 32)
     × ((q : ℕ) → q < 4 * n → bit (nibble_row b n) q ≡ bit b (q / n))
-unfolding all_below row_case same bit
+unfolding all_below row_test same bit
 row_right b zero h some few = absurd (omega arith)
 row_right b (suc m) h some few =
     let t = and_parts _ _
-    (all_pairs_tell 8 16 (λ m b. row_case (suc m) b) refl m b (omega arith) (omega arith)) in
+    (all_pairs_tell 8 16 (λ m b. row_test (suc m) b) refl m b (omega arith) (omega arith)) in
     let small = and_parts _ _ t.0 in (
       ltb-true _ _ small.0,
       ltb-true _ _ small.1,
@@ -92,7 +92,7 @@ rows_packed {n = n} {x0 = x0} {x1 = x1} {x2 = x2} {x3 = x3} {r0 = r0} {r1 = r1} 
     let q = i % (4 * n) in
     let row : i / (4 * n) < 4 = row_below i (4 * n) (omega arith) in
     let column : q < 4 * n = mod-lt i (omega arith) in
-    sym (reads (16 * n) _ i h)
+    sym (at-word_bits (16 * n) _ i h)
     ∙ rows_joined (16 * n) (4 * n) x0 x1 x2 x3 (i / (4 * n)) q i
     (omega arith) a.small b.small c.small d.small row
     column (sym (div-add-mod' i (4 * n)))

@@ -18,7 +18,7 @@ use Rattle.aes_permute.proofs.ByHalves.{by_half, half_of_both, half_of_zip}
 use Rattle.gcm.specs.declared.moved_rows.TheConstants.{FALLEN_FIRST, FALLEN_SECOND}
 use Rattle.gcm.specs.Gcm.{next_v, v_at}
 use Rattle.gcm.specs.Multiples.{byte_of, nibble_multiple, multiples_row, multiples_rows, row_at}
-use Rattle.gcm.proofs.Products.Linear.{sum-agree, v-sum, v_keeps, v_swap, v_shifted, term}
+use Rattle.gcm.proofs.Products.Linear.{sum-ext, v-sum, v_keeps, v_swap, v_shifted, term}
 use Rattle.gcm.proofs.Products.Linear.{term_through, sum_without_carry, nibble_below}
 use Rattle.gcm.proofs.Tables.Rows.{byte_of_sum, zero_at}
 
@@ -129,7 +129,7 @@ nibble_four : (v n : ℕ) → nibble_multiple (v_at v 4) n ≡ v_at (nibble_mult
 unfolding nibble_multiple term
 nibble_four v n =
     let f = λ (i : ℕ). term (n / 2 ^ (3 - i) % 2) (v_at v i) in
-    sum-agree 4 (λ i. term (n / 2 ^ (3 - i) % 2) (v_at (v_at v 4) i)) (λ i. v_at (f i) 4)
+    sum-ext 4 (λ i. term (n / 2 ^ (3 - i) % 2) (v_at (v_at v 4) i)) (λ i. v_at (f i) 4)
     (λ i h. ap (term (n / 2 ^ (3 - i) % 2)) (v_swap v 4 i)
     ∙ sym (term_through (n / 2 ^ (3 - i) % 2) (v_at v i) 4))
     ∙ sym (v-sum 4 4 f)

@@ -13,7 +13,7 @@ use Rattle.aes_planes.proofs.Standard.FieldLaws.{add_swap, add_twice}
 use Rattle.gcm.specs.Gcm.{bit_of, next_v, v_at, product}
 use Rattle.gcm.specs.Carryless.{carryless}
 use Rattle.gcm.specs.Multiples.{sum_of, folded}
-use Rattle.gcm.proofs.Products.Linear.{shift_keeps, sum_without_carry, sum-agree, term, term_adds}
+use Rattle.gcm.proofs.Products.Linear.{shift_keeps, sum_without_carry, sum-ext, term, term_adds}
 use Rattle.gcm.proofs.Products.Linear.{term_keeps, term_mapped, term_through, term_zero}
 use Rattle.gcm.proofs.Products.Linear.{product_terms, v_add, v_below, v_keeps, v_shifted, v_zero}
 use Rattle.gcm.proofs.Products.Powers.{product_below}
@@ -183,7 +183,7 @@ shifted_back (suc n) x h =
     v_keeps (suc n) (product * 2) (term (x % 2) h)
     ∙ (λ t. bit_xor ((ap (v_at (product * 2)) one ∙ sym (v_add (product * 2) 1 n)
     ∙ ap (λ y. v_at y n) (v_shifted 1 product) ∙ shifted_back n (x / 2) h
-    ∙ sum-agree (suc n) (λ i. term (x / 2 / 2 ^ (n - i) % 2) (v_at h i))
+    ∙ sum-ext (suc n) (λ i. term (x / 2 / 2 ^ (n - i) % 2) (v_at h i))
     (λ i. term (x / 2 ^ (suc n - i) % 2) (v_at h i))
     (λ i l.
     let place : 1 + (n - i) ≡ suc n - i = omega arith in

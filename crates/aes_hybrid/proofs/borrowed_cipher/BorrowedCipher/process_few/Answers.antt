@@ -1,7 +1,7 @@
 -- All rounds under the stored round keys of a direction are its cipher, on each block of a slice.
 use Rattle.std.proofs.Common.{◌∙◌, arith}
 use Rattle.std.proofs.lemmas.Grind.{common_steps}
-use Rattle.aes_planes.proofs.Lists.{map-same}
+use Rattle.aes_planes.proofs.Lists.{map-ext}
 use Rattle.aes_permute.proofs.KeyOfLanes.{two_stored, direction_rounds}
 use Rattle.aes_hybrid.proofs.borrowed_cipher.BorrowedCipher.process_few.Goals as goal
 
@@ -14,7 +14,7 @@ pub returns : goal.returns
 returns g c = grind (
   arith,
   common_steps,
-  c.process_on_lanes.ensures ∙ map-same _ _ c.args.blocks.now
+  c.process_on_lanes.ensures ∙ map-ext _ _ c.args.blocks.now
       (direction_rounds g.D.Direction.step g.D.Direction.last_step g.D.LaneRounds.form
       c.rounds_follow_the_standard.ensures _ _ c.self.invariant.1),
 )

@@ -6,7 +6,7 @@ use Rattle.aes_permute.specs.declared.tables.TheConstants.{INV_4_SECOND, INV_9_F
 use Rattle.aes_permute.specs.declared.tables.TheConstants.{INV_15_FIRST, INV_15_SECOND}
 use Rattle.aes_permute.proofs.Lookups.{summed}
 use Rattle.aes_permute.proofs.RoundLanes.{through_lanes}
-use Rattle.aes_permute.proofs.DecryptionLanes.{round_is}
+use Rattle.aes_permute.proofs.DecryptionLanes.{inv_round_is}
 use Rattle.aes_permute.proofs.rounds.DecryptLaneRounds.round.Goals as goal
 
 pub returns : goal.returns
@@ -17,7 +17,7 @@ returns g c i =
     (summed (c.sum-with_key.ensures i) (c.permuted-first.ensures i) refl)
     (summed (c.sum-last_two.ensures i) (c.permuted-third.ensures i) (c.permuted-fourth.ensures i)))
     (c.permuted-second.ensures i))
-    ∙ round_is (g.L.Lanes.block c.args.x i) (g.L.Lanes.block c.args.key i) (c.blocks_have_16_bytes.ensures i)
+    ∙ inv_round_is (g.L.Lanes.block c.args.x i) (g.L.Lanes.block c.args.key i) (c.blocks_have_16_bytes.ensures i)
     (c.blocks_have_16_bytes-2.ensures i).0 (record {
       is_1 = through_lanes INV_1_FIRST INV_1_SECOND _ f s (c.looked_up-by_1.ensures i);
       is_4 = through_lanes INV_4_FIRST INV_4_SECOND _ f s (c.looked_up-by_4.ensures i);
