@@ -3,9 +3,9 @@ use Rattle.std.proofs.Common.{◌≡◌, ℕ, ◌+◌, ◌≤◌, List, [], ◌�
 use Rattle.std.proofs.Common.{◌∙◌, arith}
 use Rattle.std.proofs.lemmas.List.{ext_get_or}
 use Rattle.aes_planes.specs.Fips197 as fips
-use Rattle.aes_planes.specs.Planes.{constant_block, summed, columns_summed, columns_straddled}
+use Rattle.aes_planes.specs.Planes.{constant_block, fold_to, columns_summed, columns_straddled}
 use Rattle.aes.proofs.SingleRounds.{mixing_undone}
-use Rattle.aes_planes.proofs.KeySchedule.ExpansionLength.{expansion_length}
+use Rattle.aes_planes.proofs.KeySchedule.ExpansionLength.{length-key_expansion}
 
 -- round keys are those of a key, if each is
 pub same_round_keys : (key : List ℕ) (keys : List (List ℕ)) (last : ℕ) → last ≡ fips.rounds key
@@ -13,12 +13,12 @@ pub same_round_keys : (key : List ℕ) (keys : List (List ℕ)) (last : ℕ) →
     → ((i : ℕ) → i ≤ last → fips.round_key keys i ≡ fips.round_key (fips.key_expansion key) i)
     → keys ≡ fips.key_expansion key
 same_round_keys key keys last e l each =
-    ext_get_or [] keys (fips.key_expansion key) (omega (arith, l, e, expansion_length key))
+    ext_get_or [] keys (fips.key_expansion key) (omega (arith, l, e, length-key_expansion key))
     (λ i lt. each i (omega (arith, l, lt)))
 
 -- the sums of the columns of a block and of a word
 abbrev pub summed_from : List ℕ → List ℕ → List ℕ
-summed_from x s = fips.state (λ r c. summed fips.field_add (fips.byte_at x r) (slice_index s r) c)
+summed_from x s = fips.state (λ r c. fold_to fips.field_add (fips.byte_at x r) (slice_index s r) c)
 
 -- the four bytes of a block from one on
 abbrev pub word_at : List ℕ → ℕ → List ℕ
@@ -60,7 +60,8 @@ last_word_substituted x a b e f =
     (f ∙ ap fips.inv_mix_columns e ∙ mixing_undone x)
 
 module _ (x y z u v : List ℕ) (hx : u ≡ x) (hy : v ≡ y) where
-  -- SubWord of RotWord of the last column and a round constant, summed onto the columns of a block
+  -- SubWord of RotWord of the last column and a round constant, summed onto the columns of a block,
+  -- are `columns_summed` with the constant block
   pub rotated_is : (w s : List ℕ) (k : ℕ) → z ≡ summed_from u s
       → s ≡ fips.add_words
       (slice_index w 1 ∷ slice_index w 2 ∷ slice_index w 3 ∷ slice_index w 0 ∷ [])
@@ -73,7 +74,7 @@ module _ (x y z u v : List ℕ) (hx : u ≡ x) (hy : v ≡ y) where
       ∙ (λ i. columns_summed 1 3 (hx i)
       (fips.add_round_key (fips.sub_bytes (hy i)) (constant_block k)))
 
-  -- SubWord of the last column, summed onto the columns of a block
+  -- SubWord of the last column, summed onto the columns of a block, is `columns_summed`
   pub substituted_is : (w : List ℕ) → z ≡ summed_from u w
       → w ≡ fips.word (λ r. fips.byte_at (fips.sub_bytes v) r 3)
       → z ≡ columns_summed 0 3 x (fips.sub_bytes y)

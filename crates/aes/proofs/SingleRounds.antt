@@ -2,7 +2,7 @@
 use Rattle.std.proofs.Common.{◌≡◌, ℕ, List, length, replicate, ap, ◌∙◌}
 use Rattle.std.specs.Int.Bits.{xor_zero_r}
 use Rattle.aes_planes.specs.Fips197 as fips
-use Rattle.aes_planes.proofs.Lists.{built}
+use Rattle.aes_planes.proofs.Lists.{build-get_or}
 use Rattle.aes_planes.proofs.Mixing.MixColumns.{mix_block, inv_mix_block, inv_mix_of_mix}
 use Rattle.aes_planes.proofs.Mixing.MixColumns.{mix_of_inv_mix}
 use Rattle.aes_planes.proofs.Standard.Steps.{sub_bytes_bytes, inv_sub_bytes_bytes, shift_block}
@@ -12,7 +12,7 @@ use Rattle.aes_planes.proofs.Standard.Steps.{inv_shift_block}
 add_round_key_zero : (s : List ℕ) → length s ≡ 16 → fips.add_round_key s (replicate 16 0) ≡ s
 unfolding fips.add_round_key fips.state fips.build
 add_round_key_zero s l = (λ i. fips.state (λ r c. xor_zero_r (fips.byte_at s r c) i))
-    ∙ built 16 s 0 l
+    ∙ build-get_or 16 s 0 l
 
 -- a round under the zero key, then InvMixColumns, is SubBytes and ShiftRows
 pub mixing_undone : (b : List ℕ)

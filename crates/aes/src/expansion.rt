@@ -2,7 +2,7 @@
 
 ghost use Rattle.std.specs.Prelude.{◌≡◌, ◌⊎◌, ◌+◌, length, slice_index};
 ghost use Rattle.aes_planes.specs.Fips197 as fips;
-ghost use Rattle.aes_planes.specs.Planes.{summed};
+ghost use Rattle.aes_planes.specs.Planes.{fold_to};
 
 use crate::Block;
 use crate::hazmat::{cipher_round, inv_mix_columns};
@@ -120,7 +120,7 @@ fn substituted_word(words: Block) -> KeyWord
 // Returns columns. Each is the sum of a word and of the block's columns up to that place.
 fn summed_columns(before: Block, start: KeyWord) -> Block
     ensures { result ≡ fips.state
-        (λ r c. summed fips.field_add (fips.byte_at before r) (slice_index start r) c) }
+        (λ r c. fold_to fips.field_add (fips.byte_at before r) (slice_index start r) c) }
 {
     let a = add_words([before[0], before[1], before[2], before[3]], start);
     let b = add_words([before[4], before[5], before[6], before[7]], a);

@@ -26,7 +26,7 @@ pub type FixslicedAes<K, D> = aes::AesCipher<Fixsliced<K>, D>;
 /// Stored round keys of a key of the size K. They serve both directions.
 pub struct Fixsliced<K: KeySize> {
     // The first words are the round keys, as they are stored. The others stay zero.
-    room: Wiped<PlaneRoom>,
+    room: Wiped<PlaneRoom<u16>>,
     size: PhantomData<K>,
 }
 

@@ -3,30 +3,22 @@ use Rattle.std.proofs.Common.{◌≡◌, ℕ, zero, suc, ◌+◌, ◌-◌, ◌*�
 use Rattle.std.proofs.Common.{◌++◌, length, map, take, drop, get_or, refl, sym, ap, ◌∙◌, arith}
 use Rattle.std.proofs.Common.{append_assoc, length-append}
 use Rattle.std.proofs.lemmas.List.{drop-drop, take-append-drop, take-take, drop-take, map-append}
-use Rattle.std.proofs.lemmas.List.{get_or-take, get_or-drop, length-take, length-drop}
-use Rattle.std.proofs.Math.Seq.{take-append_seam, drop-append_seam}
+use Rattle.std.proofs.lemmas.List.{get_or-take, get_or-drop, length-take, length-drop, take_at}
+use Rattle.std.proofs.lemmas.List.{drop_at}
 use Rattle.std.proofs.lemmas.Slice.{take-put_mid, take-put_mid_below, drop-put_mid}
 use borrow.Rule.Slice.PartMut.{put_mid}
 use Rattle.std.specs.List.{concat}
 use Rattle.std.specs.Simd.{first_chunks}
 use Rattle.aes_cipher.specs.Blocks.{Sixteens}
 
--- the first part of two lists that are joined
-first_part : {X : Type 0} (n : ℕ) (xs ys : List X) → length xs ≡ n → take n (xs ++ ys) ≡ xs
-first_part n xs ys l = ap (λ k. take k (xs ++ ys)) (sym l) ∙ take-append_seam xs ys
-
--- the second part of two lists that are joined
-second_part : {X : Type 0} (n : ℕ) (xs ys : List X) → length xs ≡ n → drop n (xs ++ ys) ≡ ys
-second_part n xs ys l = ap (λ k. drop k (xs ++ ys)) (sym l) ∙ drop-append_seam xs ys
-
 -- the first eight elements of two joined lists are the first list, if it has eight
 pub first_half : (xs ys : List ℕ) → length xs ≡ 8 → take 8 (xs ++ ys) ≡ xs
-first_half xs ys l = first_part 8 xs ys l
+first_half xs ys = take_at xs ys 8
 
 -- what is left of two joined lists after the first eight elements is the second, if the first has
 -- eight
 pub second_half : (xs ys : List ℕ) → length xs ≡ 8 → drop 8 (xs ++ ys) ≡ ys
-second_half xs ys l = second_part 8 xs ys l
+second_half xs ys = drop_at xs ys 8
 
 -- the rules that split sixteen bytes into halves
 pub ruleset halves = (first_half, second_half)
@@ -79,9 +71,9 @@ chunks_of_joined [] h = refl
 chunks_of_joined (b ∷ bs) h =
     let l : length b ≡ 16 = h 0 (omega arith) in
     let rest : first_chunks 16 (length bs) (drop 16 (b ++ concat bs)) ≡ bs =
-    ap (first_chunks 16 (length bs)) (second_part 16 b (concat bs) l)
+    ap (first_chunks 16 (length bs)) (drop_at b (concat bs) 16 l)
     ∙ chunks_of_joined bs (λ i lt. h (suc i) (omega arith)) in
-    (λ i. first_part 16 b (concat bs) l i ∷ rest i)
+    (λ i. take_at b (concat bs) 16 l i ∷ rest i)
 
 -- joined blocks have sixteen bytes for each block
 length-joined : (bs : List (List ℕ)) → Sixteens bs → length (concat bs) ≡ 16 * length bs
@@ -97,7 +89,7 @@ pub parted : (bs : List (List ℕ)) → Sixteens bs
 parted bs h = ap (λ m. first_chunks 16 m (concat bs)) (omega (arith, length-joined bs h))
     ∙ chunks_of_joined bs h
 
--- byte j of block i
+-- byte j of block i stands at place 16 * i + j
 pub byte_in_chunk : (i j m : ℕ) (xs : List ℕ) → i < m → j < 16
     → get_or (get_or (first_chunks 16 m xs) i []) j 0 ≡ get_or xs (16 * i + j) 0
 byte_in_chunk i j zero xs h k = absurd (omega arith)
@@ -107,7 +99,7 @@ byte_in_chunk (suc i) j (suc m) xs h k =
     byte_in_chunk i j m (drop 16 xs) (omega arith) k ∙ get_or-drop 16 xs (16 * i + j) 0
     ∙ ap (λ q. get_or xs q 0) (omega arith)
 
--- byte i of joined blocks
+-- byte i of joined blocks is byte i % 16 of block i / 16
 pub byte_of_joined : (bs : List (List ℕ)) (i : ℕ) → Sixteens bs → i < 16 * length bs
     → get_or (concat bs) i 0 ≡ get_or (get_or bs (i / 16) []) (i % 16) 0
 byte_of_joined bs i h lt =
@@ -124,7 +116,7 @@ pub ruleset byte_laws = (chunks_joined, parted, length-chunks, byte_in_chunk, by
 abbrev pub processed_from : (List ℕ → List ℕ) → ℕ → ℕ → List ℕ → List (List ℕ)
 processed_from f m i xs = first_chunks 16 i xs ++ map f (first_chunks 16 (m - i) (drop (16 * i) xs))
 
--- f of each of n blocks from block i on, written in their places
+-- writing f of n blocks from block i on in their places keeps what the loop leaves in the end
 pub processed_run : (f : List ℕ → List ℕ) (m i n p k : ℕ) (xs ys : List ℕ) → p ≡ 16 * i
     → k ≡ 16 * n → i + n ≤ m
     → 16 * m ≤ length xs
@@ -144,7 +136,7 @@ processed_run f m i n p k xs ys at size fits l long is =
     let rest : drop (p + k) zs ≡ drop (p + k) xs =
     drop-put_mid p k xs ys (p + k) (omega arith) inside (omega (arith, size, long)) in
     let mid : take k (drop p zs) ≡ ys = sym (drop-take p k zs) ∙ ap (drop p) front
-    ∙ second_part p (take p xs) ys (omega (arith, length-take p xs, inside)) in
+    ∙ drop_at (take p xs) ys p (omega (arith, length-take p xs, inside)) in
     let done : chunk n (drop (16 * i) zs) ≡ map f (chunk n (drop (16 * i) xs)) =
     ap (λ q. chunk n (drop q zs)) (sym at) ∙ sym (chunks_take n k (drop p zs) (omega (arith, size)))
     ∙ ap (chunk n) mid ∙ is

@@ -19,7 +19,8 @@ all_finished : {X : Type 0} (f : X → X) (n : ℕ) (xs : List X) → length xs 
 all_finished f n xs le = ap (λ l. take n xs ++ map f l) (drop_all n xs le) ∙ append-nil (take n xs)
     ∙ take_all n xs le
 
--- f of a run of n elements from place i on, written in their places
+-- writing f of a run of n elements from place i on in their places keeps what the loop leaves in
+-- the end
 pub finished_run : {X : Type 0} (f : X → X) (i n k : ℕ) (xs ys : List X) → k ≡ n
     → i + n ≤ length xs → ys
     ≡ map f (take k (drop i xs)) → finished f (i + n) (put_mid i k xs ys) ≡ finished f i xs
@@ -42,7 +43,7 @@ finished_run f i n k xs ys same fits is =
     ∙ ap (λ l. (take i xs ++ ys) ++ map f l)
     (back ∙ split) ∙ append_assoc (take i xs) ys _ ∙ ap (λ l. take i xs ++ l) rest
 
--- f of the element at place i, written there
+-- writing f of the element at place i in its place keeps what the loop leaves in the end
 pub finished_one : {X : Type 0} (f : X → X) (i : ℕ) (xs : List X) (d : X) → i < length xs
     → finished f (i + 1) (set xs i (f (get_or xs i d))) ≡ finished f i xs
 finished_one f i xs d fits =
@@ -52,7 +53,7 @@ finished_one f i xs d fits =
     ∙ append_assoc (take i xs) (y ∷ []) _
     ∙ ap (λ l. take i xs ++ map f l) (sym (drop_more xs i d fits))
 
--- f of each element from place n on, written in its place
+-- writing f of all elements from place n on in their places makes what the loop leaves in the end
 pub end_finished : {X : Type 0} (f : X → X) (n k : ℕ) (ys zs : List X) → n ≤ length ys
     → k ≡ length ys - n
     → zs ≡ map f (take k (drop n ys)) → put_mid n k ys zs ≡ finished f n ys

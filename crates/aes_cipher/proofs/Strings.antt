@@ -9,7 +9,7 @@ use Rattle.aes_cipher.specs.Blocks.{padded}
 
 -- ---- two strings
 
--- a block of the first of two strings
+-- a block of the first of two strings is that block of the two, joined
 pub first_block : (a b : List ℕ) (i : ℕ) → 16 * i + 16 ≤ length a
     → slice_range (a ++ b) (16 * i) (16 * i + 16) ≡ slice_range a (16 * i) (16 * i + 16)
 first_block a b i inside =
@@ -17,7 +17,7 @@ first_block a b i inside =
     ap (take n) (drop-append-le (16 * i) a b (omega (arith, inside)))
     ∙ take-append-le n (drop (16 * i) a) b (omega (arith, inside, length-drop (16 * i) a))
 
--- a block of the second of two strings
+-- block i of the second of two strings is block k + i of the two, joined, where the first has k
 pub second_block : (a b : List ℕ) (k i : ℕ) → length a ≡ 16 * k
     → slice_range (a ++ b) (16 * (k + i)) (16 * (k + i) + 16)
     ≡ slice_range b (16 * i) (16 * i + 16)
@@ -70,8 +70,8 @@ last_padded i s rest at some is =
 
 -- bytes with what another string has behind them are that string exactly if they are its first
 -- bytes
-pub are_first : (x y : List ℕ) → (x ++ drop (length x) y ≡ y) ↔ (x ≡ take (length x) y)
-are_first x y = (
+pub first_bytes_tell : (x y : List ℕ) → (x ++ drop (length x) y ≡ y) ↔ (x ≡ take (length x) y)
+first_bytes_tell x y = (
   λ e. sym (take-append_seam x (drop (length x) y)) ∙ ap (take (length x)) e,
   λ e. ap (λ l. l ++ drop (length x) y) e ∙ take-append-drop (length x) y,
 )

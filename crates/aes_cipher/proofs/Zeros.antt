@@ -1,7 +1,6 @@
 -- Elements that are written over.
-use Rattle.std.proofs.Common.{◌≡◌, ℕ, zero, suc, ◌+◌, ◌<◌, Bool, false, List, [], ◌∷◌, length, map}
-use Rattle.std.proofs.Common.{set, replicate, drop, ◌++◌, append_assoc, append-nil, refl, sym, ap}
-use Rattle.std.proofs.Common.{◌∙◌, arith}
+use Rattle.std.proofs.Common.{◌≡◌, ℕ, ◌+◌, ◌<◌, Bool, false, List, [], ◌∷◌, length, set, replicate}
+use Rattle.std.proofs.Common.{drop, ◌++◌, append_assoc, append-nil, sym, ap, ◌∙◌, arith}
 use Rattle.std.proofs.lemmas.List.{set_at, drop_more, drop_all, replicate_more, length-replicate}
 use Rattle.std.proofs.lemmas.List.{ext_get_or, get_or-replicate}
 use Rattle.aes_planes.specs.Bits.{Places}
@@ -30,9 +29,3 @@ pub bits_of_zero : (n : ℕ) (xs : List Bool) → length xs ≡ n → Places n x
 bits_of_zero n xs l p =
     ext_get_or false xs (replicate n false) (l ∙ sym (length-replicate n false))
     (λ i h. let k : i < n = omega (arith, l) in p i k ∙ sym (get_or-replicate n i false false k))
-
--- f of an element in every place
-pub map_replicate : {X Y : Type 0} (f : X → Y) (n : ℕ) (x : X)
-    → map f (replicate n x) ≡ replicate n (f x)
-map_replicate f zero x = refl
-map_replicate f (suc n) x = ap (λ l. f x ∷ l) (map_replicate f n x)

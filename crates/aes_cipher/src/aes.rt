@@ -3,7 +3,7 @@
 
 ghost use Rattle.std.specs.Prelude.{◌≡◌, ℕ, List, length, replicate, refl};
 ghost use Rattle.aes_planes.specs.Fips197 as fips;
-ghost use Rattle.aes_planes.proofs.Standard.CipherLaws.{two_keys};
+ghost use Rattle.aes_planes.proofs.Standard.CipherLaws.{two_expanded};
 
 mod copies;
 mod counted;
@@ -91,7 +91,7 @@ impl<S: StoredKeys, D> RoundKeysUser for AesCipher<S, D> {
         self.keys.key_has_its_size();
     }
 
-    ghost two_round_keys = { two_keys };
+    ghost two_round_keys = { two_expanded };
 }
 
 impl<S: StoredKeys, D> KeyInit for AesCipher<S, D> {

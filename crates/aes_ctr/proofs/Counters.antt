@@ -12,7 +12,7 @@ pub counter_first : (iv : List ℕ) (j : ℕ)
 unfolding counter
 counter_first iv j = ap (λ m. (from_be_bytes w128 iv + m) % 2 ^ 128) (omega arith)
 
--- counting on by one
+-- the next counter is one more, modulo 2 ^ 128
 pub counter_next : (iv : List ℕ) (j i n : ℕ) → n ≡ counter iv (j + i)
     → counter iv (j + (i + 1)) ≡ (n + 1) % 2 ^ 128
 unfolding counter

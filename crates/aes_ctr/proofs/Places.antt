@@ -7,12 +7,12 @@ use Rattle.std.proofs.lemmas.List.{get_or-drop, get_or-map, get_or-take, get_or_
 use Rattle.std.proofs.lemmas.List.{drop-drop, drop-set-lt, length-take-le}
 use Rattle.aes_planes.specs.Fips197.{cipher_with}
 use Rattle.aes_cipher.specs.Blocks.{EachOrUnchanged}
-use Rattle.aes_cipher.proofs.FirstBlocks.{first_at}
+use Rattle.aes_cipher.proofs.FirstBlocks.{one_of_firsts}
 use Rattle.aes_cipher.proofs.SliceRuns.{finished, finished_one}
 use Rattle.aes_ctr.specs.CounterMode.{counter_block, keystream_byte, plus_stream}
 use Rattle.aes_ctr.specs.Streams.{stream_byte}
 use Rattle.aes_ctr.specs.Private.{byte_of_blocks}
-use Rattle.aes_ctr.proofs.Sums.{plus-agree}
+use Rattle.aes_ctr.proofs.Sums.{plus-ext}
 
 -- a byte of the block that place p falls in, as its byte q
 pub byte_of_block : (blocks : List (List ℕ)) (p q i : ℕ) → q ≡ p % 16 → q + i < 16
@@ -47,7 +47,7 @@ pub plus_blocks : (w : List (List ℕ)) (block : ℕ → List ℕ) (blocks : Lis
     → plus_stream (stream_byte w block) p data_bytes
     ≡ plus_stream (byte_of_blocks blocks) (p % 16) data_bytes
 plus_blocks w block blocks p data_bytes filled within =
-    plus-agree (stream_byte w block) (byte_of_blocks blocks) p (p % 16) data_bytes
+    plus-ext (stream_byte w block) (byte_of_blocks blocks) p (p % 16) data_bytes
     (λ i h. sym (byte_of_keystream w block blocks (length blocks) p i filled (omega arith)))
 
 -- whole blocks of data plus the keystream are the data plus the cipher of counter blocks from
@@ -65,7 +65,7 @@ plus_batch w block blocks counted first n data_bytes all long at sized =
     λ m h. ap (λ l. slice_index_or l m []) all
     ∙ get_or-map (cipher_with w) counted m [] [] (omega (arith, long))
     ∙ ap (cipher_with w) (at m h ∙ ap (λ q. block (q + m)) (omega arith)) in
-    plus-agree (stream_byte w block) (byte_of_blocks blocks) (16 * first) 0 data_bytes
+    plus-ext (stream_byte w block) (byte_of_blocks blocks) (16 * first) 0 data_bytes
     (λ j inside. sym (ap (byte_of_blocks blocks) (omega arith)
     ∙ byte_of_keystream w block blocks n (16 * first) j filled (omega arith)))
 
@@ -119,7 +119,7 @@ pub ciphered_first : (w : List (List ℕ)) (block : ℕ → List ℕ) (first n k
     → ((i : ℕ) → i < n → slice_index_or xs i [] ≡ block (first + i)) → k < n
     → slice_index_or ys k [] ≡ cipher_with w (block (first + k))
 ciphered_first w block first n k xs ys firsts fits at lt =
-    first_at (cipher_with w) n k xs ys [] firsts lt fits ∙ ap (cipher_with w) (at k lt)
+    one_of_firsts (cipher_with w) n k xs ys [] firsts lt fits ∙ ap (cipher_with w) (at k lt)
 
 -- any block of a batch is a block of the keystream or its counter block, if each is ciphered or
 -- left
@@ -145,7 +145,7 @@ pub ruleset filled = (
   left_after_one,
 )
 
--- the whole block as the counter
+-- the keystream of blocks that are whole counters is the standard's
 pub whole_blocks : (w : List (List ℕ)) (iv : List ℕ) (p : ℕ) (data_bytes : List ℕ)
     → plus_stream (stream_byte w (counter_block iv)) p data_bytes
     ≡ plus_stream (keystream_byte w iv) p data_bytes

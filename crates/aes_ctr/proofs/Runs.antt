@@ -8,7 +8,7 @@ use Rattle.std.proofs.lemmas.List.{drop-set-lt}
 use Rattle.std.proofs.lemmas.Slice.{take-put_mid, drop-put_mid}
 use Rattle.aes_ctr.specs.CounterMode.{plus_stream}
 use Rattle.aes_ctr.specs.Private.{added_from}
-use Rattle.aes_ctr.proofs.Sums.{length-plus, plus-agree, plus-nil, plus-cons, plus-append}
+use Rattle.aes_ctr.proofs.Sums.{length-plus, plus-ext, plus-nil, plus-cons, plus-append}
 use Rattle.aes_ctr.proofs.Sums.{plus-whole}
 use borrow.Rule.Slice.PartMut.{put_mid}
 
@@ -22,7 +22,7 @@ added_run s t p q i n k xs ys same fits is agree =
     omega (arith, length-take k (drop i xs), length-drop i xs) in
     let long : length ys ≡ n = ap length is ∙ length-plus t q (take k (drop i xs)) ∙ part in
     let sum : ys ≡ plus_stream s (p + i) (take k (drop i xs)) =
-    is ∙ plus-agree t s q (p + i) (take k (drop i xs)) (λ j inside. agree j (omega arith)) in
+    is ∙ plus-ext t s q (p + i) (take k (drop i xs)) (λ j inside. agree j (omega arith)) in
     let front : take (i + n) (put_mid i k xs ys) ≡ take i xs ++ ys =
     take-put_mid i k xs ys (i + n) (omega arith)
     (omega arith) in

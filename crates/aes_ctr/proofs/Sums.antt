@@ -62,10 +62,10 @@ plus-append s p (x ∷ xs) ys =
     (sym (plus-cons s p x xs))
 
 -- two streams that agree at the places of a list, each at its own, leave the same sum
-pub plus-agree : (s t : ℕ → ℕ) (p q : ℕ) (xs : List ℕ)
+pub plus-ext : (s t : ℕ → ℕ) (p q : ℕ) (xs : List ℕ)
     → ((i : ℕ) → i < length xs → s (p + i) ≡ t (q + i))
     → plus_stream s p xs ≡ plus_stream t q xs
-plus-agree s t p q xs same =
+plus-ext s t p q xs same =
     plus_is s p xs (plus_stream t q xs) (length-plus t q xs)
     (λ i h. ap (bit_xor (get_or xs i 0)) (same i h) ∙ sym (get_or-plus t q xs i h))
 

@@ -1,11 +1,11 @@
 -- Round keys of vector permutations, as planes store them.
 use Rattle.std.proofs.Common.{◌≡◌, ◌⊎◌, inl, inr, ℕ, ◌+◌, ◌-◌, ◌*◌, ◌%◌, ◌<◌, ◌≤◌, Bool, List}
 use Rattle.std.proofs.Common.{length, map, map-id, replicate, refl, ap, subst, sym, ◌∙◌, arith}
+use Rattle.std.proofs.lemmas.List.{length-map}
 use Rattle.std.proofs.lemmas.Bool.{cases_lt}
 use Rattle.aes_planes.specs.Fips197 as fips
 use Rattle.aes_planes.specs.Planes.{held, plus63, words_at}
 use Rattle.aes_planes.proofs.Shifts.Deferred.{inv_shift_times_of_shift_times, plus63_twice}
-use Rattle.aes_planes.proofs.Standard.Steps.{map_length}
 use Rattle.aes_soft.specs.Stored.{full, key_of_planes, rounds_of, size_of, stored_key}
 use Rattle.aes_soft.specs.Stored.{IsFullSchedule, IsSchedule, HoldsBlocks}
 use Rattle.aes_soft.proofs.KeyOfPlanes.{key_of-schedule}
@@ -15,7 +15,7 @@ use Rattle.aes_soft.proofs.WordsInPlace.{held_at, key_kept, HoldsAt}
 use Rattle.aes_permute.specs.Keys.{encrypting, cipher_form, key_of_lanes, IsCipherSchedule}
 use Rattle.aes_permute.specs.Stored.{untower, key_untower}
 use Rattle.aes_permute.proofs.ExpandedLanes.{last_key_is}
-use Rattle.aes_permute.proofs.StoredStates.{keys_length, first_key, inner_key, last_key}
+use Rattle.aes_permute.proofs.StoredStates.{length-round_keys_of, first_key, inner_key, last_key}
 
 module _ (stored : List (List ℕ)) (two : 2 ≤ length stored) where
   -- how many rounds the stored round keys serve
@@ -39,7 +39,7 @@ module _ (stored : List (List ℕ)) (two : 2 ≤ length stored) where
       → map untower (fips.round_key stored i) ≡ wanted i
   inner_wanted i some below sized =
       let s = fips.round_key stored i in
-      let long : length (map key_untower s) ≡ 16 = map_length key_untower s ∙ sized in
+      let long : length (map key_untower s) ≡ 16 = length-map s key_untower ∙ sized in
       sym (stored_later (full rounds_made) (encrypting stored) i (i % 4) (omega (arith, some))
       (deferred_below rounds_made 4 i (i % 4) below refl)
       ∙ ap (λ v. map plus63 (fips.inv_shift_times (i % 4) v))
@@ -112,7 +112,7 @@ module _ {A : Type 0} (bits : A → List Bool) (n : ℕ) (some : 1 ≤ n) (words
       let w : encrypting stored ≡ fips.key_expansion (key_of_lanes stored) = lanes.keys in
       let r : length stored - 1 ≡ rounds = omega (arith, sized) in
       let below : i < length stored =
-      omega (arith, lt, ap length w, keys_length cipher_form stored) in
+      omega (arith, lt, ap length w, length-round_keys_of cipher_form stored) in
       holds i below ∙ (λ j. replicate n (stored_key (full (r j)) (w j) i))
 
   -- the key that the stored round keys are read as has the size that the number of words says

@@ -3,7 +3,7 @@
 
 ghost use Rattle.std.specs.Prelude.{◌≡◌, ℕ, List};
 ghost use Rattle.aes_planes.specs.Fips197 as fips;
-ghost use Rattle.aes_planes.proofs.Standard.CipherLaws.{two_keys};
+ghost use Rattle.aes_planes.proofs.Standard.CipherLaws.{two_expanded};
 ghost use Rattle.aes_soft.specs.Stored as soft;
 
 use crate::borrowed_cipher::BorrowedCipher;
@@ -96,7 +96,7 @@ impl<D: LaneRounds, W: Width> RoundKeysUser for Batches<'_, D, W> {
         self.few.round_keys_are_blocks();
     }
 
-    ghost two_round_keys = { two_keys };
+    ghost two_round_keys = { two_expanded };
 }
 
 impl<D: LaneRounds, W: Width> BatchSizeUser for Batches<'_, D, W> {

@@ -3,7 +3,7 @@
 ghost use Rattle.std.specs.Prelude.{◌≡◌, ℕ, List};
 ghost use Rattle.aes_planes.specs.Each.{Each};
 ghost use Rattle.aes_planes.specs.Fips197 as fips;
-ghost use Rattle.aes_planes.proofs.Standard.CipherLaws.{two_keys};
+ghost use Rattle.aes_planes.proofs.Standard.CipherLaws.{two_expanded};
 ghost use Rattle.aes_permute.specs.Keys.{encrypting, key_of_lanes, IsCipherSchedule};
 ghost use Rattle.aes_permute.specs.Stored.{round_keys_of};
 
@@ -47,7 +47,8 @@ impl<'a, D: LaneRounds, W> Model for BorrowedCipher<'a, D, W> {
     ghost view = { λ lent. key_of_lanes lent.keys.now };
 
     ghost invariant = { λ lent. IsCipherSchedule lent.keys.now
-        × (round_keys_of D.form lent.direction_keys.now ≡ D.form.used_keys (encrypting lent.keys.now)) };
+        × (round_keys_of D.form lent.direction_keys.now
+        ≡ D.form.direction_keys (fips.key_expansion (key_of_lanes lent.keys.now))) };
 }
 
 impl<'a, D: LaneRounds, W> BorrowedCipher<'a, D, W> {
@@ -55,7 +56,7 @@ impl<'a, D: LaneRounds, W> BorrowedCipher<'a, D, W> {
     #[inline(always)]
     pub(crate) fn new(keys: &'a [Block], direction_keys: &'a [Block]) -> BorrowedCipher<'a, D, W>
         requires keyed { IsCipherSchedule keys.now }
-        requires direction_keys { round_keys_of D.form direction_keys.now ≡ D.form.used_keys (encrypting keys.now) }
+        requires direction_keys { round_keys_of D.form direction_keys.now ≡ D.form.direction_keys (encrypting keys.now) }
         ensures { result ≡ key_of_lanes keys.now }
     {
         BorrowedCipher {
@@ -78,7 +79,7 @@ impl<'a, D: LaneRounds, W> BorrowedCipher<'a, D, W> {
     /// Returns the stored round keys of the direction.
     #[inline(always)]
     pub(crate) fn direction_keys(&self) -> &'a [Block]
-        ensures { round_keys_of D.form result.now ≡ D.form.used_keys (fips.key_expansion self.now) }
+        ensures { round_keys_of D.form result.now ≡ D.form.direction_keys (fips.key_expansion self.now) }
     {
         self.direction_keys
     }
@@ -115,7 +116,7 @@ impl<D: LaneRounds, W> RoundKeysUser for BorrowedCipher<'_, D, W> {
         let _ = &self.keys;
     }
 
-    ghost two_round_keys = { two_keys };
+    ghost two_round_keys = { two_expanded };
 }
 
 impl<W: Width> BlockCipherEncrypt for BorrowedCipher<'_, Encrypt, W> {

@@ -83,18 +83,18 @@ fn call_to_decrypt<W: Width, F: BlockCipherDecClosure>(
 #[inline(never)]
 fn lend_planes_to_decrypt<W: Width, F: BlockCipherDecClosure>(
     keys: &[Block],
-    inverse: &[Block],
+    direction_keys: &[Block],
     f: &mut F,
 )
     requires keyed { IsCipherSchedule keys.now }
-    requires inverse { AreInverse inverse.now keys.now }
+    requires direction_keys { AreInverse direction_keys.now keys.now }
     ensures { F.did f.old (fips.key_expansion (key_of_lanes keys.now)) f.new }
 {
-    let mut of_cipher = PlaneKeys::<W::PlaneWord>::zeroed();
-    of_cipher.store(keys);
-    let cipher = BorrowedCipher::new(keys, inverse);
-    call_to_decrypt::<W, F>(&cipher, of_cipher.lend(keys.len()), f);
-    of_cipher.wipe();
+    let mut planes = PlaneKeys::<W::PlaneWord>::zeroed();
+    planes.store(keys);
+    let cipher = BorrowedCipher::new(keys, direction_keys);
+    call_to_decrypt::<W, F>(&cipher, planes.lend(keys.len()), f);
+    planes.wipe();
     wipe_stack::<CLOSURE_STACK>();
 }
 

@@ -14,6 +14,7 @@ use aes_cipher::zeroize::zeroize_words;
 use aes_permute::rounds::out_of_tower;
 use aes_planes::soft::round_keys::store_round_key;
 use aes_planes::soft::word::{Block, Word};
+use aes_soft::soft::plane_room::PlaneRoom;
 use std::simd::prelude::*;
 
 // The block that planes hold for a stored round key of Cipher between the first and the last. The
@@ -59,7 +60,7 @@ pub fn store_planes<W: Word>(words: &mut [W], keys: &[Block])
 /// Round keys on planes, in room for those of the largest key. A drop requires zeros, so the prover
 /// refuses code that drops them without a wipe.
 pub(crate) struct PlaneKeys<W: Word> {
-    room: [W; 120],
+    room: PlaneRoom<W>,
 }
 
 impl<W: Word> PlaneKeys<W> {

@@ -14,7 +14,7 @@ flat_map-joined c f x (y ∷ xs) =
     ∙ append_assoc (f x) (c ∷ []) (join_with_byte c (map f (y ∷ xs)) ++ c ∷ [])
     ∙ sym (append_assoc (f x) (c ∷ join_with_byte c (map f (y ∷ xs))) (c ∷ []))
 
--- all but the last separator of all the elements
+-- without the last separator, the elements with one behind each are joined by it
 pub take_joined : (end c : ℕ) (out : List ℕ) (f : List ℕ → List ℕ) (xs : List (List ℕ))
     → 0 < length xs
     → end ≤ length out → take end out ≡ flat_map (λ y. f y ++ c ∷ []) xs

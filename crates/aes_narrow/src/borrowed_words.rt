@@ -2,7 +2,7 @@
 
 ghost use Rattle.std.specs.Prelude.{◌≡◌, ℕ, List};
 ghost use Rattle.aes_planes.specs.Fips197 as fips;
-ghost use Rattle.aes_planes.proofs.Standard.CipherLaws.{two_keys};
+ghost use Rattle.aes_planes.proofs.Standard.CipherLaws.{two_expanded};
 ghost use Rattle.aes_soft.specs.Stored.{key_of_planes, IsFullSchedule};
 
 use crate::blocks::process_on_words;
@@ -65,7 +65,7 @@ impl<W: NarrowWord> RoundKeysUser for BorrowedWords<'_, W> {
         let _ = &self.words;
     }
 
-    ghost two_round_keys = { two_keys };
+    ghost two_round_keys = { two_expanded };
 }
 
 impl<W: NarrowWord> BatchSizeUser for BorrowedWords<'_, W> {

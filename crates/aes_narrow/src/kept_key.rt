@@ -7,10 +7,11 @@ ghost use Rattle.aes_narrow.specs.KeptKey.{key_in, no_key, HoldsKey, IsKept, IsZ
 
 use crate::borrowed_words::BorrowedWords;
 use crate::kept_word::KeptWord;
-use crate::word_room::{WordRoom, expand_in_room, keys_in_room};
+use crate::word_room::{expand_in_room, keys_in_room};
 use aes_cipher::aes::is_key_size;
 use aes_cipher::not_clone::NotClone;
 use aes_cipher::zeroize::{Zeroize, zeroize_elements};
+use aes_soft::soft::plane_room::PlaneRoom;
 
 /// A key that is kept, for both directions. The words of the struct are as secret as the key.
 #[repr(C)]
@@ -19,7 +20,7 @@ pub struct KeptKey {
     /// How many bytes the key has: 16, 24 or 32; 0 if there is no key.
     pub length: KeptWord,
     /// The planes of the stored round keys, in the first 88, 104 or 120 words.
-    pub round_keys: WordRoom<KeptWord>,
+    pub round_keys: PlaneRoom<KeptWord>,
 }
 
 // The struct has nothing between its fields.

@@ -1,5 +1,4 @@
-//! Room for the planes of stored round keys of a key of any size, and the first of its words, which
-//! are the round keys.
+//! Round keys in room for those of a key of any size.
 
 ghost use Rattle.std.specs.Prelude.{◌≡◌, ◌+◌, ◌*◌, drop, length, take};
 ghost use Rattle.aes_cipher.specs.KeySizes.{IsKeySize};
@@ -8,15 +7,12 @@ ghost use Rattle.aes_soft.specs.Stored.{key_of_planes, words_for, IsFullSchedule
 use aes_cipher::zeroize::wipe_stack;
 use aes_planes::soft::sbox::Layers;
 use aes_planes::soft::word::Word;
+use aes_soft::soft::plane_room::PlaneRoom;
 use aes_soft::soft::{Full, expand_stored};
-
-/// Room for the round keys of a key of any size in the full layout: as many words as the largest
-/// has.
-pub type WordRoom<W> = [W; 120];
 
 /// Returns the stored round keys of a key of `size` bytes: the first of the words.
 #[inline(always)]
-pub fn keys_in_room<W: Word>(room: &WordRoom<W>, size: usize) -> &[W]
+pub fn keys_in_room<W: Word>(room: &PlaneRoom<W>, size: usize) -> &[W]
     requires { IsKeySize size }
     ensures keys { result.now ≡ take (words_for size) room.now }
     ensures count { length result.now ≡ words_for size }
@@ -43,7 +39,7 @@ fn expand_words<W: Word>(words: &mut [W], key: &[u8])
 /// Writes the round keys of a key, as the full layout stores them: KeyExpansion (FIPS 197, 5.2).
 /// The stack that this used is wiped before the call returns.
 #[inline(always)]
-pub fn expand_in_room<W: Word>(room: &mut WordRoom<W>, key: &[u8])
+pub fn expand_in_room<W: Word>(room: &mut PlaneRoom<W>, key: &[u8])
     requires { IsKeySize (length key.now) }
     ensures schedule { IsFullSchedule W.bits W.BLOCKS (take (words_for (length key.now)) room.new) }
     ensures key { key_of_planes W.bits W.BLOCKS (take (words_for (length key.now)) room.new)

@@ -14,7 +14,7 @@ use mir.Val.{zeroes}
 use Rattle.aes_planes.specs.Fips197.{IsBytes, IsBlock}
 use Rattle.aes_planes.proofs.Lists.{zip2_take, zip2_drop}
 use Rattle.aes_planes.proofs.Standard.States.{take_bytes, drop_bytes}
-use Rattle.aes_planes.proofs.Words.Swizzles.{sixteen}
+use Rattle.aes_planes.proofs.Words.Swizzles.{lane_numbers}
 use Rattle.aes_planes.proofs.Words.Wide.{upper_16}
 use Rattle.aes_permute.specs.Lookup.{looked, is_index, low_nibble, high_nibble, AreIndices}
 use Rattle.aes_permute.specs.Vectors.{half, written}
@@ -23,24 +23,24 @@ use Rattle.aes_permute.proofs.Lookups.{looked_from, each_index, low_nibbles_of, 
 -- ---- blocks in halves
 
 -- the lanes 0 to 15 of two blocks are the first of them
-first_picked : (x y : List ℕ) → length x ≡ 16 → pick_l 0 (x ++ y) sixteen ≡ x
+first_picked : (x y : List ℕ) → length x ≡ 16 → pick_l 0 (x ++ y) lane_numbers ≡ x
 first_picked x y long =
     pick_l-range_with_len 0 (x ++ y) 0 16 (omega (arith, long, length-append x y))
     ∙ take_at x y 16 long
 
 -- a block picked twice is in both halves
 pub block_in_both_halves : (x : List ℕ) → IsBlock x
-    → pick_l 0 (x ++ x) (sixteen ++ sixteen) ≡ x ++ x
+    → pick_l 0 (x ++ x) (lane_numbers ++ lane_numbers) ≡ x ++ x
 block_in_both_halves x (long, small) = let e = first_picked x x long in λ t. e t ++ e t
 
 -- all lanes of two blocks are one after the other
 pub both_in_order : (x y : List ℕ) → IsBlock x → IsBlock y
-    → pick_l 0 (x ++ y) (sixteen ++ upper_16) ≡ x ++ y
+    → pick_l 0 (x ++ y) (lane_numbers ++ upper_16) ≡ x ++ y
 both_in_order x y (x_long, x_small) (y_long, y_small) =
     pick_l_whole 0 (x ++ y) 32 (length-append x y ∙ omega (arith, x_long, y_long))
 
 -- the first sixteen lanes of a vector are its lower half
-pub lower_half : (x : List ℕ) → length x ≡ 32 → pick_l 0 (x ++ x) sixteen ≡ take 16 x
+pub lower_half : (x : List ℕ) → length x ≡ 32 → pick_l 0 (x ++ x) lane_numbers ≡ take 16 x
 lower_half x long =
     pick_l-range_with_len 0 (x ++ x) 0 16 (omega (arith, long, length-append x x))
     ∙ take-append-le 16 x x (omega (arith, long))

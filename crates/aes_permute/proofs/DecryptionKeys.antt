@@ -5,12 +5,12 @@ use Rattle.aes_planes.specs.Fips197 as fips
 use Rattle.aes_planes.specs.Planes.{plus63}
 use Rattle.aes_planes.proofs.Standard.InvertedKeys.{inverted_length, inverted_end, inverted_middle}
 use Rattle.aes_permute.specs.Keys.{cipher_form, inverse_form}
-use Rattle.aes_permute.specs.Stored.{inv_untower, key_untower, round_keys_of}
-use Rattle.aes_permute.proofs.StoredStates.{keys_length, first_key, inner_key, last_key, stored_are}
+use Rattle.aes_permute.specs.Stored.{decryption_untower, key_untower, round_keys_of}
+use Rattle.aes_permute.proofs.StoredStates.{length-round_keys_of, first_key, inner_key, last_key, stored_are}
 
 -- place k of the new keys is place last - k of the old, its columns mixed back
 abbrev pub Unmixed : List (List ℕ) → List (List ℕ) → ℕ → Type 0
-Unmixed old new k = map inv_untower (get_or new k [])
+Unmixed old new k = map decryption_untower (get_or new k [])
     ≡ fips.inv_mix_columns (fips.shift_times ((length old - 1 - k) % 4)
     (map key_untower (get_or old (length old - 1 - k) [])))
 
@@ -28,7 +28,7 @@ inverted_stored old new two l inner start end =
     let w = round_keys_of cipher_form old in
     let v = fips.inverted_keys w in
     let n = fips.last_round w in
-    let long : length w ≡ length old = keys_length cipher_form old in
+    let long : length w ≡ length old = length-round_keys_of cipher_form old in
     let back : length v ≡ length w = inverted_length w in
     let last : n ≡ length old - 1 = ap (λ m. m - 1) long in
     let same : fips.last_round v ≡ n = ap (λ m. m - 1) back in

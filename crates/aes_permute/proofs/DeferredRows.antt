@@ -1,14 +1,15 @@
 -- Rounds of Cipher that leave ShiftRows out: the bytes are taken from where they are.
 use Rattle.std.proofs.Common.{◌≡◌, ℕ, zero, suc, ◌+◌, ◌-◌, ◌%◌, ◌<◌, ◌≤◌, bit_xor, List, []}
 use Rattle.std.proofs.Common.{length, map, get_or, replicate, refl, ap, sym, subst, ◌∙◌, arith}
+use Rattle.std.proofs.lemmas.List.{length-map}
 use lib.Lanes.{zip2}
 use Rattle.aes_planes.specs.Fips197.{add_round_key, build, mix_columns, shift_rows, shift_times}
 use Rattle.aes_planes.specs.Fips197.{state, sub_bytes, IsBlock}
 use Rattle.aes_planes.specs.Planes.{plus63}
 use Rattle.aes_planes.proofs.Bits.ByteCases.{by_four}
-use Rattle.aes_planes.proofs.Lists.{built, same_on_block}
+use Rattle.aes_planes.proofs.Lists.{build-get_or, same_on_block}
 use Rattle.aes_planes.proofs.Standard.LinearSteps.{shift_map}
-use Rattle.aes_planes.proofs.Standard.Steps.{map_length, shift_times_length, shift_times_bytes}
+use Rattle.aes_planes.proofs.Standard.Steps.{length-shift_times, shift_times_bytes}
 use Rattle.aes_permute.specs.Lookup.{is_index, AreIndices}
 use Rattle.aes_permute.specs.Stored.{untower, key_untower}
 use Rattle.aes_permute.specs.declared.tables.TheConstants.{SHIFTED_ROWS, NEXT_ROW, ROW_BEFORE}
@@ -23,17 +24,17 @@ abbrev pub places_in : List (List ℕ) → ℕ → List ℕ
 places_in tables k = get_or tables k []
 
 -- if each of four tables has indices, so has the one for n modulo 4
-pub are_indices : (tables : List (List ℕ))
+pub indices_at : (tables : List (List ℕ))
     → AreIndices (places_in tables 0) → AreIndices (places_in tables 1)
     → AreIndices (places_in tables 2) → AreIndices (places_in tables 3)
     → (n : ℕ) → AreIndices (places_in tables (n % 4))
-are_indices tables a b c d n =
+indices_at tables a b c d n =
     by_four (λ k. AreIndices (places_in tables k)) a b c d (n % 4) (omega arith)
 
 -- each table of SHIFTED_ROWS has indices
 pub shifted_indices : (n : ℕ) → AreIndices (places_in SHIFTED_ROWS (n % 4))
 unfolding is_index
-shifted_indices = are_indices SHIFTED_ROWS refl refl refl refl
+shifted_indices = indices_at SHIFTED_ROWS refl refl refl refl
 
 -- the table of SHIFTED_ROWS that undoes n ShiftRows has indices
 pub shifted_back_indices : (n : ℕ) → AreIndices (places_in SHIFTED_ROWS ((4 - n % 4) % 4))
@@ -42,12 +43,12 @@ shifted_back_indices n = shifted_indices (4 - n % 4)
 -- each table of NEXT_ROW has indices
 pub next_indices : (n : ℕ) → AreIndices (places_in NEXT_ROW (n % 4))
 unfolding is_index
-next_indices = are_indices NEXT_ROW refl refl refl refl
+next_indices = indices_at NEXT_ROW refl refl refl refl
 
 -- each table of ROW_BEFORE has indices
 pub before_indices : (n : ℕ) → AreIndices (places_in ROW_BEFORE (n % 4))
 unfolding is_index
-before_indices = are_indices ROW_BEFORE refl refl refl refl
+before_indices = indices_at ROW_BEFORE refl refl refl refl
 
 -- ---- ShiftRows some times
 
@@ -57,12 +58,12 @@ times_map : (f : ℕ → ℕ) (k : ℕ) (s : List ℕ) → length s ≡ 16
 unfolding shift_times
 times_map f zero s l = refl
 times_map f (suc k) s l =
-    sym (shift_map f (shift_times k s) (shift_times_length k s l))
+    sym (shift_map f (shift_times k s) (length-shift_times k s l))
     ∙ ap shift_rows (times_map f k s l)
 
 -- a block stays a block
 times_block : (k : ℕ) (s : List ℕ) → IsBlock s → IsBlock (shift_times k s)
-times_block k s (long, small) = (shift_times_length k s long, shift_times_bytes k s small)
+times_block k s (long, small) = (length-shift_times k s long, shift_times_bytes k s small)
 
 -- entry k of SHIFTED_ROWS has the places of k ShiftRows
 pub shifted_is : (k : ℕ) → k < 4 → (x : List ℕ) → length x ≡ 16
@@ -101,7 +102,7 @@ stored_is n x p l e =
     let m : ℕ = (4 - k) % 4 in
     let y : List ℕ = permuted x (places_in SHIFTED_ROWS m) in
     let long : length y ≡ 16 =
-    ap length (shifted_is m (omega arith) x l) ∙ shift_times_length m x l in
+    ap length (shifted_is m (omega arith) x l) ∙ length-shift_times m x l in
     ap (shift_times k)
     (ap (λ p. map key_untower (zip2 bit_xor p (replicate 16 0x6e))) e ∙ inner_is y long)
     ∙ sym (times_map untower k y long) ∙ ap (map untower) (shifted_back_is k (omega arith) x l)
@@ -130,24 +131,24 @@ MadeUp k o t key = (shift_times k (round_at k o (pairs_at k o t) key)
     × (length (round_at k o (pairs_at k o t) key) ≡ 16)
 
 -- `MadeUp` of blocks that are built of functions, by computing all lanes
-on_lanes : (k : ℕ) → k < 4 → (f g h : ℕ → ℕ) → MadeUp k (build 16 f) (build 16 g) (build 16 h)
+made_up_on_lanes : (k : ℕ) → k < 4 → (f g h : ℕ → ℕ) → MadeUp k (build 16 f) (build 16 g) (build 16 h)
 unfolding build state shift_rows shift_times
-on_lanes = by_four (λ k. (f g h : ℕ → ℕ) → MadeUp k (build 16 f) (build 16 g) (build 16 h))
+made_up_on_lanes = by_four (λ k. (f g h : ℕ → ℕ) → MadeUp k (build 16 f) (build 16 g) (build 16 h))
     (λ f g h. (refl, refl)) (λ f g h. (refl, refl)) (λ f g h. (refl, refl)) (λ f g h. (refl, refl))
 
--- `MadeUp` of all blocks
+-- any blocks have `MadeUp`, since each is built of its bytes
 made_up : (k : ℕ) (o t key : List ℕ) → k < 4 → length o ≡ 16 → length t ≡ 16 → length key ≡ 16
     → MadeUp k o t key
 made_up k o t key small l m n =
-    subst (λ o. MadeUp k o t key) (built 16 o 0 l)
-    (subst (λ t. MadeUp k (build 16 (λ i. get_or o i 0)) t key) (built 16 t 0 m)
+    subst (λ o. MadeUp k o t key) (build-get_or 16 o 0 l)
+    (subst (λ t. MadeUp k (build 16 (λ i. get_or o i 0)) t key) (build-get_or 16 t 0 m)
     (subst (λ key. MadeUp k (build 16 (λ i. get_or o i 0)) (build 16 (λ i. get_or t i 0)) key)
-    (built 16 key 0 n)
-    (on_lanes k small (λ i. get_or o i 0) (λ i. get_or t i 0) (λ i. get_or key i 0))))
+    (build-get_or 16 key 0 n)
+    (made_up_on_lanes k small (λ i. get_or o i 0) (λ i. get_or t i 0) (λ i. get_or key i 0))))
 
 -- how many ShiftRows are left out before round n is how many are after round n - 1
-earlier : (n : ℕ) → 1 ≤ n → before (n % 4) ≡ (n - 1) % 4
-earlier n some = omega arith
+deferred_before_round : (n : ℕ) → 1 ≤ n → before (n % 4) ≡ (n - 1) % 4
+deferred_before_round n some = omega arith
 
 -- a round is the standard's of what the bytes stand for in their places
 pub deferred_is : (n : ℕ) (x key : List ℕ) {o t p : List ℕ} → 1 ≤ n → IsBlock x → length key ≡ 16
@@ -164,7 +165,7 @@ deferred_is n x key some block long is_o is_t is_p =
     let b : List ℕ = map by_2 x in
     let sum : List ℕ = round_at k a (pairs_at k a b) key in
     let y : List ℕ = shift_times (before k) x in
-    let made = made_up k a b key small (map_length by_1 x ∙ l) (map_length by_2 x ∙ l) long in
+    let made = made_up k a b key small (length-map x by_1 ∙ l) (length-map x by_2 ∙ l) long in
     (λ i. shift_times k (map untower
     (round_at k (is_o i) ((is_p ∙ (λ j. pairs_at k (is_o j) (is_t j))) i) key)))
     ∙ sym (times_map untower k sum made.1)
@@ -173,14 +174,14 @@ deferred_is n x key some block long is_o is_t is_p =
     (paired (sym (times_map by_1 (before k) x l) i) (sym (times_map by_2 (before k) x l) i))
     (shift_times k key)))
     ∙ round_is y (shift_times k key) (times_block (before k) x block)
-    (shift_times_length k key long) refl refl refl
+    (length-shift_times k key long) refl refl refl
     ∙ (λ i. add_round_key (mix_columns (shift_rows (sub_bytes
-    ((times_map untower (before k) x l ∙ ap (λ m. shift_times m (map untower x)) (earlier n some))
+    ((times_map untower (before k) x l ∙ ap (λ m. shift_times m (map untower x)) (deferred_before_round n some))
     i)))) (times_map key_untower k key long i))
 
 -- ---- the last round
 
--- the rows of the last round: those of all the ShiftRows that were left out, and of its own
+-- the lanes of the last round are those of its own ShiftRows after all that were left out
 made_up_last : (k : ℕ) → k < 4 → (p : List ℕ) → length p ≡ 16
     → permuted p (places_in SHIFTED_ROWS k) ≡ permuted (shift_times (before k) p) (places_in SHIFTED_ROWS 1)
 unfolding build state shift_rows shift_times
@@ -207,9 +208,9 @@ deferred_last_is n x key some block long is_p =
     let l : length x ≡ 16 = block.0 in
     (λ i. zip2 bit_xor (permuted (is_p i) (places_in SHIFTED_ROWS k)) key)
     ∙ (λ i. zip2 bit_xor
-    (made_up_last k (omega arith) (map plain_sbox x) (map_length plain_sbox x ∙ l) i) key)
+    (made_up_last k (omega arith) (map plain_sbox x) (length-map x plain_sbox ∙ l) i) key)
     ∙ (λ i. last_sum_of (sym (times_map plain_sbox (before k) x l) i) key)
     ∙ last_round_is (shift_times (before k) x) key (times_block (before k) x block) long refl
     ∙ (λ i. add_round_key (shift_rows (sub_bytes
-    ((times_map untower (before k) x l ∙ ap (λ m. shift_times m (map untower x)) (earlier n some))
+    ((times_map untower (before k) x l ∙ ap (λ m. shift_times m (map untower x)) (deferred_before_round n some))
     i))) (map plus63 key))

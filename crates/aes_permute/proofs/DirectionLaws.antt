@@ -2,7 +2,7 @@
 use Rattle.std.proofs.Common.{◌≡◌, ℕ, ◌≤◌, List, length, refl, ◌∙◌}
 use Rattle.aes_planes.specs.Fips197 as fips
 use Rattle.aes_planes.specs.Rounds.{all_rounds}
-use Rattle.aes_planes.proofs.Standard.AllRounds.{is_cipher, is_eq_inv_cipher}
+use Rattle.aes_planes.proofs.Standard.AllRounds.{cipher_is, eq_inv_cipher_is}
 use Rattle.aes_planes.proofs.Standard.EquivalentInverse.{eq_inv_is_inv}
 
 -- ---- Cipher
@@ -13,18 +13,18 @@ same_forward w = refl
 
 -- the rounds of Cipher, one after another under a list of round keys, are the standard's cipher
 -- under it
-pub is_encrypted : (w : List (List ℕ)) (b : List ℕ) → 2 ≤ length w
+pub cipher_by_rounds : (w : List (List ℕ)) (b : List ℕ) → 2 ≤ length w
     → all_rounds (λ b. fips.mix_columns (fips.shift_rows (fips.sub_bytes b)))
     (λ b. fips.shift_rows (fips.sub_bytes b))
     w b ≡ fips.cipher_with w b
-is_encrypted w b two = is_cipher w b
+cipher_by_rounds w b two = cipher_is w b
 
 -- ---- EqInvCipher
 
 -- the rounds of EqInvCipher, under inverted round keys, are the standard's inverse cipher under the
 -- list
-pub is_decrypted : (w : List (List ℕ)) (b : List ℕ) → 2 ≤ length w
+pub inv_cipher_by_rounds : (w : List (List ℕ)) (b : List ℕ) → 2 ≤ length w
     → all_rounds (λ b. fips.inv_mix_columns (fips.inv_shift_rows (fips.inv_sub_bytes b)))
     (λ b. fips.inv_shift_rows (fips.inv_sub_bytes b)) (fips.inverted_keys w) b
     ≡ fips.inv_cipher_with w b
-is_decrypted w b two = is_eq_inv_cipher (fips.inverted_keys w) b ∙ eq_inv_is_inv w b two
+inv_cipher_by_rounds w b two = eq_inv_cipher_is (fips.inverted_keys w) b ∙ eq_inv_is_inv w b two

@@ -6,20 +6,19 @@ use Rattle.std.proofs.Common.{◌∙◌, subst, arith}
 use Rattle.std.specs.Int.Bits.{xor_assoc}
 use Rattle.std.proofs.Math.ListN.{get_or-map}
 use Rattle.std.proofs.lemmas.Bool.{eqb-true}
-use Rattle.std.proofs.lemmas.List.{get_or-set_same, get_or-set_other}
+use Rattle.std.proofs.lemmas.List.{get_or-set_same, get_or-set_other, length-map}
 use Rattle.std.proofs.lemmas.Nat.{xor_comm}
 use Rattle.std.proofs.lemmas.Simd.{map-map, zip2_splat}
 use lib.Lanes.{zip2, pick_l}
 use Rattle.aes_planes.specs.Fips197.{field_add, byte_at, build, state, add_round_key, sbox}
 use Rattle.aes_planes.specs.Fips197.{sub_bytes}
-use Rattle.aes_planes.specs.Planes.{plus63, constant_block, summed, columns_summed}
+use Rattle.aes_planes.specs.Planes.{plus63, constant_block, fold_to, columns_summed}
 use Rattle.aes_planes.specs.Planes.{columns_straddled}
 use Rattle.aes_planes.proofs.Bits.ByteCases.{all_below, all_below_tells, by_four}
-use Rattle.aes_planes.proofs.Lists.{built, same_on_block, same_on_blocks}
+use Rattle.aes_planes.proofs.Lists.{build-get_or, same_on_block, same_on_blocks}
 use Rattle.aes_planes.proofs.Shifts.Deferred.{plus63_twice}
 use Rattle.aes_planes.proofs.Standard.FieldLaws.{add_zero, add_twice}
 use Rattle.aes_planes.proofs.Standard.States.{state_same}
-use Rattle.aes_planes.proofs.Standard.Steps.{map_length}
 use Rattle.aes_permute.specs.Lookup.{looked}
 use Rattle.aes_permute.specs.Stored.{untower, key_untower}
 use Rattle.aes_permute.specs.declared.tables.TheConstants.{TOWER_LOW, TOWER_HIGH}
@@ -41,12 +40,12 @@ addend_last : (v a s : ℕ) → bit_xor (bit_xor v a) s ≡ bit_xor v (bit_xor s
 addend_last v a s = xor_assoc v a s ∙ ap (bit_xor v) (xor_comm a s)
 
 -- column c as the code adds it is the sum of the columns up to it
-coded_is : (x : ℕ → ℕ) (s a c : ℕ) → c < 4 → coded x s a c ≡ summed field_add x (bit_xor s a) c
+coded_is : (x : ℕ → ℕ) (s a c : ℕ) → c < 4 → coded x s a c ≡ fold_to field_add x (bit_xor s a) c
 coded_is x s a c l =
     addend_last (bit_xor (pair x c) (cond (nat_lt c 2) 0 (pair x (c - 2)))) a s
     ∙ by_four (λ c. bit_xor (bit_xor (pair x c) (cond (nat_lt c 2) 0 (pair x (c - 2))))
     (bit_xor s a)
-    ≡ summed field_add x (bit_xor s a) c)
+    ≡ fold_to field_add x (bit_xor s a) c)
     (ap (λ v. bit_xor v (bit_xor s a)) (add_zero (bit_xor (x 0) 0) ∙ add_zero (x 0)))
     (ap (λ v. bit_xor v (bit_xor s a)) (add_zero (bit_xor (x 1) (x 0)))
     ∙ xor_assoc (x 1) (x 0) (bit_xor s a))
@@ -79,7 +78,7 @@ columns_are : (x s a : List ℕ) → length x ≡ 16 → length s ≡ 16 → len
     → columns_of x s a ≡ coded_state x s a
 unfolding state build
 columns_are x s a x_long s_long a_long =
-    subst (λ v. columns_of v s a ≡ coded_state v s a) (built 16 x 0 x_long)
+    subst (λ v. columns_of v s a ≡ coded_state v s a) (build-get_or 16 x 0 x_long)
     (same_on_blocks (columns_of (build 16 (λ i. get_or x i 0)))
     (coded_state (build 16 (λ i. get_or x i 0)))
     (λ f g. refl) s a s_long a_long)
@@ -88,7 +87,7 @@ columns_are x s a x_long s_long a_long =
 summed_in_two_steps : (x s a : List ℕ) {p q : List ℕ} → length x ≡ 16 → length s ≡ 16
     → length a ≡ 16
     → p ≡ pairs_of x → q ≡ sums_of p → zip2 bit_xor (zip2 bit_xor q a) s
-    ≡ state (λ r c. summed field_add (byte_at x r) (field_add (byte_at s r c) (byte_at a r c)) c)
+    ≡ state (λ r c. fold_to field_add (byte_at x r) (field_add (byte_at s r c) (byte_at a r c)) c)
 summed_in_two_steps x s a x_long s_long a_long pairs_are sums_are =
     ap (λ v. zip2 bit_xor (zip2 bit_xor v a) s) (sums_are ∙ ap sums_of pairs_are)
     ∙ columns_are x s a x_long s_long a_long
@@ -117,7 +116,7 @@ moved_untowered x ks = map-map untower (looked x) ks ∙ (λ i. map (λ k. entry
 -- the columns, summed from any start and addend
 abbrev pub from_start : List ℕ → List ℕ → List ℕ → List ℕ
 from_start x s a =
-    state (λ r c. summed field_add (byte_at x r) (field_add (byte_at s r c) (byte_at a r c)) c)
+    state (λ r c. fold_to field_add (byte_at x r) (field_add (byte_at s r c) (byte_at a r c)) c)
 
 -- the sums of columns stand for those of what the columns stand for
 pub tower_summed_is : (x s a : List ℕ) {p q : List ℕ} → length x ≡ 16 → length s ≡ 16
@@ -132,8 +131,8 @@ tower_summed_is x s a {p = p} {q = q} x_long s_long a_long pairs_are sums_are =
     sum_untowered (zip2 bit_xor q a) s
     ∙ ap (λ v. zip2 bit_xor v (map untower s)) (sum_untowered q a)
     ∙ summed_in_two_steps (map untower x) (map untower s) (map untower a)
-    (map_length untower x ∙ x_long)
-    (map_length untower s ∙ s_long) (map_length untower a ∙ a_long)
+    (length-map x untower ∙ x_long)
+    (length-map s untower ∙ s_long) (length-map a untower ∙ a_long)
     (ap (map untower) pairs_are ∙ with_moved x COLUMN_BEFORE)
     (ap (map untower) sums_are ∙ with_moved p TWO_COLUMNS_BEFORE)
 
@@ -171,7 +170,7 @@ first_changed (x ∷ xs) k l =
 -- sums of columns add to each column what is added to the first
 first_column_carried : (x z : ℕ → ℕ) (v k c : ℕ) → z 0 ≡ bit_xor (x 0) k
     → ((d : ℕ) → z (suc d) ≡ x (suc d))
-    → summed field_add z v c ≡ summed field_add x (bit_xor v k) c
+    → fold_to field_add z v c ≡ fold_to field_add x (bit_xor v k) c
 first_column_carried x z v k zero first others =
     ap (λ u. bit_xor u v) first ∙ xor_assoc (x 0) k v ∙ ap (bit_xor (x 0)) (xor_comm k v)
 first_column_carried x z v k (suc c) first others =
@@ -179,8 +178,8 @@ first_column_carried x z v k (suc c) first others =
 
 -- a byte added to the first lane is added to row 0 of each column
 constant_carried : (x : List ℕ) (v k r c : ℕ) → length x ≡ 16 → r < 4
-    → summed field_add (byte_at (set x 0 (bit_xor (get_or x 0 0) k)) r) v c
-    ≡ summed field_add (byte_at x r) (bit_xor v (cond (r == 0) k 0)) c
+    → fold_to field_add (byte_at (set x 0 (bit_xor (get_or x 0 0) k)) r) v c
+    ≡ fold_to field_add (byte_at x r) (bit_xor v (cond (r == 0) k 0)) c
 constant_carried x v k r c x_long lt =
     let z = set x 0 (bit_xor (get_or x 0 0) k) in
     let other : (i : ℕ) → i ≢ 0 → get_or z i 0 ≡ get_or x i 0 = λ i. get_or-set_other x 0 i _ 0 in
@@ -210,12 +209,12 @@ last_column = 12 ∷ 13 ∷ 14 ∷ 15 ∷ 12 ∷ 13 ∷ 14 ∷ 15 ∷ 12 ∷ 13 
 abbrev pub second_column : List ℕ
 second_column = 4 ∷ 5 ∷ 6 ∷ 7 ∷ 4 ∷ 5 ∷ 6 ∷ 7 ∷ 4 ∷ 5 ∷ 6 ∷ 7 ∷ 4 ∷ 5 ∷ 6 ∷ 7 ∷ []
 
--- 0x63 in the tower basis
+-- 0x6e stands for 0x63 in the tower basis
 of_constant : untower 0x6e ≡ 0x63
 unfolding untower
 of_constant = refl
 
--- 0x63 in the tower basis, in each lane
+-- lanes of 0x6e stand for lanes of 0x63
 constants_untowered : map untower (replicate 16 0x6e) ≡ replicate 16 0x63
 constants_untowered = λ i. replicate 16 (of_constant i)
 
@@ -228,37 +227,37 @@ substituted_lanes y ks = map plus63 (sub_bytes (swizzled y ks))
 abbrev added_to_row : List ℕ → ℕ → ℕ → ℕ
 added_to_row y rows r = plus63 (plus63 (byte_at (sub_bytes y) ((r + rows) % 4) 3))
 
--- the columns from a substituted and rotated last column, row by row
+-- the columns from a substituted and rotated last column on are sums, row by row
 rotated_state : (x y : List ℕ) → length y ≡ 16
     → from_start x (substituted_lanes y rotated_column) (replicate 16 0x63)
-    ≡ state (λ r c. summed field_add (byte_at x r) (added_to_row y 1 r) c)
+    ≡ state (λ r c. fold_to field_add (byte_at x r) (added_to_row y 1 r) c)
 unfolding state build sub_bytes
 rotated_state x y =
     same_on_block (λ y. from_start x (substituted_lanes y rotated_column) (replicate 16 0x63))
-    (λ y. state (λ r c. summed field_add (byte_at x r) (added_to_row y 1 r) c)) (λ f. refl) y
+    (λ y. state (λ r c. fold_to field_add (byte_at x r) (added_to_row y 1 r) c)) (λ f. refl) y
 
--- the columns from a substituted last column without a rotation, row by row
+-- the columns from a substituted last column without a rotation on are sums, row by row
 substituted_state : (x y : List ℕ) → length y ≡ 16
     → from_start x (substituted_lanes y last_column) (replicate 16 0x63)
-    ≡ state (λ r c. summed field_add (byte_at x r) (added_to_row y 0 r) c)
+    ≡ state (λ r c. fold_to field_add (byte_at x r) (added_to_row y 0 r) c)
 unfolding state build sub_bytes
 substituted_state x y =
     same_on_block (λ y. from_start x (substituted_lanes y last_column) (replicate 16 0x63))
-    (λ y. state (λ r c. summed field_add (byte_at x r) (added_to_row y 0 r) c)) (λ f. refl) y
+    (λ y. state (λ r c. fold_to field_add (byte_at x r) (added_to_row y 0 r) c)) (λ f. refl) y
 
 -- the sums with a round constant are those of the standard
 rotated_sums : (x y : List ℕ) (k : ℕ) → length y ≡ 16
-    → state (λ r c. summed field_add (byte_at x r)
+    → state (λ r c. fold_to field_add (byte_at x r)
     (bit_xor (byte_at y ((r + 1) % 4) 3) (cond (r == 0) k 0)) c)
     ≡ columns_summed 1 3 x (add_round_key y (constant_block k))
 unfolding state build columns_summed add_round_key constant_block
-rotated_sums x y k = same_on_block (λ y. state (λ r c. summed field_add (byte_at x r)
+rotated_sums x y k = same_on_block (λ y. state (λ r c. fold_to field_add (byte_at x r)
     (bit_xor (byte_at y ((r + 1) % 4) 3) (cond (r == 0) k 0)) c))
     (λ y. columns_summed 1 3 x (add_round_key y (constant_block k))) (λ f. refl) y
 
 -- sums from equal bytes are equal
-summed_from : (x : ℕ → ℕ) (s t c : ℕ) → s ≡ t → summed field_add x s c ≡ summed field_add x t c
-summed_from x s t c e = ap (λ v. summed field_add x v c) e
+summed_from : (x : ℕ → ℕ) (s t c : ℕ) → s ≡ t → fold_to field_add x s c ≡ fold_to field_add x t c
+summed_from x s t c e = ap (λ v. fold_to field_add x v c) e
 
 -- what SubBytes makes of lanes, by what these stand for
 start_is : (v ks s : List ℕ) → map untower (swizzled v ks) ≡ swizzled (map untower v) ks
@@ -267,11 +266,12 @@ start_is : (v ks s : List ℕ) → map untower (swizzled v ks) ≡ swizzled (map
 start_is v ks s moved e = e ∙ ap (λ t. map plus63 (sub_bytes t)) moved
 
 -- SubBytes of a block leaves sixteen bytes
-sub_length : (y : List ℕ) → length y ≡ 16 → length (sub_bytes y) ≡ 16
+length-sub_bytes : (y : List ℕ) → length y ≡ 16 → length (sub_bytes y) ≡ 16
 unfolding sub_bytes
-sub_length y l = map_length sbox y ∙ l
+length-sub_bytes y l = length-map y sbox ∙ l
 
--- SubWord of RotWord of the last column and a round constant, summed onto the columns of a block
+-- on lanes, SubWord of RotWord of the last column and a round constant, summed onto the columns of
+-- a block, are `columns_summed` with the constant block
 pub rotated_is : {x y : List ℕ} (u v b s z : List ℕ) (k : ℕ) → map untower u ≡ x → map untower v ≡ y
     → length u ≡ 16 → length v ≡ 16
     → map untower b ≡ zip2 bit_xor (map untower u) (k ∷ replicate 15 0)
@@ -282,8 +282,8 @@ unfolding build
 rotated_is u v b s z k is_x is_y u_long v_long is_b is_s is_z =
     let x = map untower u in
     let y = map untower v in
-    let x_long : length x ≡ 16 = map_length untower u ∙ u_long in
-    let y_long : length y ≡ 16 = map_length untower v ∙ v_long in
+    let x_long : length x ≡ 16 = length-map u untower ∙ u_long in
+    let y_long : length y ≡ 16 = length-map v untower ∙ v_long in
     let moved = same_on_block (λ v. map untower (swizzled v rotated_column))
     (λ v. swizzled (map untower v) rotated_column) (λ g. refl) v v_long in
     is_z ∙ (λ i. from_start ((is_b ∙ first_changed x k x_long) i)
@@ -293,10 +293,10 @@ rotated_is u v b s z k is_x is_y u_long v_long is_b is_s is_z =
     constant_carried x (added_to_row y 1 r) k r c x_long i
     ∙ summed_from (byte_at x r) _ _ c (ap (λ v. bit_xor v (cond (r == 0) k 0))
     (add_twice (byte_at (sub_bytes y) ((r + 1) % 4) 3) 0x63)))
-    ∙ rotated_sums x (sub_bytes y) k (sub_length y y_long)
+    ∙ rotated_sums x (sub_bytes y) k (length-sub_bytes y y_long)
     ∙ (λ i. columns_summed 1 3 (is_x i) (add_round_key (sub_bytes (is_y i)) (constant_block k)))
 
--- SubWord of the last column, summed onto the columns of a block
+-- on lanes, SubWord of the last column, summed onto the columns of a block, is `columns_summed`
 pub substituted_is : {x y : List ℕ} (u v s z : List ℕ) → map untower u ≡ x → map untower v ≡ y
     → length v ≡ 16
     → map untower s ≡ map plus63 (sub_bytes (map untower (swizzled v last_column)))
@@ -309,7 +309,7 @@ substituted_is u v s z is_x is_y v_long is_s is_z =
     let moved = same_on_block (λ v. map untower (swizzled v last_column))
     (λ v. swizzled (map untower v) last_column) (λ g. refl) v v_long in
     is_z ∙ (λ i. from_start x (start_is v last_column s moved is_s i) (constants_untowered i))
-    ∙ substituted_state x y (map_length untower v ∙ v_long)
+    ∙ substituted_state x y (length-map v untower ∙ v_long)
     ∙ state_same _ _ (λ r c i j. summed_from (byte_at x r) _ _ c
     (add_twice (byte_at (sub_bytes y) ((r + 0) % 4) 3) 0x63))
     ∙ (λ i. columns_summed 0 3 (is_x i) (sub_bytes (is_y i)))
@@ -317,12 +317,12 @@ substituted_is u v s z is_x is_y v_long is_s is_z =
 -- the columns from a second column as it is, row by row
 plain_state : (x y : List ℕ) → length y ≡ 16
     → from_start x (map untower (swizzled y second_column)) (map untower (replicate 16 0))
-    ≡ state (λ r c. summed field_add (byte_at x r)
+    ≡ state (λ r c. fold_to field_add (byte_at x r)
     (bit_xor (byte_at (map untower y) ((r + 0) % 4) 1) 0) c)
 unfolding state build untower
 plain_state x y = same_on_block
     (λ y. from_start x (map untower (swizzled y second_column)) (map untower (replicate 16 0)))
-    (λ y. state (λ r c. summed field_add (byte_at x r)
+    (λ y. state (λ r c. fold_to field_add (byte_at x r)
     (bit_xor (byte_at (map untower y) ((r + 0) % 4) 1) 0) c)) (λ f. refl) y
 
 -- the second column as it is, summed onto the columns of a block
@@ -371,7 +371,7 @@ inner_is x l =
 pub plain_key_is : (x : List ℕ) → length x ≡ 16
     → zip2 bit_xor (map untower x) (replicate 16 0x63) ≡ map key_untower x
 unfolding key_untower
-plain_key_is x l = zip2_splat bit_xor (map untower x) 16 0x63 (map_length untower x ∙ l)
+plain_key_is x l = zip2_splat bit_xor (map untower x) 16 0x63 (length-map x untower ∙ l)
     ∙ map-map plus63 untower x
 
 -- the last round key, stored outside the tower basis with 0x63 added, stands for what it is in that

@@ -11,16 +11,16 @@ use Rattle.aes_permute.proofs.Lookups.{each_passes}
 
 -- ---- lanes that are made of the bytes of a block
 
--- lanes looked up in a table
+-- a look-up of f of each byte is one map
 looked_of : (f : ℕ → ℕ) (t x : List ℕ) {y z : List ℕ} → z ≡ map (looked t) y → y ≡ map f x
     → z ≡ map (λ b. looked t (f b)) x
 looked_of f t x e made = e ∙ ap (map (looked t)) made ∙ map-map (looked t) f x
 
--- the sum of two
-pub sum_of : (f h : ℕ → ℕ) (x : List ℕ) {y v z : List ℕ} → z ≡ zip2 bit_xor y v → y ≡ map f x
+-- a sum of two maps of the same bytes is one map
+pub zip_of_maps : (f h : ℕ → ℕ) (x : List ℕ) {y v z : List ℕ} → z ≡ zip2 bit_xor y v → y ≡ map f x
     → v ≡ map h x
     → z ≡ map (λ b. bit_xor (f b) (h b)) x
-sum_of f h x e first second = e ∙ zip2_of_maps bit_xor f h x first second
+zip_of_maps f h x e first second = e ∙ zip2_of_maps bit_xor f h x first second
 
 -- the sum of which the second inverse is looked up
 abbrev pub second_sum : (ℕ → ℕ) → ℕ → ℕ
@@ -33,7 +33,7 @@ pub over_is : (f : ℕ → ℕ) (x : List ℕ) {y low inverse scaled z : List �
     → z ≡ zip2 bit_xor inverse scaled
     → z ≡ map (second_sum f) x
 over_is f x is_y is_low at_y at_low e =
-    sum_of (λ b. looked INVERSE (f b)) (λ b. looked SCALED_INVERSE (low_nibble b)) x e
+    zip_of_maps (λ b. looked INVERSE (f b)) (λ b. looked SCALED_INVERSE (low_nibble b)) x e
     (looked_of f INVERSE x at_y is_y)
     (looked_of low_nibble SCALED_INVERSE x at_low is_low)
 
@@ -42,7 +42,7 @@ pub index_is : (f h : ℕ → ℕ) (x : List ℕ) {sum at v z : List ℕ} → su
     → at ≡ map (looked INVERSE) sum
     → v ≡ map h x → z ≡ zip2 bit_xor at v → z ≡ map (λ b. bit_xor (inverse_over f b) (h b)) x
 index_is f h x is_sum is_at is_v e =
-    sum_of (inverse_over f) h x e (looked_of (second_sum f) INVERSE x is_at is_sum) is_v
+    zip_of_maps (inverse_over f) h x e (looked_of (second_sum f) INVERSE x is_at is_sum) is_v
 
 -- ---- that they are indices
 

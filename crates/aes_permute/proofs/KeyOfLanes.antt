@@ -2,14 +2,15 @@
 use Rattle.std.proofs.Common.{◌≡◌, inl, inr, ℕ, ◌+◌, ◌/◌, ◌≤◌, List, length}
 use Rattle.std.proofs.Common.{refl, ap, sym, subst, ◌∙◌, arith}
 use Rattle.aes_planes.specs.Fips197 as fips
+use Rattle.aes_planes.specs.Rounds.{all_rounds}
 use Rattle.aes_planes.proofs.KeySchedule.ExpandedBlocks.{first_bytes}
-use Rattle.aes_planes.proofs.KeySchedule.ExpansionLength.{expansion_length}
-use Rattle.aes_planes.proofs.Standard.CipherLaws.{two_keys}
+use Rattle.aes_planes.proofs.KeySchedule.ExpansionLength.{length-key_expansion}
+use Rattle.aes_planes.proofs.Standard.CipherLaws.{two_expanded}
 use Rattle.aes_cipher.specs.KeySizes.{IsKeySize}
 use Rattle.aes_permute.specs.Keys.{encrypting, cipher_form, key_of_lanes, leading_key}
 use Rattle.aes_permute.specs.Keys.{lane_key_size, IsCipherSchedule}
 use Rattle.aes_permute.specs.Stored.{round_keys_of, LaneForm}
-use Rattle.aes_permute.proofs.StoredStates.{keys_length}
+use Rattle.aes_permute.proofs.StoredStates.{length-round_keys_of}
 
 -- the key that begins its own schedule
 begins_with_key : (size : ℕ) (key : List ℕ) → IsKeySize size → length key ≡ size
@@ -32,8 +33,8 @@ module _ (stored : List (List ℕ)) (key : List ℕ) (one : IsKeySize (length ke
   read_as = (λ j. leading_key (own_size j) (e j)) ∙ begins_with_key (length key) key one refl
 
   -- stored round keys of a key are those of the key that they are read as
-  pub is_cipher_schedule : IsCipherSchedule stored
-  is_cipher_schedule = record {
+  pub schedule_read : IsCipherSchedule stored
+  schedule_read = record {
     one_of_three = elim one [
       | inl k ↦ inl (omega (arith, sized, k))
       | inr other ↦ inr (elim other [
@@ -53,18 +54,30 @@ pub stored_size : (size : ℕ) (stored : List (List ℕ)) → IsKeySize size
 stored_size size stored one l s = s.sized ∙ omega (arith, one, l)
 
 -- stored round keys of a key are two or more
-pub two_stored : (form : LaneForm) → ((w : List (List ℕ)) → length (form.used_keys w) ≡ length w)
+pub two_stored : (form : LaneForm) → ((w : List (List ℕ)) → length (form.direction_keys w) ≡ length w)
     → (stored : List (List ℕ)) (key : List ℕ)
-    → round_keys_of form stored ≡ form.used_keys (fips.key_expansion key)
+    → round_keys_of form stored ≡ form.direction_keys (fips.key_expansion key)
     → 2 ≤ length stored
 two_stored form same stored key e =
-    omega (arith, keys_length form stored, ap length e, same (fips.key_expansion key), two_keys key)
+    omega (arith, length-round_keys_of form stored, ap length e, same (fips.key_expansion key), two_expanded key)
+
+-- all rounds under stored round keys of a key are what the direction does under the key
+pub direction_rounds : (step last_step : List ℕ → List ℕ) {processed : List (List ℕ) → List ℕ → List ℕ}
+    (form : LaneForm)
+    → ((w : List (List ℕ)) (b : List ℕ) → 2 ≤ length w
+    → all_rounds step last_step (form.direction_keys w) b ≡ processed w b)
+    → (stored : List (List ℕ)) (key : List ℕ)
+    → round_keys_of form stored ≡ form.direction_keys (fips.key_expansion key)
+    → (b : List ℕ) → all_rounds step last_step (round_keys_of form stored) b
+    ≡ processed (fips.key_expansion key) b
+direction_rounds step last_step form follow stored key e b =
+    ap (λ w. all_rounds step last_step w b) e ∙ follow (fips.key_expansion key) b (two_expanded key)
 
 -- stored round keys that stand for the expansion of a key of 16, 24 or 32 bytes are those of the
 -- key that they are read as
-pub is_schedule_of : (stored : List (List ℕ)) (key : List ℕ) → IsKeySize (length key)
+pub expansion_read : (stored : List (List ℕ)) (key : List ℕ) → IsKeySize (length key)
     → fips.IsBytes key
     → encrypting stored ≡ fips.key_expansion key → IsCipherSchedule stored
-is_schedule_of stored key one b e =
-    is_cipher_schedule stored key one
-    (omega (arith, keys_length cipher_form stored, ap length e, expansion_length key)) b e
+expansion_read stored key one b e =
+    schedule_read stored key one
+    (omega (arith, length-round_keys_of cipher_form stored, ap length e, length-key_expansion key)) b e

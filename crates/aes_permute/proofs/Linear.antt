@@ -11,17 +11,17 @@ use Rattle.aes_planes.proofs.Bits.ByteCases.{all_below, all_pairs, all_pairs_tel
 use Rattle.aes_planes.proofs.Standard.FieldLaws.{add_swap, add_zero}
 use Rattle.aes_planes.proofs.Standard.States.{state_same}
 use Rattle.aes_permute.specs.Lookup.{looked, low_nibble, high_nibble, by_nibbles}
-use Rattle.aes_permute.specs.Stored.{untower, inv_untower}
+use Rattle.aes_permute.specs.Stored.{untower, decryption_untower}
 use Rattle.aes_permute.specs.declared.tables.TheConstants.{UNTOWER_LOW, UNTOWER_HIGH}
 use Rattle.aes_permute.specs.declared.tables.TheConstants.{INV_UNTOWER_LOW, INV_UNTOWER_HIGH}
 
 -- the sum of two nibbles is looked up as the sum of what is looked up
-abbrev pub is_linear : List ℕ → Type 0
-is_linear t = all_pairs 16 16
+abbrev pub IsLinear : List ℕ → Type 0
+IsLinear t = all_pairs 16 16
     (λ p q. looked t (bit_xor p q) == bit_xor (looked t p) (looked t q)) ≡ true
 
 -- a linear table takes the sum of two nibbles to the sum of its entries
-looked_sum : (t : List ℕ) → is_linear t → (p q : ℕ) → p < 16 → q < 16 → looked t (bit_xor p q)
+looked_sum : (t : List ℕ) → IsLinear t → (p q : ℕ) → p < 16 → q < 16 → looked t (bit_xor p q)
     ≡ bit_xor (looked t p) (looked t q)
 looked_sum t l p q a b =
     eqb-true _ _ (all_pairs_tell 16 16
@@ -37,7 +37,7 @@ high_sum a b = ap (λ v. v % 16) (xor_shr a b 4) ∙ xor_mod (a / 16) (b / 16) 4
 
 -- a look-up by nibbles in linear tables takes the sum of two bytes to the sum of what it makes of
 -- each
-by_nibbles_sum : (t u : List ℕ) → is_linear t → is_linear u → (a b : ℕ)
+by_nibbles_sum : (t u : List ℕ) → IsLinear t → IsLinear u → (a b : ℕ)
     → by_nibbles t u (bit_xor a b)
     ≡ bit_xor (by_nibbles t u a) (by_nibbles t u b)
 by_nibbles_sum t u l m a b =
@@ -51,20 +51,20 @@ by_nibbles_sum t u l m a b =
     (looked u (high_nibble b))
 
 -- the tables that change back from the basis of encryption are linear, by all pairs of nibbles
-untower_linear : is_linear UNTOWER_LOW × is_linear UNTOWER_HIGH
+untower_linear : IsLinear UNTOWER_LOW × IsLinear UNTOWER_HIGH
 unfolding all_below
 untower_linear = (refl, refl)
 
 -- the tables that change back from the basis of decryption are linear, by all pairs of nibbles
-inv_untower_linear : is_linear INV_UNTOWER_LOW × is_linear INV_UNTOWER_HIGH
+decryption_untower_linear : IsLinear INV_UNTOWER_LOW × IsLinear INV_UNTOWER_HIGH
 unfolding all_below
-inv_untower_linear = (refl, refl)
+decryption_untower_linear = (refl, refl)
 
 -- v takes the sum of three numbers to the sum of what it makes of each
 abbrev pub SumsOfThree : (ℕ → ℕ) → Type 0
 SumsOfThree v = (a b c : ℕ) → v (bit_xor (bit_xor a b) c) ≡ bit_xor (bit_xor (v a) (v b)) (v c)
 
--- three summands, by two at a time
+-- what takes a sum of two to a sum does so with three
 linear_three : (v : ℕ → ℕ) → ((a b : ℕ) → v (bit_xor a b) ≡ bit_xor (v a) (v b)) → SumsOfThree v
 linear_three v l a b c = l (bit_xor a b) c ∙ ap (λ u. bit_xor u (v c)) (l a b)
 
@@ -78,12 +78,12 @@ pub untower_three : SumsOfThree untower
 untower_three = linear_three untower untower_sum
 
 -- the constant of each summand: of three, one is left
-pub inv_untower_three : SumsOfThree inv_untower
-unfolding inv_untower
-inv_untower_three a b c =
+pub decryption_untower_three : SumsOfThree decryption_untower
+unfolding decryption_untower
+decryption_untower_three a b c =
     let v : ℕ → ℕ = λ b. by_nibbles INV_UNTOWER_LOW INV_UNTOWER_HIGH b in
-    ap plus63 (linear_three v (by_nibbles_sum INV_UNTOWER_LOW INV_UNTOWER_HIGH inv_untower_linear.0
-    inv_untower_linear.1) a b c)
+    ap plus63 (linear_three v (by_nibbles_sum INV_UNTOWER_LOW INV_UNTOWER_HIGH decryption_untower_linear.0
+    decryption_untower_linear.1) a b c)
     ∙ xor_assoc (bit_xor (v a) (v b)) (v c) 0x63
     ∙ ap (λ u. bit_xor u (plus63 (v c)))
     (sym (add_swap (v a) 0x63 (v b) 0x63 ∙ add_zero (bit_xor (v a) (v b))))

@@ -4,6 +4,7 @@ use Rattle.std.proofs.Common.{◌||◌, ◌==◌, nat_le, nat_lt, cond, bit_and,
 use Rattle.std.proofs.Common.{length, map, get_or, replicate, refl, ap, ◌∙◌, arith, w8, T}
 use Rattle.std.specs.List.{list_all}
 use Rattle.std.proofs.lemmas.Bool.{and_parts, eqb-true, ltb-true}
+use Rattle.std.proofs.lemmas.Float.{T_from_true}
 use Rattle.std.proofs.lemmas.Simd.{swz_l, SwzOk, SwzOk-from_Each1, map-map, zip2_of_maps}
 use Rattle.std.proofs.lemmas.Simd.{zip2_splat}
 use lib.Lanes.{zip2, Each1}
@@ -52,11 +53,7 @@ unfolding is_index
 each_index [] h = tt
 each_index (j ∷ js) h =
     let both = and_parts (is_index j) (list_all is_index js) h in
-    (t_of _ both.0, each_index js both.1)
-  where
-    t_of : (b : Bool) → b ≡ true → T b
-    t_of true e = tt
-    t_of false e = absurd (grind (arith, e))
+    (T_from_true _ both.0, each_index js both.1)
 
 -- sixteen indices are places that a byte shuffle of one vector can read
 pub indices_ok : (js : List ℕ) → length js ≡ 16 → AreIndices js → SwzOk w8 16 16 0 js
@@ -74,17 +71,17 @@ each_passes p f t (x ∷ xs) h =
     (λ k. e k && list_all p (map f xs)) ∙ each_passes p f t xs (λ i. h (suc i))
 
 -- two functions that agree on bytes
-pub maps_agree : (f g : ℕ → ℕ) → ((b : ℕ) → b < 256 → f b ≡ g b) → (xs : List ℕ) → IsBytes xs
+pub map-ext_bytes : (f g : ℕ → ℕ) → ((b : ℕ) → b < 256 → f b ≡ g b) → (xs : List ℕ) → IsBytes xs
     → map f xs ≡ map g xs
-maps_agree f g e [] h = refl
-maps_agree f g e (x ∷ xs) h = λ i. e x (h 0) i ∷ maps_agree f g e xs (λ j. h (suc j)) i
+map-ext_bytes f g e [] h = refl
+map-ext_bytes f g e (x ∷ xs) h = λ i. e x (h 0) i ∷ map-ext_bytes f g e xs (λ j. h (suc j)) i
 
 -- two functions that agree in a test of all 256 bytes make the same of each byte of a list
-pub maps_same : (f g : ℕ → ℕ) → all_below 256 (λ b. f b == g b) ≡ true → (xs : List ℕ)
+pub map-ext_by_test : (f g : ℕ → ℕ) → all_below 256 (λ b. f b == g b) ≡ true → (xs : List ℕ)
     → IsBytes xs → map f xs
     ≡ map g xs
-maps_same f g t xs h =
-    maps_agree f g (λ b l. eqb-true _ _ (all_below_tells 256 (λ b. f b == g b) t b l)) xs h
+map-ext_by_test f g t xs h =
+    map-ext_bytes f g (λ b l. eqb-true _ _ (all_below_tells 256 (λ b. f b == g b) t b l)) xs h
 
 -- a nibble is a place of a table, by all nibbles
 nibble_indices : all_below 16 is_index ≡ true
@@ -110,7 +107,7 @@ low_masked = refl
 pub low_nibbles_of : (n : ℕ) (x : List ℕ) → length x ≡ n → IsBytes x
     → zip2 bit_and x (replicate n 15) ≡ map low_nibble x
 low_nibbles_of n x l h = zip2_splat bit_and x n 15 l
-    ∙ maps_same (λ b. bit_and b 15) low_nibble low_masked x h
+    ∙ map-ext_by_test (λ b. bit_and b 15) low_nibble low_masked x h
 
 -- the bytes of a block and-ed with 15 are their low nibbles
 pub low_nibbles_are : (x : List ℕ) → IsBlock x → zip2 bit_and x (replicate 16 15) ≡ map low_nibble x
@@ -125,7 +122,7 @@ high_shifted = refl
 pub high_nibbles_of : (n : ℕ) (x : List ℕ) → length x ≡ n → IsBytes x
     → zip2 (λ a b. a / 2 ^ b) x (replicate n 4) ≡ map high_nibble x
 high_nibbles_of n x l h = zip2_splat (λ a b. a / 2 ^ b) x n 4 l
-    ∙ maps_same (λ b. b / 16) high_nibble high_shifted x h
+    ∙ map-ext_by_test (λ b. b / 16) high_nibble high_shifted x h
 
 -- the bytes of a block shifted right by 4 bits are their high nibbles
 pub high_nibbles_are : (x : List ℕ) → IsBlock x

@@ -1,6 +1,7 @@
 -- The rounds of Cipher on lanes.
 use Rattle.std.proofs.Common.{◌≡◌, ℕ, ◌+◌, ◌%◌, ◌==◌, true, bit_xor, List, [], ◌∷◌, length, map}
 use Rattle.std.proofs.Common.{map-id, refl, ap, sym, subst, ◌∙◌}
+use Rattle.std.proofs.lemmas.List.{length-map}
 use Rattle.std.specs.Int.Bits.{xor_assoc}
 use Rattle.std.proofs.lemmas.Nat.{xor_comm}
 use Rattle.std.proofs.lemmas.Simd.{zip2-map, map-map}
@@ -13,7 +14,7 @@ use Rattle.aes_planes.proofs.Bits.ByteCases.{all_below}
 use Rattle.aes_planes.proofs.Lists.{same_on_block, same_on_blocks}
 use Rattle.aes_planes.proofs.Standard.FieldLaws.{add_swap}
 use Rattle.aes_planes.proofs.Standard.States.{state_same}
-use Rattle.aes_planes.proofs.Standard.Steps.{map_length, add_block}
+use Rattle.aes_planes.proofs.Standard.Steps.{add_block}
 use Rattle.aes_cipher.proofs.BlockNumbers.{blocks_summed}
 use Rattle.aes_permute.specs.TwoIndices.{first_of, second_of, at_indices}
 use Rattle.aes_permute.specs.Lookup.{looked, by_nibbles}
@@ -23,7 +24,7 @@ use Rattle.aes_permute.specs.declared.tables.TheConstants.{SBOX_SECOND, ONE_FIRS
 use Rattle.aes_permute.specs.declared.tables.TheConstants.{TWO_FIRST, TWO_SECOND}
 use Rattle.aes_permute.proofs.Linear.{untower_three, Product, row, Makes, rows_added}
 use Rattle.aes_permute.proofs.Linear.{rows_multiplied, rows_mixed}
-use Rattle.aes_permute.proofs.Lookups.{maps_same}
+use Rattle.aes_permute.proofs.Lookups.{map-ext_by_test}
 
 -- ---- what is looked up
 
@@ -185,7 +186,7 @@ tower_cases = refl
 -- the change of basis undoes the way into it, for each byte of a list
 pub untowered : (x : List ℕ) → IsBytes x → map untower (map (by_nibbles TOWER_LOW TOWER_HIGH) x) ≡ x
 untowered x h = map-map untower tower x
-    ∙ maps_same (λ b. untower (tower b)) (λ b. b) tower_cases x h ∙ map-id x
+    ∙ map-ext_by_test (λ b. untower (tower b)) (λ b. b) tower_cases x h ∙ map-id x
 
 -- a block plus the first round key, brought into the tower basis, stands for AddRoundKey
 pub first_sum_is : (b k : List ℕ) → IsBlock b → IsBlock k
@@ -208,7 +209,7 @@ plain_sbox_cases = refl
 but_constant : (f : ℕ → ℕ) → all_below 256 (λ b. f b == plus63 (boxed b)) ≡ true → (x : List ℕ)
     → IsBytes x → map f x ≡ map plus63 (sub_bytes (map untower x))
 unfolding sub_bytes
-but_constant f cases x h = maps_same f (λ b. plus63 (boxed b)) cases x h
+but_constant f cases x h = map-ext_by_test f (λ b. plus63 (boxed b)) cases x h
     ∙ sym (map-map plus63 boxed x)
     ∙ ap (map plus63) (sym (map-map sbox untower x))
 
@@ -243,11 +244,11 @@ pub last_round_is : (x k : List ℕ) {p : List ℕ} → IsBlock x → length k �
 unfolding sub_bytes
 last_round_is x k h m e =
     let y = sub_bytes (map untower x) in
-    let l : length y ≡ 16 = map_length sbox (map untower x) ∙ map_length untower x ∙ h.0 in
+    let l : length y ≡ 16 = length-map (map untower x) sbox ∙ length-map x untower ∙ h.0 in
     ap (λ v. last_sum_of v k) (e ∙ but_constant plain_sbox plain_sbox_cases x h.1)
     ∙ ap (λ v. zip2 bit_xor v k) (permuted_plus63 y l)
     ∙ plus63_across (permuted y same_row) k
-    ∙ last_sum_is y (map plus63 k) l (map_length plus63 k ∙ m)
+    ∙ last_sum_is y (map plus63 k) l (length-map k plus63 ∙ m)
 
 -- ---- SubBytes in the tower basis
 

@@ -11,14 +11,14 @@ use Rattle.aes_permute.specs.Stored.{key_of, round_keys_of, LaneForm}
 
 module _ (form : LaneForm) (stored : List (List ℕ)) where
   -- stored round keys are as many as those that they stand for
-  pub keys_length : length (round_keys_of form stored) ≡ length stored
+  pub length-round_keys_of : length (round_keys_of form stored) ≡ length stored
   unfolding round_keys_of
-  keys_length = length-build (length stored)
+  length-round_keys_of = length-build (length stored)
       (λ i. key_of form (fips.last_round stored) i (fips.round_key stored i))
 
   -- the last stored round key has the number of the last one that they stand for
   last_is_last : fips.last_round (round_keys_of form stored) ≡ fips.last_round stored
-  last_is_last = ap (λ v. v - 1) keys_length
+  last_is_last = ap (λ v. v - 1) length-round_keys_of
 
   -- round key i, as the form stands for it
   key_at : (i : ℕ) → i < length stored
@@ -119,8 +119,8 @@ pub stored_are : (form : LaneForm) (stored v : List (List ℕ)) → 2 ≤ length
 stored_are form stored v two l at_first between at_last =
     let keys = round_keys_of form stored in
     let same : fips.last_round v ≡ fips.last_round stored = ap (λ n. n - 1) (sym l) in
-    ext_get_or [] keys v (keys_length form stored ∙ l) (λ i lt.
-    let some : i < length v = omega (arith, lt, keys_length form stored, l) in
+    ext_get_or [] keys v (length-round_keys_of form stored ∙ l) (λ i lt.
+    let some : i < length v = omega (arith, lt, length-round_keys_of form stored, l) in
     elim (cases_lt 0 i) [
       | inl above ↦ elim (cases_lt i (fips.last_round v)) [
         | inl below ↦ inner_key form stored i (omega (arith, above)) (omega (arith, below, same))

@@ -13,12 +13,12 @@ finished_is f i xs y d fits e = ap (λ v. finished f (i + 1) (set xs i v)) e
     ∙ finished_one f i xs d fits
 
 -- writing blocks doesn't change a slice's length
-pub written_length : (b : ℕ → List ℕ) (n i : ℕ) (xs : List (List ℕ))
+pub length-written : (b : ℕ → List ℕ) (n i : ℕ) (xs : List (List ℕ))
     → length (written b n i xs) ≡ length xs
 unfolding written
-written_length b zero i xs = refl
-written_length b (suc n) i xs = length-set (written b n i xs) (i + n) (b n)
-    ∙ written_length b n i xs
+length-written b zero i xs = refl
+length-written b (suc n) i xs = length-set (written b n i xs) (i + n) (b n)
+    ∙ length-written b n i xs
 
 -- writing blocks changes nothing after them
 written_after : (b : ℕ → List ℕ) (n i k : ℕ) (xs : List (List ℕ)) → i + n ≤ k
@@ -30,7 +30,7 @@ written_after b (suc n) i k xs after =
     get_or-set_other (written b n i xs) (i + n) k (b n) [] other
     ∙ written_after b n i k xs (omega (arith, after))
 
--- f of n blocks from place i on, written in their places
+-- writing f of n blocks from place i on in their places keeps what the loop leaves in the end
 pub finished_written : (f : List ℕ → List ℕ) (b : ℕ → List ℕ) (n i : ℕ) (xs : List (List ℕ))
     → i + n ≤ length xs
     → ((k : ℕ) → k < n → b k ≡ f (get_or xs (i + k) []))
@@ -43,11 +43,12 @@ finished_written f b (suc n) i xs fits is =
     let front = written b n i xs in
     let next : i + suc n ≡ i + n + 1 = omega arith in
     ap (λ m. finished f m (set front (i + n) (b n))) next
-    ∙ finished_is f (i + n) front (b n) [] (omega (arith, fits, written_length b n i xs))
+    ∙ finished_is f (i + n) front (b n) [] (omega (arith, fits, length-written b n i xs))
     (is n (omega arith) ∙ ap f (sym (written_after b n i (i + n) xs (omega arith))))
     ∙ finished_written f b n i xs (omega (arith, fits)) (λ k below. is k (omega (arith, below)))
 
--- f of 2 n blocks from place i on, those of two vectors, written in their places
+-- writing f of 2 n blocks from place i on, those of two vectors, keeps what the loop leaves in the
+-- end
 pub finished_two : (f : List ℕ → List ℕ) (b c : ℕ → List ℕ) (n i : ℕ) (xs : List (List ℕ))
     → i + 2 * n ≤ length xs
     → ((k : ℕ) → k < n → b k ≡ f (get_or xs (i + k) []))
@@ -57,6 +58,6 @@ finished_two f b c n i xs fits is_b is_c =
     let front = written b n i xs in
     let two : i + 2 * n ≡ i + n + n = omega arith in
     ap (λ m. finished f m (written c n (i + n) front)) two
-    ∙ finished_written f c n (i + n) front (omega (arith, fits, written_length b n i xs))
+    ∙ finished_written f c n (i + n) front (omega (arith, fits, length-written b n i xs))
     (λ k below. is_c k below ∙ ap f (sym (written_after b n i (i + n + k) xs (omega arith))))
     ∙ finished_written f b n i xs (omega (arith, fits)) is_b

@@ -2,7 +2,7 @@
 use Rattle.std.specs.Prelude.{◌≡◌, ◌⊎◌, ℕ, ◌+◌, ◌-◌, ◌*◌, ◌/◌, ◌%◌, List, ◌++◌, drop, length, replicate, take}
 use Rattle.aes_planes.specs.Fips197 as fips
 use Rattle.aes_planes.specs.Planes.{plus63}
-use Rattle.aes_permute.specs.Stored.{as_is, inv_untower, key_untower, round_keys_of, LaneForm}
+use Rattle.aes_permute.specs.Stored.{as_is, decryption_untower, key_untower, round_keys_of, LaneForm}
 
 -- the form of the round keys of Cipher, whose rounds leave ShiftRows out
 abbrev pub cipher_form : LaneForm
@@ -11,17 +11,17 @@ cipher_form = record {
   inner_byte = key_untower;
   last_byte = plus63;
   placed = λ i s. fips.shift_times (i % 4) s;
-  used_keys = λ w. w;
+  direction_keys = λ w. w;
 }
 
 -- the form of the round keys of EqInvCipher
 abbrev pub inverse_form : LaneForm
 inverse_form = record {
   first_byte = plus63;
-  inner_byte = inv_untower;
+  inner_byte = decryption_untower;
   last_byte = as_is;
   placed = λ i s. s;
-  used_keys = fips.inverted_keys;
+  direction_keys = fips.inverted_keys;
 }
 
 -- the round keys that those of Cipher stand for

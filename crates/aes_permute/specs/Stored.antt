@@ -10,8 +10,8 @@ unfoldable pub untower : ℕ → ℕ
 untower b = by_nibbles UNTOWER_LOW UNTOWER_HIGH b
 
 -- a byte of a state of EqInvCipher, or of a round key of its inner rounds
-unfoldable pub inv_untower : ℕ → ℕ
-inv_untower b = plus63 (by_nibbles INV_UNTOWER_LOW INV_UNTOWER_HIGH b)
+unfoldable pub decryption_untower : ℕ → ℕ
+decryption_untower b = plus63 (by_nibbles INV_UNTOWER_LOW INV_UNTOWER_HIGH b)
 
 -- a byte of a round key of Cipher's inner rounds: the constant of the S-box is added with it
 unfoldable pub key_untower : ℕ → ℕ
@@ -32,7 +32,7 @@ pub record LaneForm : Type 0 where
   -- added then
   pub placed : ℕ → List ℕ → List ℕ
   -- the round keys that the rounds use, in their order, of the standard's list
-  pub used_keys : List (List ℕ) → List (List ℕ)
+  pub direction_keys : List (List ℕ) → List (List ℕ)
 
 -- what stored round key i stands for, by the number of the last
 abbrev pub key_of : LaneForm → ℕ → ℕ → List ℕ → List ℕ

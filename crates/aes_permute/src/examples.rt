@@ -11,7 +11,7 @@ ghost use Rattle.aes_cipher.specs.KeySizes.{IsKeySize};
 ghost use Rattle.aes_permute.specs.Keys.{encrypting, decrypting, key_in_room, lane_key_size};
 ghost use Rattle.aes_permute.specs.Keys.{stored_keys, AreInverse, AreZeroAfter, IsCipherSchedule};
 ghost use Rattle.aes_permute.specs.Lookup.{looked};
-ghost use Rattle.aes_permute.specs.Stored.{untower, inv_untower, key_untower};
+ghost use Rattle.aes_permute.specs.Stored.{untower, decryption_untower, key_untower};
 
 // The stored round keys of Cipher for the key of FIPS 197, C.1, each as one number, highest byte
 // first.
@@ -51,7 +51,7 @@ const DECRYPTING: [u128; 11] = [
 pub fn byte_examples()
     ensures tower { untower 0x15 ≡ 0x53 }
     ensures key { key_untower 0x15 ≡ 0x30 }
-    ensures inverse { inv_untower 0x15 ≡ 0x74 }
+    ensures inverse { decryption_untower 0x15 ≡ 0x74 }
     ensures zero { map untower (0x00 ∷ 0x01 ∷ []) ≡ 0x00 ∷ 0x01 ∷ [] }
 {}
 

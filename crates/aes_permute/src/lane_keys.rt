@@ -4,7 +4,7 @@
 ghost use Rattle.std.specs.Prelude.{◌≡◌, ◌+◌, ◌/◌, ◌%◌, ◌<◌, ◌≤◌, ◌∷◌, length, map, replicate, bit_xor};
 ghost use Rattle.std.specs.Simd.Lanes.{zip2};
 ghost use Rattle.aes_planes.specs.Fips197 as fips;
-ghost use Rattle.aes_planes.specs.Planes.{plus63, summed};
+ghost use Rattle.aes_planes.specs.Planes.{plus63, fold_to};
 ghost use Rattle.aes_cipher.specs.KeySizes.{IsKeySize};
 ghost use Rattle.aes_permute.specs.Keys.{encrypting, key_of_lanes, AreInverse, IsCipherSchedule};
 ghost use Rattle.aes_permute.specs.Stored.{untower, key_untower, IsWritten};
@@ -34,7 +34,7 @@ fn summed_columns(before: u8x16, start: u8x16, addend: u8x16) -> u8x16
     requires before { length before ≡ 16 }
     requires start { length start ≡ 16 }
     requires addend { length addend ≡ 16 }
-    ensures { map untower result ≡ fips.state (λ r c. summed fips.field_add
+    ensures { map untower result ≡ fips.state (λ r c. fold_to fips.field_add
         (fips.byte_at (map untower before) r) (fips.field_add
         (fips.byte_at (map untower start) r c) (fips.byte_at (map untower addend) r c)) c) }
 {

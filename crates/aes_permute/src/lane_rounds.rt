@@ -47,10 +47,10 @@ pub trait LaneRounds: Direction {
 
     /// No effect; states that the rounds use as many round keys as there are.
     fn rounds_use_every_key()
-        ensures { (w : List (List ℕ)) → length (form.used_keys w) ≡ length w };
+        ensures { (w : List (List ℕ)) → length (form.direction_keys w) ≡ length w };
 
     /// No effect; states that all rounds together do what the direction does.
     fn rounds_follow_the_standard()
         ensures { (w : List (List ℕ)) (b : List ℕ) → 2 ≤ length w
-            → all_rounds Self.step Self.last_step (form.used_keys w) b ≡ Self.processed w b };
+            → all_rounds Self.step Self.last_step (form.direction_keys w) b ≡ Self.processed w b };
 }

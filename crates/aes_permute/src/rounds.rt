@@ -5,7 +5,7 @@ ghost use Rattle.std.specs.Prelude.{◌≡◌, ◌%◌, ℕ, true, false, map, b
 ghost use Rattle.std.specs.Simd.Lanes.{zip2};
 ghost use Rattle.aes_planes.specs.Fips197 as fips;
 ghost use Rattle.aes_permute.specs.Keys.{cipher_form, inverse_form};
-ghost use Rattle.aes_permute.specs.Stored.{untower, inv_untower, key_untower};
+ghost use Rattle.aes_permute.specs.Stored.{untower, decryption_untower, key_untower};
 
 use crate::lane_rounds::LaneRounds;
 use crate::lanes::{Lanes, looked_up_by_nibbles};
@@ -61,13 +61,13 @@ impl LaneRounds for Encrypt {
     #[tactic(auto, using(crate::proofs::DirectionLaws::same_forward))]
     fn rounds_use_every_key() {}
 
-    #[tactic(auto, using(crate::proofs::DirectionLaws::is_encrypted))]
+    #[tactic(auto, using(crate::proofs::DirectionLaws::cipher_by_rounds))]
     fn rounds_follow_the_standard() {}
 }
 
 // EqInvCipher (FIPS 197, 5.3.5).
 impl LaneRounds for Decrypt {
-    ghost state_byte = { inv_untower };
+    ghost state_byte = { decryption_untower };
 
     ghost form = { inverse_form };
 
@@ -116,7 +116,7 @@ impl LaneRounds for Decrypt {
     #[tactic(auto, using(aes_planes::proofs::Standard::InvertedKeys::inverted_length))]
     fn rounds_use_every_key() {}
 
-    #[tactic(auto, using(crate::proofs::DirectionLaws::is_decrypted))]
+    #[tactic(auto, using(crate::proofs::DirectionLaws::inv_cipher_by_rounds))]
     fn rounds_follow_the_standard() {}
 }
 
@@ -167,7 +167,7 @@ pub fn encrypting_key(key: u8x16, number: usize) -> u8x16
 #[inline(always)]
 pub fn decrypting_key(key: u8x16) -> u8x16
     requires { fips.IsBlock key }
-    ensures { map inv_untower result ≡ fips.inv_mix_columns key }
+    ensures { map decryption_untower result ≡ fips.inv_mix_columns key }
 {
     let by_1 = looked_up_by_nibbles(key, KEY_1_LOW, KEY_1_HIGH);
     let by_4 = looked_up_by_nibbles(key, KEY_4_LOW, KEY_4_HIGH);
@@ -196,7 +196,7 @@ pub fn plain_key(stored: u8x16) -> u8x16
 #[inline(always)]
 pub fn inverted_key(stored: u8x16, number: usize) -> u8x16
     requires { fips.IsBlock stored }
-    ensures { map inv_untower result ≡ fips.inv_mix_columns
+    ensures { map decryption_untower result ≡ fips.inv_mix_columns
         (fips.shift_times (number % 4) (map key_untower stored)) }
 {
     let key = plain_key(stored).permuted(SHIFTED_ROWS[number % 4]);

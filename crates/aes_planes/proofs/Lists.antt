@@ -1,6 +1,6 @@
 -- Lists that are built of a function, and lists with the same elements.
 use Rattle.std.proofs.Common.{◌≡◌, ℕ, zero, suc, ◌+◌, ◌<◌, List, [], ◌∷◌, length, get_or, map, take}
-use Rattle.std.proofs.Common.{drop, refl, ap, sym, subst, ◌∙◌, arith}
+use Rattle.std.proofs.Common.{drop, ◌++◌, refl, ap, sym, subst, ◌∙◌, arith}
 use lib.Lanes.{zip2}
 use Rattle.aes_planes.specs.Fips197.{build, build_from}
 pub use Rattle.aes_planes.specs.Private.BuiltLength.{length-build}
@@ -57,9 +57,9 @@ build_is n f xs d l h =
     build_from_is 0 n f xs d l (λ i lt. let s : 0 + i ≡ i = omega arith in ap f s ∙ h i lt)
 
 -- a list is built of its elements
-pub built : {A : Type 0} (n : ℕ) (xs : List A) (d : A) → length xs ≡ n
+pub build-get_or : {A : Type 0} (n : ℕ) (xs : List A) (d : A) → length xs ≡ n
     → build n (λ i. get_or xs i d) ≡ xs
-built n xs d l = build_is n (λ i. get_or xs i d) xs d l (λ i lt. refl)
+build-get_or n xs d l = build_is n (λ i. get_or xs i d) xs d l (λ i lt. refl)
 
 -- ---- lists of sixteen elements
 
@@ -68,23 +68,23 @@ pub same_on_blocks : (F G : List ℕ → List ℕ → List ℕ)
     → ((f g : ℕ → ℕ) → F (build 16 f) (build 16 g) ≡ G (build 16 f) (build 16 g))
     → (x k : List ℕ) → length x ≡ 16 → length k ≡ 16 → F x k ≡ G x k
 same_on_blocks F G h x k l m =
-    subst (λ v. F v k ≡ G v k) (built 16 x 0 l) (subst (λ w. F (build 16 (λ i. get_or x i 0)) w
-    ≡ G (build 16 (λ i. get_or x i 0)) w) (built 16 k 0 m)
+    subst (λ v. F v k ≡ G v k) (build-get_or 16 x 0 l) (subst (λ w. F (build 16 (λ i. get_or x i 0)) w
+    ≡ G (build 16 (λ i. get_or x i 0)) w) (build-get_or 16 k 0 m)
     (h (λ i. get_or x i 0) (λ i. get_or k i 0)))
 
 -- what is the same of a block that is built of a function is the same of all
 pub same_on_block : (F G : List ℕ → List ℕ) → ((f : ℕ → ℕ) → F (build 16 f) ≡ G (build 16 f))
     → (x : List ℕ)
     → length x ≡ 16 → F x ≡ G x
-same_on_block F G h x l = subst (λ v. F v ≡ G v) (built 16 x 0 l) (h (λ i. get_or x i 0))
+same_on_block F G h x l = subst (λ v. F v ≡ G v) (build-get_or 16 x 0 l) (h (λ i. get_or x i 0))
 
 -- ---- what a function makes of lists
 
 -- two functions with the same values leave the same of each element
-pub map-same : {A B : Type 0} (f g : A → B) (xs : List A) → ((x : A) → f x ≡ g x)
+pub map-ext : {A B : Type 0} (f g : A → B) (xs : List A) → ((x : A) → f x ≡ g x)
     → map f xs ≡ map g xs
-map-same f g [] e = refl
-map-same f g (x ∷ xs) e = (λ t. e x t ∷ map-same f g xs e t)
+map-ext f g [] e = refl
+map-ext f g (x ∷ xs) e = (λ t. e x t ∷ map-ext f g xs e t)
 
 -- ---- what a function makes of two lists, place by place
 
@@ -108,3 +108,12 @@ zip2_drop f zero xs ys = refl
 zip2_drop f (suc n) [] ys = refl
 zip2_drop f (suc n) (x ∷ xs) [] = sym (zip2_nil f (drop n xs))
 zip2_drop f (suc n) (x ∷ xs) (y ∷ ys) = zip2_drop f n xs ys
+
+-- f of two lists of two parts each, element by element, is f of each part
+pub zip2_append : (f : ℕ → ℕ → ℕ) (a b c d : List ℕ) → length a ≡ length c
+    → zip2 f (a ++ b) (c ++ d) ≡ zip2 f a c ++ zip2 f b d
+zip2_append f [] b [] d same = refl
+zip2_append f [] b (y ∷ c) d same = absurd (omega (arith, same))
+zip2_append f (x ∷ a) b [] d same = absurd (omega (arith, same))
+zip2_append f (x ∷ a) b (y ∷ c) d same =
+    ap (λ l. f x y ∷ l) (zip2_append f a b c d (omega (arith, same)))

@@ -8,7 +8,7 @@ use Rattle.aes_planes.specs.Planes.{zip_with}
 abbrev pub zipped_from : {X : Type 0} → (X → X → X) → ℕ → List X → List X → List X
 zipped_from f i xs ys = take i xs ++ zip_with f (drop i xs) (drop i ys)
 
--- a step of the elements of the first list alone, before f of both
+-- a step on the elements of the first list can be taken where f meets both
 pub zip_with-map : {X : Type 0} (f : X → X → X) (step : X → X) (xs ys : List X)
     → zip_with f (map step xs) ys
     ≡ zip_with (λ x y. f (step x) y) xs ys

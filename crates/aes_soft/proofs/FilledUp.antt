@@ -14,7 +14,7 @@ filled k m x xs ys end first others =
     ∙ (λ i. take (end i) xs ++ drop (end i) (replicate m x))
     ∙ (λ i. take-length xs i ++ drop-replicate (length xs) m x i)
 
--- elements that were copied one by one from the front of others
+-- elements that were all copied from the front of others are the first of those
 pub all_copied : {X : Type 0} (k n : ℕ) (xs ys : List X) → k ≡ n → length xs ≡ n
     → take k xs ≡ take k ys → xs ≡ take n ys
 all_copied k n xs ys e l p =

@@ -21,7 +21,7 @@ abbrev pub Below : ℕ → (ℕ → Type 0) → Type 0
 Below zero P = Unit {0}
 Below (suc n) P = Below n P × P n
 
--- the step: the last number, or one of those below
+-- what holds of n and of i below n holds of i below n + 1
 last_or_below : (n i : ℕ) (P : ℕ → Type 0) → P n → (i < n → P i) → (i < n) ⊎ (n ≤ i) → i < suc n
     → P i
 last_or_below n i P here below (inl lt) h = below lt

@@ -63,7 +63,8 @@ next_batch f size done k old now ys b some same is =
       whole = ap (λ v. v % size) left ∙ whole_left (length now - done) size fits b.whole;
     }
 
--- f of the first n elements, written in their places
+-- once f of the first n elements is written in their places, the loop leaves f of every element in
+-- the end
 pub front_finished : {X : Type 0} (f : X → X) (n : ℕ) (xs ys : List X) → n ≤ length xs
     → ys ≡ map f (take n xs)
     → finished f n (ys ++ drop n xs) ≡ map f xs

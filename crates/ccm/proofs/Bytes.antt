@@ -58,7 +58,7 @@ low_bytes (suc q) a j =
     ap (λ n. n / p % 256) whole ∙ ap (λ n. n % 256) quotient ∙ omega arith in
     (λ t. first t ∷ (ap (bytes q) whole ∙ low_bytes q (a * 256) j) t)
 
--- the bytes of two numbers, one behind the other
+-- the bytes of a number are those of its upper part and then those of its lower part
 joined_bytes : (m q a j : ℕ) → j < 256 ^ q
     → bytes (m + q) (a * 256 ^ q + j) ≡ bytes m a ++ bytes q j
 unfolding bytes
@@ -88,7 +88,7 @@ only_zero (suc q) r small is =
     let none : r / p < 1 = omega (arith, first, below, zero-div p) in
     only_zero q r (omega (arith, (div-lt_iff_lt-mul (power_positive q)).0 none)) others
 
--- a quotient by a power of 2
+-- a quotient by 2 ^ k is 0 exactly if the number is below 2 ^ k
 pub quotient_zero : (x k : ℕ) → (x / 2 ^ k ≡ 0) ↔ (x < 2 ^ k)
 quotient_zero x k = (
   λ e. omega (arith, (div-lt_iff_lt-mul {x = x} {y = 1} (pow_pos k)).0 (omega (arith, e))),

@@ -2,7 +2,7 @@
 use Rattle.std.proofs.Common.{◌≡◌, ℕ, ◌+◌, ◌-◌, ◌*◌, ◌/◌, ◌%◌, ◌^◌, ◌<◌, ◌≤◌, List, ◌∷◌, length}
 use Rattle.std.proofs.Common.{slice_index, ap, arith}
 use Rattle.aes_planes.specs.Fips197.{cipher_with, IsBlock}
-use Rattle.aes_ctr.proofs.Sums.{plus-agree, summed_twice}
+use Rattle.aes_ctr.proofs.Sums.{plus-ext, summed_twice}
 use Rattle.aes_ctr.specs.CounterMode as whole
 use Rattle.aes_ctr.specs.CounterMode.{keystream_byte, plus_stream}
 use Rattle.aes_ctr.specs.Streams.{stream_byte}
@@ -26,7 +26,7 @@ pub text_by_blocks : (w : List (List ℕ)) (nonce block p : List ℕ) → IsBloc
     → plus_stream (keystream_byte w block) 16 p ≡ text w nonce p
 unfolding text keystream_byte stream_byte
 text_by_blocks w nonce block p is_block is shortest longest fits =
-    plus-agree (keystream_byte w block) (stream_byte w (counter_block nonce)) 16 16 p
+    plus-ext (keystream_byte w block) (stream_byte w (counter_block nonce)) 16 16 p
     (λ i inside. ap (λ b. slice_index (cipher_with w b) ((16 + i) % 16))
     (same_block nonce block ((16 + i) / 16) is_block is shortest longest
     (omega (arith, inside, fits))))

@@ -12,7 +12,7 @@ use Rattle.aes_cipher.proofs.Strings.{first_block, second_block, length-padded, 
 use Rattle.aes_cipher.proofs.Strings.{last_padded}
 use Rattle.cmac.specs.Chain.{block_at, chained, chained_through}
 
--- the chain through the blocks of the first of two strings
+-- the chain through blocks of the first of two strings doesn't depend on the second
 chained_first : (w : List (List ℕ)) (y a b : List ℕ) (i : ℕ) → 16 * i ≤ length a
     → chained w y (a ++ b) i ≡ chained w y a i
 unfolding chained
@@ -37,7 +37,7 @@ chained_on w y a b k (suc i) long =
 
 -- ---- a chain through all of a string
 
--- a chain through all of a string of whole blocks
+-- the chain through a string of n whole blocks is that through n blocks of it
 pub through_whole : (w : List (List ℕ)) (y s : List ℕ) (n : ℕ) → length s ≡ 16 * n
     → chained_through w y s ≡ chained w y s n
 unfolding chained_through padded
@@ -46,7 +46,7 @@ through_whole w y s n long =
     ap (chained w y (padded s)) count
     ∙ chained_first w y s (replicate ((16 - length s % 16) % 16) 0) n (omega (arith, long))
 
--- a chain through the first blocks of a string
+-- the chain through the first n blocks, as a string, is that through n blocks of the whole
 pub through_first : (w : List (List ℕ)) (y s : List ℕ) (n : ℕ) → 16 * n ≤ length s
     → chained_through w y (take (16 * n) s) ≡ chained w y s n
 through_first w y s n inside =
@@ -56,7 +56,7 @@ through_first w y s n inside =
     ∙ sym (chained_first w y t (drop (16 * n) s) n (omega (arith, long)))
     ∙ ap (λ l. chained w y l n) (take-append-drop (16 * n) s)
 
--- a chain through two strings, the first of whole blocks
+-- the chain through two strings, of which the first has whole blocks, is that through both joined
 pub through_on : (w : List (List ℕ)) (y a b : List ℕ) (k : ℕ) → length a ≡ 16 * k
     → chained_through w (chained_through w y a) b ≡ chained_through w y (a ++ b)
 unfolding chained_through padded

@@ -34,7 +34,8 @@ last_by l rest = if length rest == 16 then add_round_key (doubled_block l) rest
 abbrev pub rest_after : ℕ → List ℕ → List ℕ
 rest_after n message = slice_range message (16 * n) (length message)
 
--- the tag, by the cipher of the block of zeros and the chaining value before the last block
+-- the tag follows from the cipher of the block of zeros and the chaining value before the last
+-- block
 pub by_steps : (w : List (List ℕ)) (message l value : List ℕ) → cipher_with w (replicate 16 0) ≡ l
     → chained w (replicate 16 0) message (before_last (length message)) ≡ value
     → cmac w message
@@ -46,7 +47,7 @@ by_steps w message l value zeros before =
     ap (λ v. cipher_with w (add_round_key v (last_block w rest))) before
     ∙ ap (λ z. cipher_with w (add_round_key value (last_by z rest))) zeros
 
--- one step of the chain
+-- the next chaining value is the cipher of the value before it plus a block
 pub next_step : (w : List (List ℕ)) (message value : List ℕ) (i : ℕ)
     → chained w (replicate 16 0) message i ≡ value
     → chained w (replicate 16 0) message (suc i)

@@ -32,7 +32,7 @@ pub fn chain<C: BlockCipherEncrypt>(cipher: &C, value: &mut Block, bytes: &[u8])
 
 /// Returns whether a tag of at most 16 bytes is the first bytes of a block. Compares without an
 /// early exit.
-#[tactic(auto, using(aes_cipher::proofs::Strings::are_first))]
+#[tactic(auto, using(aes_cipher::proofs::Strings::first_bytes_tell))]
 pub fn begins_with(block: &Block, tag: &[u8]) -> bool
     requires { length tag.now ≤ 16 }
     ensures { IsTrue result ↔ (tag.now ≡ take (length tag.now) block.now) }

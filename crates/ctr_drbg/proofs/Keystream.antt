@@ -9,7 +9,7 @@ use Rattle.std.proofs.lemmas.Nat.{xor_comm}
 use Rattle.std.specs.Int.{w128, to_be_bytes, from_be_bytes}
 use Rattle.std.specs.Int.Bits.{xor_zero_r}
 use Rattle.aes_planes.specs.Fips197.{cipher, key_expansion}
-use Rattle.aes_planes.proofs.Standard.CipherInverses.{cipher_length}
+use Rattle.aes_planes.proofs.Standard.CipherInverses.{length-cipher}
 use Rattle.aes_cipher.proofs.BlockNumbers.{number_back}
 use Rattle.aes_ctr.specs.CounterMode.{counter, counter_block, keystream_byte, plus_stream}
 use Rattle.aes_ctr.proofs.Sums.{plus_is}
@@ -49,7 +49,7 @@ length-temp key v zero = refl
 length-temp key v (suc n) =
     length-append (temp_after key v n) (cipher key (v_after v (suc n)))
     ∙ ap (λ m. m + length (cipher key (v_after v (suc n)))) (length-temp key v n)
-    ∙ ap (λ m. 16 * n + m) (cipher_length (key_expansion key) (v_after v (suc n)))
+    ∙ ap (λ m. 16 * n + m) (length-cipher (key_expansion key) (v_after v (suc n)))
     ∙ omega arith
 
 -- byte i of temp is that of the keystream from the second block on

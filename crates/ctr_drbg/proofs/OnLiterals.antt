@@ -25,7 +25,7 @@ requests = tt
 abbrev pub state_of : List ℕ → ℕ → State
 state_of temp counter = record { key = take 32 temp; v = drop 32 temp; reseed_counter = counter }
 
--- an update, by the ciphers x, y and z of the three blocks after V
+-- an update follows from the ciphers x, y and z of the three blocks after V
 pub updated_by : (key v provided_data x y z : List ℕ) (counter : ℕ) → cipher key (v_after v 1) ≡ x
     → cipher key (v_after v 2) ≡ y → cipher key (v_after v 3) ≡ z
     → update provided_data (record { key = key; v = v; reseed_counter = counter })

@@ -1,9 +1,10 @@
 -- Strings of a seed: padding, and sums.
 use Rattle.std.proofs.Common.{◌≡◌, ℕ, ◌+◌, ◌-◌, ◌<◌, ◌≤◌, List, [], ◌++◌, length, get_or, take}
-use Rattle.std.proofs.Common.{drop, set, ◌⊎◌, inl, inr, replicate, bit_xor, sym, ap, ◌∙◌, refl}
+use Rattle.std.proofs.Common.{drop, set, ◌≢◌, inl, inr, replicate, bit_xor, sym, ap, ◌∙◌, refl}
 use Rattle.std.proofs.Common.{arith}
-use Rattle.std.proofs.lemmas.Bool.{cases_lt}
-use Rattle.std.proofs.lemmas.List.{drop-replicate, get_or-set_same, get_or-set_other}
+use Rattle.std.proofs.lemmas.Bool.{cases_eq, cases_lt}
+use Rattle.std.proofs.lemmas.Grind.{get_or-set_at}
+use Rattle.std.proofs.lemmas.List.{drop-replicate, get_or-set_other}
 use Rattle.std.proofs.lemmas.List.{get_or_append_left, get_or-append_right, get_or-replicate}
 use Rattle.std.proofs.lemmas.List.{get_or-take, get_or_past, take_all, length-take, length-set}
 use Rattle.std.specs.Int.Bits.{xor_zero_r}
@@ -38,25 +39,25 @@ pub sum-nil : (x : List ℕ) → exclusive_or x [] ≡ x
 sum-nil x = sum_is x [] x refl (λ i h. xor_zero_r (get_or x i 0))
 
 -- a byte other than i is the same in the first i bytes and in one more
-take_more_other : (y : List ℕ) (i j : ℕ) → (j < i) ⊎ (i < j)
+take_more_other : (y : List ℕ) (i j : ℕ) → j ≢ i
     → get_or (take (i + 1) y) j 0 ≡ get_or (take i y) j 0
-take_more_other y i j other = elim other [
+take_more_other y i j other = elim (cases_lt j i) [
   | inl below ↦ get_or-take (i + 1) y j 0 (omega (arith, below)) ∙ sym (get_or-take i y j 0 below)
-  | inr past ↦ get_or_past (take (i + 1) y) j 0 (omega (arith, past, length-take (i + 1) y))
-      ∙ sym (get_or_past (take i y) j 0 (omega (arith, past, length-take i y)))
+  | inr past ↦
+      let above : i < j = omega (arith, past, other) in
+      get_or_past (take (i + 1) y) j 0 (omega (arith, above, length-take (i + 1) y))
+      ∙ sym (get_or_past (take i y) j 0 (omega (arith, above, length-take i y)))
 ]
 
--- a sum to which one more byte is added, in its place
+-- a sum to which one more byte is added, in its place, is the sum with one more byte
 pub summed_one : (x y s : List ℕ) (i v : ℕ) → s ≡ exclusive_or x (take i y) → i < length y
     → i < length x
     → v ≡ bit_xor (get_or s i 0) (get_or y i 0) → set s i v ≡ exclusive_or x (take (i + 1) y)
-summed_one x y s i v is inside fits added = sym (sum_is x (take (i + 1) y) (set s i v) long bytes)
+summed_one x y s i v is inside fits added =
+    sym (sum_is x (take (i + 1) y) (set s i v) (length-set s i v ∙ sized) bytes)
   where
     sized : length s ≡ length x
     sized = ap length is ∙ length-sum x (take i y)
-
-    long : length (set s i v) ≡ length x
-    long = length-set s i v ∙ sized
 
     was : (j : ℕ) → j < length x → get_or s j 0 ≡ bit_xor (get_or x j 0) (get_or (take i y) j 0)
     was j h = ap (λ l. get_or l j 0) is ∙ get_or-sum x (take i y) j h
@@ -66,30 +67,16 @@ summed_one x y s i v is inside fits added = sym (sum_is x (take (i + 1) y) (set 
         (get_or_past (take i y) i 0 (omega (arith, length-take i y)))
         ∙ xor_zero_r (get_or x i 0)
 
-    others : (j : ℕ) → j < length x → (j < i) ⊎ (i < j)
-        → bit_xor (get_or x j 0) (get_or (take (i + 1) y) j 0) ≡ get_or (set s i v) j 0
-    others j h other =
-        ap (bit_xor (get_or x j 0)) (take_more_other y i j other) ∙ sym (was j h)
-        ∙ sym (get_or-set_other s i j v 0
-        (λ e. elim other [ inl b ↦ omega (arith, b, e) | inr p ↦ omega (arith, p, e) ]))
-
-    same : (j : ℕ) → j ≡ i → bit_xor (get_or x j 0) (get_or (take (i + 1) y) j 0)
-        ≡ get_or (set s i v) j 0
-    same j e =
-        ap (λ k. bit_xor (get_or x k 0) (get_or (take (i + 1) y) k 0)) e
-        ∙ ap (bit_xor (get_or x i 0)) (get_or-take (i + 1) y i 0 (omega arith))
-        ∙ sym (added ∙ ap (λ b. bit_xor b (get_or y i 0)) here)
-        ∙ sym (get_or-set_same s i v 0 (omega (arith, sized, fits)))
-        ∙ ap (λ k. get_or (set s i v) k 0) (sym e)
-
     bytes : (j : ℕ) → j < length x → bit_xor (get_or x j 0) (get_or (take (i + 1) y) j 0)
         ≡ get_or (set s i v) j 0
-    bytes j h = elim (cases_lt j i) [
-      | inl below ↦ others j h (inl below)
-      | inr past ↦ elim (cases_lt i j) [
-        | inl above ↦ others j h (inr above)
-        | inr most ↦ same j (omega (arith, past, most))
-      ]
+    bytes j h = elim (cases_eq j i) [
+      | inl same ↦
+          ap (λ k. bit_xor (get_or x k 0) (get_or (take (i + 1) y) k 0)) same
+          ∙ ap (bit_xor (get_or x i 0)) (get_or-take (i + 1) y i 0 (omega arith))
+          ∙ sym (added ∙ ap (λ b. bit_xor b (get_or y i 0)) here)
+          ∙ sym (get_or-set_at s i j v 0 same (omega (arith, same, sized, fits)))
+      | inr other ↦ ap (bit_xor (get_or x j 0)) (take_more_other y i j other) ∙ sym (was j h)
+          ∙ sym (get_or-set_other s i j v 0 other)
     ]
 
 -- a padded string has the bytes of the string, and zeros

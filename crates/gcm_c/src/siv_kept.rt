@@ -33,8 +33,7 @@ pub extern "C" fn fotsgure_gcm_siv_set_key(siv: &mut Siv, key: &[u8]) -> u32
     ensures after { result ≡ DONE → IsZeroAfter siv.new }
     ensures none { result ≢ DONE → siv.new ≡ no_key }
 {
-    // Nothing of the struct is read, since it may be uninitialized. No compiler can remove the
-    // zeros here: the caller owns the struct, and can read what the call leaves in it.
+    // As in `fotsgure_gcm_set_key`, nothing of the struct is read, and no compiler can remove zeros.
     if !is_siv_key_size(key.len()) {
         *siv = Siv::zero();
         return KEY_LENGTH;
@@ -49,8 +48,7 @@ pub extern "C" fn fotsgure_gcm_siv_wipe(siv: &mut Siv)
     ensures made { IsSivMade siv.new }
     ensures none { siv.new ≡ no_key }
 {
-    // A wipe reads what it overwrites, and the struct may be uninitialized. Therefore zeros are
-    // written first.
+    // As in `fotsgure_gcm_wipe`, zeros are written first.
     *siv = Zeroize::zero();
     siv.zeroize();
 }

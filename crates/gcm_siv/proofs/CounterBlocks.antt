@@ -55,7 +55,7 @@ block_on block j =
     on : (m j : ℕ) → (m + (j + 1)) % 2 ^ 32 ≡ ((m + j) % 2 ^ 32 + 1) % 2 ^ 32
     on m j = omega arith
 
--- counter mode by the keystream of its counter blocks
+-- counter mode adds the keystream of its counter blocks
 pub mode_is : (w : List (List ℕ)) (start x : List ℕ)
     → plus_stream (stream_byte w (counter_block start)) 0 x ≡ counter_mode w start x
 unfolding stream_byte keystream_byte counter_mode

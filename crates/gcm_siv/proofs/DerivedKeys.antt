@@ -25,7 +25,7 @@ unfolding numbered halves_of_six derived_keys derived
 three_keys w nonce first keys is made =
     made ∙ ap (λ l. halves_of_six (l ++ drop 6 (numbered nonce))) is
 
--- the derived keys: four ciphers for a key of 16 bytes, six for one of 32
+-- four ciphers make the derived keys for a key of 16 bytes, and six those for one of 32
 pub derived_is : (w : List (List ℕ)) (nonce : List ℕ) (first keys : List (List ℕ)) (size : ℕ)
     → IsSivKeySize size
     → first ≡ map (cipher_with w) (take (size / 8 + 2) (numbered nonce))
@@ -48,7 +48,7 @@ derived_is w nonce first keys size (inr e) is made =
     (made ∙ ap (λ n. halves_of_six (first ++ drop n (numbered nonce))) blocks)
     ∙ sym (ap (λ n. take n (derived_keys w nonce)) count)
 
--- one of the keys that were derived
+-- each of the keys that were derived is the standard's
 key_at : (w : List (List ℕ)) (nonce : List ℕ) (keys : List (List ℕ)) (n i : ℕ)
     → take n keys ≡ take n (derived_keys w nonce)
     → i < n → slice_index_or keys i [] ≡ slice_index_or (derived_keys w nonce) i []
@@ -66,7 +66,7 @@ authentication_is key nonce w keys n expanded is =
     key_at w nonce keys (n + 1) 0 is (omega arith)
     ∙ ap (λ v. derived v nonce 0 ++ derived v nonce 1) expanded
 
--- the encryption key, of 16 bytes: one block of the derived ones
+-- the encryption key of 16 bytes is one block of the derived ones
 short_is : (key nonce : List ℕ) (w keys : List (List ℕ)) → w ≡ key_expansion key
     → slice_index_or keys 1 [] ≡ slice_index_or (derived_keys w nonce) 1 []
     → length key ≡ 16 → slice_index_or keys 1 [] ≡ encryption_key key nonce
@@ -78,7 +78,7 @@ short_is key nonce w keys expanded is sized =
     ∙ sym (ap (λ n. derived v nonce 2 ++ derived v nonce 3
     ++ (if n == 32 then derived v nonce 4 ++ derived v nonce 5 else [])) sized)
 
--- the encryption key, of 32 bytes: two blocks of the derived ones
+-- the encryption key of 32 bytes is two blocks of the derived ones
 long_is : (key nonce : List ℕ) (w keys : List (List ℕ)) → w ≡ key_expansion key
     → slice_index_or keys 1 [] ≡ slice_index_or (derived_keys w nonce) 1 []
     → slice_index_or keys 2 [] ≡ slice_index_or (derived_keys w nonce) 2 []
@@ -93,7 +93,7 @@ long_is key nonce w keys expanded second third sized =
     ∙ sym (ap (λ n. derived v nonce 2 ++ derived v nonce 3
     ++ (if n == 32 then derived v nonce 4 ++ derived v nonce 5 else [])) sized)
 
--- the encryption key under a key of either size
+-- what is made of the derived keys is the encryption key, under a key of either size
 pub encryption_is : (key nonce made : List ℕ) (w keys : List (List ℕ)) (size : ℕ)
     → IsSivKeySize size → length key ≡ size
     → w ≡ key_expansion key → take (size / 16 + 1) keys

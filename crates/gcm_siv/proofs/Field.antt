@@ -12,10 +12,10 @@ use Rattle.gcm.specs.Gcm.{bit_of, next_v, v_at, product}
 use Rattle.gcm.specs.Hashed.{hashed_as, number_at}
 use Rattle.gcm.specs.Multiples.{sum_of}
 use Rattle.gcm.proofs.Products.Linear.{added_unless, next_even, next_keeps, term, product_terms}
-use Rattle.gcm.proofs.Products.Linear.{sum-agree, sum-first}
+use Rattle.gcm.proofs.Products.Linear.{sum-ext, sum-first}
 use Rattle.gcm.proofs.Products.Powers.{product_right_v, product_by_one, product_below}
 use Rattle.gcm_siv.specs.GcmSiv.{polynomial, inverse_power, times_x, times_power, times_below}
-use Rattle.gcm_siv.specs.GcmSiv.{times, dot, block_at, summed}
+use Rattle.gcm_siv.specs.GcmSiv.{times, dot, block_at, polyval_after}
 
 -- ---- x times an element
 
@@ -97,7 +97,7 @@ back_by b (suc j) n small =
     ∙ ap next_v (back_by b j (suc n) small)
     ∙ times_x_undone (times_power b n) (power_small b n small)
 
--- one power of x^-1 more, by the definition
+-- one power of x^-1 more is one step of the definition
 one_more : (y n : ℕ) → v_at y (suc n) ≡ next_v (v_at y n)
 unfolding v_at
 one_more y n = refl
@@ -117,7 +117,7 @@ sum_from_last (suc n) f =
     let rest : ℕ = sum_of n (λ i. f (suc n - 1 - suc i)) in
     let last : n ≡ suc n - 1 - 0 = omega arith in
     ap (λ s. bit_xor s (f n))
-    (sum_from_last n f ∙ sum-agree n (λ i. f (n - 1 - i)) (λ i. f (suc n - 1 - suc i))
+    (sum_from_last n f ∙ sum-ext n (λ i. f (n - 1 - i)) (λ i. f (suc n - 1 - suc i))
     (λ i h. let same : n - 1 - i ≡ suc n - 1 - suc i = omega arith in ap f same))
     ∙ xor_comm rest (f n)
     ∙ ap (λ m. bit_xor (f m) rest) last
@@ -138,7 +138,7 @@ unfolding times product bit_of
 times_is a b small =
     times_terms a b 128
     ∙ sum_from_last 128 (λ i. term (a / 2 ^ i % 2) (times_power b i))
-    ∙ sum-agree 128 (λ i. term (a / 2 ^ (127 - i) % 2) (times_power b (127 - i)))
+    ∙ sum-ext 128 (λ i. term (a / 2 ^ (127 - i) % 2) (times_power b (127 - i)))
     (λ i. term (bit_of a i) (v_at (times_power b 127) i))
     (λ i h.
     let place : i + (127 - i) ≡ 127 = omega (arith, h) in
@@ -165,12 +165,12 @@ dot_is a b small =
     ∙ sym (product_right_v a (times_power b 127) 128)
     ∙ ap (product a) (back_one b small)
 
--- POLYVAL's value after j blocks, by GCM's products
+-- GCM's products make POLYVAL's value after j blocks
 pub polyval_summed : (h s : ℕ) (x : List ℕ) (j : ℕ) → h < 2 ^ 128
-    → hashed_as (from_le_bytes w128) (next_v h) s x j ≡ summed h s x j
-unfolding hashed_as summed number_at block_at
+    → hashed_as (from_le_bytes w128) (next_v h) s x j ≡ polyval_after h s x j
+unfolding hashed_as polyval_after number_at block_at
 polyval_summed h s x zero small = refl
 polyval_summed h s x (suc j) small =
     let block : ℕ = from_le_bytes w128 (slice_range x (16 * j) (16 * j + 16)) in
     ap (λ y. product (bit_xor y block) (next_v h)) (polyval_summed h s x j small)
-    ∙ sym (dot_is (bit_xor (summed h s x j) block) h small)
+    ∙ sym (dot_is (bit_xor (polyval_after h s x j) block) h small)

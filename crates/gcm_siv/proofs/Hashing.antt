@@ -10,7 +10,7 @@ use Rattle.gcm.proofs.Messages.Hashing.{hashed_as_pieces}
 use Rattle.gcm_siv.specs.GcmSiv.{hash, length_block, polyval}
 use Rattle.gcm_siv.proofs.Field.{polyval_summed}
 
--- S_s of additional data and a text, by GCM's products
+-- GCM's products make S_s of additional data and a text
 pub hash_is : (h g : ℕ) (a p : List ℕ) → g ≡ next_v h → h < 2 ^ 128
     → let on = λ (s : ℕ) (x : List ℕ). hashed_as (from_le_bytes w128) g s (padded x)
     (length (padded x) / 16) in

@@ -5,7 +5,7 @@ use Rattle.std.proofs.Math.ListN.{length-set}
 use Rattle.aes_ctr.proofs.Sums.{summed_twice}
 use Rattle.gcm_siv.specs.GcmSiv.{counter_mode, first_counter, keystream_byte, text, text_under}
 
--- a block with its last byte written
+-- a block whose last byte is written keeps the others
 pub last_set : (b : List ℕ) (y : ℕ) → length b ≡ 16 → set b 15 y ≡ take 15 b ++ y ∷ []
 last_set b y long =
     sym (take_all 16 (set b 15 y) (omega (arith, long, length-set b 15 y)))

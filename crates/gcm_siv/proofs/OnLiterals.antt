@@ -9,7 +9,7 @@ use Rattle.aes_ctr.specs.CounterMode.{plus_stream}
 use Rattle.aes_ctr.specs.Private.{byte_of_blocks}
 use Rattle.aes_ctr.proofs.Places.{plus_blocks}
 use Rattle.aes_cipher.specs.Blocks.{padded}
-use Rattle.gcm_siv.specs.GcmSiv.{times_x, times_power, times_below, times, dot, block_at, summed}
+use Rattle.gcm_siv.specs.GcmSiv.{times_x, times_power, times_below, times, dot, block_at, polyval_after}
 use Rattle.gcm_siv.specs.GcmSiv.{polyval, derived, authentication_key, encryption_key, counter}
 use Rattle.gcm_siv.specs.GcmSiv.{counter_block, keystream_byte, counter_mode, length_block, hash}
 use Rattle.gcm_siv.specs.GcmSiv.{tag_input, tag_under, first_counter, text_under, tag, text}
@@ -18,14 +18,14 @@ use Rattle.gcm_siv.proofs.CounterBlocks.{mode_is}
 -- the definitions to unfold, but for the cipher
 unfoldable pub siv_on_literals : ⊤
 unfolding bytes build build_from state add_round_key plus_stream byte_of_blocks padded times_x times_power times_below times dot
-    block_at summed polyval derived authentication_key encryption_key counter counter_block
+    block_at polyval_after polyval derived authentication_key encryption_key counter counter_block
     length_block hash tag_input tag_under
     first_counter text_under tag text
 siv_on_literals = tt
 
 -- the definitions of POLYVAL, one step of each
 unfoldable pub polyval_steps : ⊤
-unfolding block_at summed polyval
+unfolding block_at polyval_after polyval
 polyval_steps = tt
 
 -- the definitions of a message under its keys, down to the cipher of a key
@@ -33,7 +33,7 @@ unfoldable pub siv_messages : ⊤
 unfolding cipher hash tag_under tag keystream_byte counter_mode text_under text
 siv_messages = tt
 
--- a text by the ciphers of its counter blocks
+-- a text in counter mode follows from the ciphers of its counter blocks
 pub blocks_by : (w : List (List ℕ)) (start : List ℕ) (blocks : List (List ℕ)) (x : List ℕ)
     → ((m : ℕ) → m < length blocks → slice_index_or blocks m []
     ≡ cipher_with w (counter_block start m))

@@ -53,16 +53,16 @@ dot a b = times (times a b) inverse_power
 unfoldable pub block_at : List ℕ → ℕ → ℕ
 block_at x j = from_le_bytes w128 (slice_range x (16 * j) (16 * j + 16))
 
--- S_j, from an S_0 on
-unfoldable pub summed : ℕ → ℕ → List ℕ → ℕ → ℕ
+-- S_j, from an S_0 on: the value of POLYVAL after j blocks
+unfoldable pub polyval_after : ℕ → ℕ → List ℕ → ℕ → ℕ
 unfolding dot block_at
-summed h s x zero = s
-summed h s x (suc j) = dot (bit_xor (summed h s x j) (block_at x j)) h
+polyval_after h s x zero = s
+polyval_after h s x (suc j) = dot (bit_xor (polyval_after h s x j) (block_at x j)) h
 
 -- POLYVAL of H and whole blocks: S_s, where S_0 is 0
 unfoldable pub polyval : ℕ → List ℕ → ℕ
-unfolding summed
-polyval h x = summed h 0 x (length x / 16)
+unfolding polyval_after
+polyval h x = polyval_after h 0 x (length x / 16)
 
 -- ---- the keys of a message (4)
 

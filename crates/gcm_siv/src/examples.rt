@@ -15,7 +15,7 @@ ghost use Rattle.aes_planes.specs.Fips197 as fips;
 ghost use Rattle.gcm_siv.specs.GcmSiv.{authentication_key, encryption_key, first_counter};
 ghost use Rattle.gcm_siv.specs.GcmSiv.{IsAuthentic, IsSivKeySize, counter_block, dot};
 ghost use Rattle.gcm_siv.specs.GcmSiv.{inverse_power};
-ghost use Rattle.gcm_siv.specs.GcmSiv.{block_at, hash, length_block, polyval, summed, tag};
+ghost use Rattle.gcm_siv.specs.GcmSiv.{block_at, hash, length_block, polyval, polyval_after, tag};
 ghost use Rattle.gcm_siv.specs.GcmSiv.{tag_input, text, times, times_power};
 ghost use Rattle.aes_cipher.specs.Blocks.{padded};
 ghost use Rattle.aes_ctr.specs.CounterMode.{plus_stream};
@@ -58,12 +58,12 @@ pub fn polyval_examples()
 #[tactic(auto, unfolding(crate::proofs::OnLiterals::polyval_steps))]
 pub fn polyval_rules()
     ensures none { (h : ℕ) → polyval h [] ≡ 0 }
-    ensures begun { (h s : ℕ) (x : List ℕ) → summed h s x 0 ≡ s }
+    ensures begun { (h s : ℕ) (x : List ℕ) → polyval_after h s x 0 ≡ s }
     ensures block { (x : List ℕ) (j : ℕ)
         → block_at x j ≡ from_le_bytes w128 (slice_range x (16 * j) (16 * j + 16)) }
     ensures next { (h s : ℕ) (x : List ℕ) (j : ℕ)
-        → summed h s x (suc j) ≡ dot (bit_xor (summed h s x j) (block_at x j)) h }
-    ensures whole { (h : ℕ) (x : List ℕ) → polyval h x ≡ summed h 0 x (length x / 16) }
+        → polyval_after h s x (suc j) ≡ dot (bit_xor (polyval_after h s x j) (block_at x j)) h }
+    ensures whole { (h : ℕ) (x : List ℕ) → polyval h x ≡ polyval_after h 0 x (length x / 16) }
 {}
 
 /// What is hashed, tagged and encrypted, of strings of any length (4).

@@ -15,7 +15,7 @@ use Rattle.std.specs.List.{All, concat, slice_range}
 use Rattle.aes_planes.specs.Fips197.{IsBytes}
 use Rattle.aes_cipher.proofs.BlockNumbers.{number_block}
 use Rattle.key_wrap.specs.KeyWrap.{IsSemiblock}
-use Rattle.key_wrap.specs.Padded.{filled, headed, heading, key_in, length_in, padded, padded_check}
+use Rattle.key_wrap.specs.Padded.{semiblock_count, headed, heading, key_in, length_in, padded, padded_check}
 use Rattle.key_wrap.specs.Padded.{semiblocks, IsPadded}
 use Rattle.aes_planes.proofs.Standard.States.{append_bytes, drop_bytes, take_bytes}
 use Rattle.key_wrap.proofs.Padding.{semiblock_is}
@@ -47,14 +47,14 @@ semiblocks_joined s (suc n) =
     ∙ ap (λ m. take m s) more
 
 -- each semiblock of a string is eight bytes
-are_semiblocks : (s : List ℕ) (n : ℕ) → IsBytes s → 8 * n ≤ length s
+semiblocks_long : (s : List ℕ) (n : ℕ) → IsBytes s → 8 * n ≤ length s
     → All IsSemiblock (semiblocks s n)
 unfolding semiblocks
-are_semiblocks s zero small fits = All-nil IsSemiblock
-are_semiblocks s (suc n) small fits =
+semiblocks_long s zero small fits = All-nil IsSemiblock
+semiblocks_long s (suc n) small fits =
     let size : ℕ = 8 * n + 8 - 8 * n in
     All-push IsSemiblock (semiblocks s n) (slice_range s (8 * n) (8 * n + 8))
-    (are_semiblocks s n small (omega (arith, fits))) (
+    (semiblocks_long s n small (omega (arith, fits))) (
       omega (arith, length-take size (drop (8 * n) s), length-drop (8 * n) s, fits),
       take_bytes size (drop (8 * n) s) (drop_bytes (8 * n) s small),
     )
@@ -73,16 +73,16 @@ zeros_are_bytes n i = elim (cases_lt i n) as (λ _. get_or (replicate n 0) i 0 <
 ]
 
 -- a padded key fills its semiblocks
-length-padded : (key : List ℕ) → length (padded key) ≡ 8 * filled (length key)
-unfolding padded filled
+length-padded : (key : List ℕ) → length (padded key) ≡ 8 * semiblock_count (length key)
+unfolding padded semiblock_count
 length-padded key =
-    let n : ℕ = 8 * filled (length key) - length key in
+    let n : ℕ = 8 * semiblock_count (length key) - length key in
     length-append key (replicate n 0) ∙ omega (arith, length-replicate {A = ℕ} n 0)
 
 -- the semiblock before those of a key makes one more
-pub headed_length : (key : List ℕ) → length (headed key) ≡ filled (length key) + 1
+pub length-headed : (key : List ℕ) → length (headed key) ≡ semiblock_count (length key) + 1
 unfolding headed
-headed_length key = omega (arith, length-semiblocks (padded key) (filled (length key)))
+length-headed key = omega (arith, length-semiblocks (padded key) (semiblock_count (length key)))
 
 -- the semiblock before a key is eight bytes
 heading_semiblock : (bytes : ℕ) → IsSemiblock (heading bytes)
@@ -98,13 +98,13 @@ heading_semiblock bytes = (
 pub headed_semiblocks : (key : List ℕ) → IsBytes key → All IsSemiblock (headed key)
 unfolding headed heading padded
 headed_semiblocks key small =
-    let n : ℕ = filled (length key) in
+    let n : ℕ = semiblock_count (length key) in
     All-cons IsSemiblock (heading (length key)) (semiblocks (padded key) n)
     (heading_semiblock (length key))
-    (are_semiblocks (padded key) n (append_bytes key _ small (zeros_are_bytes (8 * n - length key)))
+    (semiblocks_long (padded key) n (append_bytes key _ small (zeros_are_bytes (8 * n - length key)))
     (omega (arith, length-padded key)))
 
--- the semiblock with the padding, where the comparisons look for it
+-- the last semiblock of a string stands where the comparisons look for the padding
 last_semiblock : (s : List ℕ) (n k : ℕ) → n ≡ suc k
     → get_or (semiblocks s n) k [] ≡ slice_range s (8 * k) (8 * k + 8)
 unfolding semiblocks
@@ -116,15 +116,15 @@ last_semiblock s n k is =
 -- unwrapped
 pub headed_found : (key : List ℕ) → 1 ≤ length key → length key < 2 ^ 32
     → IsPadded (headed key) × (key_in (headed key) ≡ key)
-unfolding headed heading length_in key_in filled padded
+unfolding headed heading length_in key_in semiblock_count padded
 headed_found key some few =
     let s : List (List ℕ) = headed key in
-    let n : ℕ = filled (length key) in
+    let n : ℕ = semiblock_count (length key) in
     let k : ℕ = n - 1 in
     let z : ℕ = 8 * k + 8 - length key in
     let plen : length_in s ≡ length key = from_be_bytes-to_be_bytes_4 (length key) few in
-    let count : length s - 1 ≡ n = omega (arith, headed_length key) in
-    let at : length s - 1 ≡ suc k = omega (arith, headed_length key, some) in
+    let count : length s - 1 ≡ n = omega (arith, length-headed key) in
+    let at : length s - 1 ≡ suc k = omega (arith, length-headed key, some) in
     let padding : 8 * (length s - 1) - length_in s ≡ z = omega (arith, count, plen, some) in
     let front : List ℕ = take 8 (drop (8 * k) key) in
     let last : get_or s (length s - 1) [] ≡ front ++ replicate z 0 =

@@ -13,19 +13,19 @@ use Rattle.aes_planes.proofs.Standard.States.{drop_bytes, take_bytes}
 use Rattle.std.specs.Int.{w32, to_be_bytes, from_be_bytes}
 use Rattle.std.specs.List.{concat, slice_range}
 use Rattle.aes_planes.specs.Fips197.{IsBytes}
-use Rattle.key_wrap.specs.Padded.{block_or_steps, filled, heading, length_in, padded, padded_check}
+use Rattle.key_wrap.specs.Padded.{block_or_steps, semiblock_count, heading, length_in, padded, padded_check}
 use Rattle.key_wrap.specs.Padded.{semiblocks, IsPadded}
 
 -- ---- the semiblocks of a padded key
 
 -- a semiblock of a key, with the zeros that the key leaves in it
-pub semiblock_is : (key : List ℕ) (i : ℕ) → i < filled (length key)
+pub semiblock_is : (key : List ℕ) (i : ℕ) → i < semiblock_count (length key)
     → take 8 (drop (8 * i) key) ++ replicate (8 * i + 8 - length key) 0
     ≡ slice_range (padded key) (8 * i) (8 * i + 8)
-unfolding filled padded
+unfolding semiblock_count padded
 semiblock_is key i lt =
     let rest : List ℕ = drop (8 * i) key in
-    let count : ℕ = 8 * filled (length key) - length key in
+    let count : ℕ = 8 * semiblock_count (length key) - length key in
     let zeros : List ℕ = replicate count 0 in
     let long : length rest ≡ length key - 8 * i = length-drop (8 * i) key in
     let size : 8 * i + 8 - 8 * i ≡ 8 = omega arith in
@@ -49,7 +49,7 @@ semiblock_is key i lt =
 -- once semiblock i is written, the first i + 1 are those of the padded key
 pub semiblock_more : (key : List ℕ) (others : List (List ℕ)) (i : ℕ) (half : List ℕ)
     → i < length others
-    → length others ≡ filled (length key)
+    → length others ≡ semiblock_count (length key)
     → half ≡ take 8 (drop (8 * i) key) ++ replicate (8 * i + 8 - length key) 0
     → take i others ≡ semiblocks (padded key) i
     → take (i + 1) (set others i half) ≡ semiblocks (padded key) (i + 1)
@@ -63,7 +63,7 @@ semiblock_more key others i half lt sized is before =
 -- ---- a string that is a block, and a longer one
 
 module _ (f : List ℕ → List ℕ) (steps : List (List ℕ) → ℕ → List (List ℕ)) where
-  -- the halves of f of a block
+  -- the halves of f of a block are what is written for a string of two semiblocks
   pub two_semiblocks_as_block : (a : List ℕ) (others : List (List ℕ)) (a_new r_new : List ℕ) → length others ≡ 1
       → a_new ≡ take 8 (f (a ++ get_or others 0 [])) → r_new ≡ drop 8 (f (a ++ get_or others 0 []))
       → a_new ∷ set others 0 r_new ≡ block_or_steps f steps (a ∷ others)

@@ -64,11 +64,11 @@ module _ (w : List (List ℕ)) (keys : AreRoundKeys w)
       joined (number_added a t) (get_or rs (length rs - 1) []) is_n.0 is_n.1 is_r.0 is_r.1
 
   -- a step of the inverse leaves semiblocks
-  step_kept : (t : ℕ) (s : List (List ℕ)) → All IsSemiblock s → 2 ≤ length s
+  unwrap_step_kept : (t : ℕ) (s : List (List ℕ)) → All IsSemiblock s → 2 ≤ length s
       → All IsSemiblock (unwrap_step w t s)
   unfolding unwrap_step
-  step_kept t [] all some = absurd (omega arith)
-  step_kept t (a ∷ rs) all some =
+  unwrap_step_kept t [] all some = absurd (omega arith)
+  unwrap_step_kept t (a ∷ rs) all some =
       let last : ℕ = length rs - 1 in
       let b : List ℕ = inv_cipher_with w (number_added a t ++ get_or rs last []) in
       let is : IsBlock b =
@@ -81,10 +81,10 @@ module _ (w : List (List ℕ)) (keys : AreRoundKeys w)
       (All-take IsSemiblock last rs (All-tail IsSemiblock a rs all)))
 
   -- a step of the inverse leaves as many semiblocks as there were
-  step_length : (t : ℕ) (s : List (List ℕ)) → 2 ≤ length s → length (unwrap_step w t s) ≡ length s
+  length-unwrap_step : (t : ℕ) (s : List (List ℕ)) → 2 ≤ length s → length (unwrap_step w t s) ≡ length s
   unfolding unwrap_step
-  step_length t [] some = absurd (omega arith)
-  step_length t (a ∷ rs) some = omega (arith, length-take (length rs - 1) rs, some)
+  length-unwrap_step t [] some = absurd (omega arith)
+  length-unwrap_step t (a ∷ rs) some = omega (arith, length-take (length rs - 1) rs, some)
 
   -- a step undoes the step of the inverse
   step_redone : (t : ℕ) (s : List (List ℕ)) → t < 2 ^ 64 → All IsSemiblock s → 2 ≤ length s
@@ -108,13 +108,13 @@ module _ (w : List (List ℕ)) (keys : AreRoundKeys w)
       ∙ (λ j. added_twice a t (All-head IsSemiblock a rs all) lt j ∷ ends j)
 
   -- all steps of the inverse leave as many semiblocks as there were
-  from_length : (s : List (List ℕ)) (t : ℕ) → 2 ≤ length s
+  length-unwrapped_from : (s : List (List ℕ)) (t : ℕ) → 2 ≤ length s
       → length (unwrapped_from w s t) ≡ length s
   unfolding unwrapped_from
-  from_length s zero some = refl
-  from_length s (suc t) some =
-      let same : length (unwrap_step w (suc t) s) ≡ length s = step_length (suc t) s some in
-      from_length (unwrap_step w (suc t) s) t (omega (arith, same, some)) ∙ same
+  length-unwrapped_from s zero some = refl
+  length-unwrapped_from s (suc t) some =
+      let same : length (unwrap_step w (suc t) s) ≡ length s = length-unwrap_step (suc t) s some in
+      length-unwrapped_from (unwrap_step w (suc t) s) t (omega (arith, same, some)) ∙ same
 
   -- the steps of the inverse, undone
   from_redone : (s : List (List ℕ)) (t : ℕ) → t < 2 ^ 64 → All IsSemiblock s → 2 ≤ length s
@@ -123,8 +123,8 @@ module _ (w : List (List ℕ)) (keys : AreRoundKeys w)
   from_redone s zero lt all some = refl
   from_redone s (suc t) lt all some =
       ap (wrap_step w (suc t))
-      (from_redone (unwrap_step w (suc t) s) t (omega arith) (step_kept (suc t) s all some)
-      (omega (arith, some, step_length (suc t) s some)))
+      (from_redone (unwrap_step w (suc t) s) t (omega arith) (unwrap_step_kept (suc t) s all some)
+      (omega (arith, some, length-unwrap_step (suc t) s some)))
       ∙ step_redone (suc t) s lt all some
 
   -- what unwrapping accepts is the wrapping of the key that comes out
@@ -134,7 +134,7 @@ module _ (w : List (List ℕ)) (keys : AreRoundKeys w)
   wrapped_again key sealed all some few is =
       let t : ℕ = 6 * (length sealed - 1) in
       let long : length key ≡ length sealed - 1 =
-      omega (arith, ap length is, from_length sealed t some) in
+      omega (arith, ap length is, length-unwrapped_from sealed t some) in
       sym (ap (λ n. wrapped_after w (integrity_check ∷ key) (6 * n)) long
       ∙ ap (λ l. wrapped_after w l t) (sym is)
       ∙ from_redone sealed t (omega (arith, few)) all some)

@@ -28,7 +28,7 @@ unwrap_last w a rs r t =
     λ j. let b = inv_cipher_with w (number_added a t ++ last j) in take 8 b ∷ drop 8 b ∷ front j
 
 module _ (w : List (List ℕ)) (a : List ℕ) (rs : List (List ℕ)) (i t : ℕ) (lt : i < length rs) where
-  -- a step of W with semiblock i
+  -- one step with semiblock i goes one step of W on
   pub step_wrapped : (a_new r_new : List ℕ)
       → a_new ≡ number_added (take 8 (cipher_with w (a ++ get_or rs i []))) (t + 1)
       → r_new ≡ drop 8 (cipher_with w (a ++ get_or rs i []))
@@ -48,7 +48,7 @@ module _ (w : List (List ℕ)) (a : List ℕ) (rs : List (List ℕ)) (i t : ℕ)
       ∙ (λ j. sym is_a j ∷ ((drop (i + 1) rs ++ take i rs) ++ sym is_r j ∷ []))
       ∙ ap (λ l. a_new ∷ l) (sym moved)
 
-  -- a step of the inverse of W with semiblock i
+  -- one step back with semiblock i goes one step of the inverse of W on
   pub step_unwrapped : (a_new r_new : List ℕ)
       → a_new ≡ take 8 (inv_cipher_with w (number_added a (t + 1) ++ get_or rs i []))
       → r_new ≡ drop 8 (inv_cipher_with w (number_added a (t + 1) ++ get_or rs i []))

@@ -61,7 +61,7 @@ module _ (w : List (List ℕ))
   low_semiblock : (b : List ℕ) → IsBlock b → IsSemiblock (drop 8 b)
   low_semiblock b is = (omega (arith, length-drop 8 b, is.0), drop_bytes 8 b is.1)
 
-  -- the cipher of two halves, undone
+  -- the inverse cipher undoes the cipher of two halves
   halves_back : (a r : List ℕ) → IsSemiblock a → IsSemiblock r
       → let b = cipher_with w (a ++ r) in
       (take 8 (inv_cipher_with w (take 8 b ++ drop 8 b)) ≡ a)
@@ -73,11 +73,11 @@ module _ (w : List (List ℕ))
       (ap (take 8) whole ∙ first a r is_a.0, ap (drop 8) whole ∙ second a r is_a.0)
 
   -- a step leaves semiblocks
-  step_kept : (t : ℕ) (s : List (List ℕ)) → All IsSemiblock s → All IsSemiblock (wrap_step w t s)
+  wrap_step_kept : (t : ℕ) (s : List (List ℕ)) → All IsSemiblock s → All IsSemiblock (wrap_step w t s)
   unfolding wrap_step
-  step_kept t [] all = all
-  step_kept t (a ∷ []) all = all
-  step_kept t (a ∷ r ∷ rs) all =
+  wrap_step_kept t [] all = all
+  wrap_step_kept t (a ∷ []) all = all
+  wrap_step_kept t (a ∷ r ∷ rs) all =
       let b : List ℕ = cipher_with w (a ++ r) in
       let rest : All IsSemiblock (r ∷ rs) = All-tail IsSemiblock a (r ∷ rs) all in
       let is : IsBlock b =
@@ -88,11 +88,11 @@ module _ (w : List (List ℕ))
       (All-cons IsSemiblock (drop 8 b) [] (low_semiblock b is) (All-nil IsSemiblock)))
 
   -- a step leaves as many semiblocks as there were
-  step_length : (t : ℕ) (s : List (List ℕ)) → length (wrap_step w t s) ≡ length s
+  length-wrap_step : (t : ℕ) (s : List (List ℕ)) → length (wrap_step w t s) ≡ length s
   unfolding wrap_step
-  step_length t [] = refl
-  step_length t (a ∷ []) = refl
-  step_length t (a ∷ r ∷ rs) =
+  length-wrap_step t [] = refl
+  length-wrap_step t (a ∷ []) = refl
+  length-wrap_step t (a ∷ r ∷ rs) =
       omega (arith, length-append rs (drop 8 (cipher_with w (a ++ r)) ∷ []))
 
   -- the step of the inverse undoes a step
@@ -118,15 +118,15 @@ module _ (w : List (List ℕ))
       → All IsSemiblock (wrapped_after w s t)
   unfolding wrapped_after
   after_kept s zero all = all
-  after_kept s (suc t) all = step_kept (suc t) (wrapped_after w s t) (after_kept s t all)
+  after_kept s (suc t) all = wrap_step_kept (suc t) (wrapped_after w s t) (after_kept s t all)
 
   -- the steps of all turns leave as many semiblocks as there were
-  after_length : (s : List (List ℕ)) (t : ℕ) → length (wrapped_after w s t) ≡ length s
+  length-wrapped_after : (s : List (List ℕ)) (t : ℕ) → length (wrapped_after w s t) ≡ length s
   unfolding wrapped_after
-  after_length s zero = refl
-  after_length s (suc t) = step_length (suc t) (wrapped_after w s t) ∙ after_length s t
+  length-wrapped_after s zero = refl
+  length-wrapped_after s (suc t) = length-wrap_step (suc t) (wrapped_after w s t) ∙ length-wrapped_after s t
 
-  -- the steps of W, undone
+  -- the inverse undoes the steps of W
   after_undone : (s : List (List ℕ)) (t : ℕ) → t < 2 ^ 64 → All IsSemiblock s → 2 ≤ length s
       → unwrapped_from w (wrapped_after w s t) t ≡ s
   unfolding wrapped_after unwrapped_from
@@ -134,10 +134,10 @@ module _ (w : List (List ℕ))
   after_undone s (suc t) lt all some =
       ap (λ l. unwrapped_from w l t)
       (step_undone (suc t) (wrapped_after w s t) lt (after_kept s t all)
-      (omega (arith, some, after_length s t)))
+      (omega (arith, some, length-wrapped_after s t)))
       ∙ after_undone s t (omega arith) all some
 
-  -- a key, wrapped and unwrapped
+  -- unwrapping undoes wrapping, and finds the check in front of the key
   pub wrapped_undone : (key : List (List ℕ)) → All IsSemiblock key → 1 ≤ length key
       → length key < 2 ^ 54
       → unwrapped w (wrapped w key) ≡ integrity_check ∷ key
@@ -145,13 +145,13 @@ module _ (w : List (List ℕ))
   wrapped_undone key all some few =
       let s : List (List ℕ) = integrity_check ∷ key in
       let t : ℕ = 6 * length key in
-      let count : 6 * (length (wrapped_after w s t) - 1) ≡ t = omega (arith, after_length s t) in
+      let count : 6 * (length (wrapped_after w s t) - 1) ≡ t = omega (arith, length-wrapped_after s t) in
       ap (unwrapped_from w (wrapped_after w s t)) count
       ∙ after_undone s t (omega (arith, few))
       (All-cons IsSemiblock integrity_check key (number_semiblock 0xa6a6a6a6a6a6a6a6) all)
       (omega (arith, some))
 
-  -- a string of two semiblocks or more, wrapped and unwrapped
+  -- the inverse of W undoes W on a string of two semiblocks or more
   pub string_undone : (s : List (List ℕ)) → All IsSemiblock s → 2 ≤ length s → length s < 2 ^ 54
       → unwrapped_string w (wrapped_string w s) ≡ s
   unfolding unwrapped_string wrapped_string block_or_steps
@@ -168,7 +168,7 @@ module _ (w : List (List ℕ))
       let s : List (List ℕ) = a ∷ r ∷ x ∷ rs in
       let n : ℕ = length s - 1 in
       let c : List (List ℕ) = wrapped_after w s (6 * n) in
-      let long = after_length s (6 * n) in
+      let long = length-wrapped_after s (6 * n) in
       ap (block_or_steps (inv_cipher_with w) (unwrapped_from w))
       (sym (other_strings_as_steps (cipher_with w) (wrapped_after w) s n refl (λ two. omega (arith, two))))
       ∙ sym (other_strings_as_steps (inv_cipher_with w) (unwrapped_from w) c n (omega (arith, long))

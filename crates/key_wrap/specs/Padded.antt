@@ -17,8 +17,8 @@ unfoldable pub heading : ℕ → List ℕ
 heading bytes = padded_check ++ to_be_bytes w32 bytes
 
 -- how many semiblocks a number of bytes fills; the last one may be filled in part
-unfoldable pub filled : ℕ → ℕ
-filled bytes = (bytes + 7) / 8
+unfoldable pub semiblock_count : ℕ → ℕ
+semiblock_count bytes = (bytes + 7) / 8
 
 -- the first n semiblocks of a string of bytes
 unfoldable pub semiblocks : List ℕ → ℕ → List (List ℕ)
@@ -27,13 +27,13 @@ semiblocks bytes (suc n) = semiblocks bytes n ++ slice_range bytes (8 * n) (8 * 
 
 -- P || PAD: the key, and as few zeros as fill its last semiblock
 unfoldable pub padded : List ℕ → List ℕ
-unfolding filled
-padded key = key ++ replicate (8 * filled (length key) - length key) 0
+unfolding semiblock_count
+padded key = key ++ replicate (8 * semiblock_count (length key) - length key) 0
 
 -- S: the first semiblock, and those of the padded key (algorithm 5)
 unfoldable pub headed : List ℕ → List (List ℕ)
-unfolding heading filled semiblocks padded
-headed key = heading (length key) ∷ semiblocks (padded key) (filled (length key))
+unfolding heading semiblock_count semiblocks padded
+headed key = heading (length key) ∷ semiblocks (padded key) (semiblock_count (length key))
 
 -- a string through a cipher, if it is a block, which is too short for W; else through all steps of
 -- W or of its inverse
@@ -79,7 +79,7 @@ pub record IsPadded (s : List (List ℕ)) : Type 0 where
 pub record FitPadded (key sealed : ℕ) : Type 0 where
   pub least : 1 ≤ key
   pub most : key < 2 ^ 32
-  pub sized : sealed ≡ filled key + 1
+  pub sized : sealed ≡ semiblock_count key + 1
 
 -- some key becomes this many semiblocks, and fills that many of them with its padding
 pub record FitUnpadded (output sealed : ℕ) : Type 0 where

@@ -12,7 +12,7 @@ ghost use Rattle.aes_planes.specs.BigEndian.{bytes};
 ghost use Rattle.aes_planes.specs.Fips197 as fips;
 ghost use Rattle.key_wrap.specs.KeyWrap.{number_added, wrap_step, wrapped_after, unwrap_step};
 ghost use Rattle.key_wrap.specs.KeyWrap.{unwrapped_from, integrity_check, wrapped, unwrapped, Fit};
-ghost use Rattle.key_wrap.specs.Padded.{filled, wrapped_string, unwrapped_string, wrapped_padded};
+ghost use Rattle.key_wrap.specs.Padded.{semiblock_count, wrapped_string, unwrapped_string, wrapped_padded};
 ghost use Rattle.key_wrap.specs.Padded.{FitPadded, FitUnpadded};
 
 use crate::errors::InvalidCount;
@@ -24,7 +24,7 @@ use aes_cipher::cipher::{BlockCipherDecrypt, BlockCipherEncrypt};
 
 /// How long a key may be, in semiblocks and in bytes, and the lengths on either side of these (SP
 /// 800-38F, 5.3.1).
-#[tactic(auto, unfolding(crate::specs::Padded::filled))]
+#[tactic(auto, unfolding(crate::specs::Padded::semiblock_count))]
 pub fn count_examples()
     ensures one { ¬ Fit 1 2 }
     ensures two { Fit 2 3 }
@@ -211,7 +211,7 @@ pub fn padded_there_and_back<C: BlockCipherEncrypt + BlockCipherDecrypt>(
 ) -> Result<u32, InvalidCount>
     ensures done { IsOk result
         ↔ FitPadded (length key.now) (length sealed.old)
-        × (length back.old ≡ filled (length key.now)) }
+        × (length back.old ≡ semiblock_count (length key.now)) }
     ensures sealed { OnOk result (sealed.new ≡ wrapped_padded (C.round_keys cipher.now) key.now) }
     ensures back { IfOk result (λ count. take count (concat back.new) ≡ key.now) }
 {

@@ -5,7 +5,7 @@ ghost use Rattle.std.specs.Prelude.{◌≡◌, ◌↔◌, ◌+◌, ◌-◌, ◌*
 ghost use Rattle.std.specs.Prelude.{length, replicate, take, IfOk, IsErrOf, IsOk, IsTrue, OnErr};
 ghost use Rattle.std.specs.Prelude.{OnOk};
 ghost use Rattle.std.specs.Int.{w32, from_be_bytes};
-ghost use Rattle.key_wrap.specs.Padded.{filled, heading, padded, padded_check, semiblocks};
+ghost use Rattle.key_wrap.specs.Padded.{semiblock_count, heading, padded, padded_check, semiblocks};
 ghost use Rattle.key_wrap.specs.Padded.{unwrapped_string, wrapped_padded, FitPadded, FitUnpadded};
 ghost use Rattle.key_wrap.specs.Padded.{IsPadded};
 
@@ -27,7 +27,7 @@ const MOST_FILLED: u64 = 1 << 29;
 ///
 /// `InvalidCount` exactly if the key is empty or has 2^32 bytes or more, or the output isn't one
 /// semiblock longer than the key fills. The output is then unchanged.
-#[tactic(auto, unfolding(crate::specs::Padded::filled))]
+#[tactic(auto, unfolding(crate::specs::Padded::semiblock_count))]
 #[inline(never)]
 pub fn wrap_padded<C: BlockCipherEncrypt>(
     cipher: &C,
@@ -50,7 +50,7 @@ pub fn wrap_padded<C: BlockCipherEncrypt>(
 }
 
 // Whether a key of this many bytes becomes that many semiblocks.
-#[tactic(auto, unfolding(crate::specs::Padded::filled))]
+#[tactic(auto, unfolding(crate::specs::Padded::semiblock_count))]
 fn fits(bytes: usize, count: usize) -> bool
     ensures { IsTrue result ↔ FitPadded bytes count }
 {
@@ -72,8 +72,8 @@ fn heading_of(bytes: u32) -> Semiblock
 
 // Writes a key to the semiblocks after the first, which it fills, with zeros after it.
 fn fill(key: &[u8], others: &mut [Semiblock])
-    requires { length others.old ≡ filled (length key.now) }
-    ensures { others.new ≡ semiblocks (padded key.now) (filled (length key.now)) }
+    requires { length others.old ≡ semiblock_count (length key.now) }
+    ensures { others.new ≡ semiblocks (padded key.now) (semiblock_count (length key.now)) }
 {
     for i in 0..others.len() {
         others[i] = semiblock_at(key, 8 * i);

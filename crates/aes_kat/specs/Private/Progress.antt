@@ -3,9 +3,10 @@ use Rattle.std.specs.Prelude.{ℕ, List, ◌++◌, ◌≡◌, Bool, ◌||◌, Op
 use Rattle.std.specs.Io.KnownBytes.{Appends}
 use Rattle.aes_kat.specs.Answers.{answers_to, has_fault, BeginsWith}
 
--- For each text that comes next: the answers to `before` and that text are `written` and the
--- answers to `after` and that text. The first answers have a fault exactly if `fault` says so or
--- the others have one.
+-- A part of a run found the text `before` to answer, and leaves the text `after`. It wrote
+-- `written`, and `fault` says whether it met a fault. Whatever text comes next, all answers are what
+-- it wrote and then the answers to what it leaves. There is a fault if it met one, or if what it
+-- leaves has one.
 pub record Answered (before after written : List ℕ) (fault : Bool) : Type 0 where
   pub answers : (next : List ℕ) → answers_to (before ++ next) ≡ written ++ answers_to (after ++ next)
   pub faults : (next : List ℕ) → has_fault (before ++ next) ≡ (fault || has_fault (after ++ next))

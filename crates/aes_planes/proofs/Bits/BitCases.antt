@@ -51,29 +51,29 @@ all_bools_tells (suc n) p h (false ∷ bs) e =
 -- ---- swaps
 
 -- the test of all 32 cases of `swapped`
-swaps : List Bool → Bool
-swaps b = (at b 3 && at b 4) || same (xor (xor (at b 0) (xor (at b 0) (at b 1) && at b 3))
+swap_test : List Bool → Bool
+swap_test b = (at b 3 && at b 4) || same (xor (xor (at b 0) (xor (at b 0) (at b 1) && at b 3))
     (xor (at b 2) (at b 0) && at b 4)) (cond (at b 3) (at b 1) (cond (at b 4) (at b 2) (at b 0)))
 
 -- the bit that a swap by sums leaves: y under its own mask, z under its partner's, else x
 pub swapped : (x y z own partner : Bool) → (own && partner) ≡ false
     → xor (xor x (xor x y && own)) (xor z x && partner) ≡ cond own y (cond partner z x)
-unfolding all_bools swaps same
+unfolding all_bools swap_test same
 swapped x y z own partner e =
     elim (or_cases (own && partner) _
-    (all_bools_tells 5 swaps refl (x ∷ y ∷ z ∷ own ∷ partner ∷ []) refl)) [
+    (all_bools_tells 5 swap_test refl (x ∷ y ∷ z ∷ own ∷ partner ∷ []) refl)) [
       | inl both ↦ absurd (both_ways _ e both)
       | inr t ↦ same_tells _ _ t
     ]
 
 -- ---- lists
 
--- a list of eight by its elements
-pub eight : {A : Type 0} (xs : List A) (a b c d e f g h : A) → length xs ≡ 8
+-- a list of eight is the list of its elements
+pub list_of_eight : {A : Type 0} (xs : List A) (a b c d e f g h : A) → length xs ≡ 8
     → xs ≡ get_or xs 0 a ∷ get_or xs 1 b ∷ get_or xs 2 c ∷ get_or xs 3 d ∷ get_or xs 4 e
     ∷ get_or xs 5 f ∷ get_or xs 6 g
     ∷ get_or xs 7 h ∷ []
 unfolding build
-eight xs a b c d e f g h l =
+list_of_eight xs a b c d e f g h l =
     sym (build_is 8 (λ i. get_or xs i (get_or (a ∷ b ∷ c ∷ d ∷ e ∷ f ∷ g ∷ h ∷ []) i a)) xs a l
     (λ i lt. get_or_default xs i _ a (omega arith)))

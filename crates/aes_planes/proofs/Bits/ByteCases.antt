@@ -7,7 +7,7 @@ unfoldable pub all_below : ℕ → (ℕ → Bool) → Bool
 all_below zero p = true
 all_below (suc n) p = p n && all_below n p
 
--- a claim on each number below n, and on n
+-- a claim on each number below n, and on n, is one on each number below n + 1
 by_one_more : (P : ℕ → Type 0) (n : ℕ) → ((r : ℕ) → r < n → P r) → P n → (r : ℕ) → r < suc n → P r
 by_one_more P n below here r h = elim (cases_lt r n) [
   | inl lt ↦ below r lt

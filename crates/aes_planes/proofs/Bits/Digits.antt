@@ -11,7 +11,7 @@ use lib.Lanes.{Each1, number_l, digits_l}
 use Rattle.aes_planes.specs.Bits.{bit}
 use Rattle.aes_planes.proofs.Bits.NumberBits.{bit_low, bit_shr}
 
--- w bits of a number, from place s on
+-- bit p of the w bits of a number from place s on is bit s + p of the number
 pub field_bit : (x s w p : ℕ) → p < w → bit (x / 2 ^ s % 2 ^ w) p ≡ bit x (s + p)
 field_bit x s w p h = bit_low (x / 2 ^ s) w p h ∙ bit_shr x s p ∙ ap (bit x) (omega arith)
 
@@ -57,7 +57,8 @@ number_bit b (x ∷ xs) (suc j) r f h k =
     ∙ ap (bit_at y) d)
     ∙ number_bit b xs j r f.1 (omega arith) k
 
--- bit r of digit j, in base 2 ^ a, of the number with digits xs in base 2 ^ b
+-- bit r of digit j, in base 2 ^ a, of the number with digits xs in base 2 ^ b is the bit of xs at
+-- the same place
 pub regrouped : (a b n : ℕ) (xs : List ℕ) (j r u v : ℕ) → Each1 (λ (v : ℕ). v < 2 ^ b) xs
     → j < n → r < a
     → u < length xs → v < b
@@ -83,7 +84,7 @@ joined_lt s m a b f g =
     let h : a * 2 ^ s + b < 2 ^ m * 2 ^ s = digits_lt g f in
     rw (pow-add 2 s m) (grind (arith, h))
 
--- the rows of four digits joined
+-- of four digits joined, row j has the bits of digit j
 pub rows_joined : (w R x0 x1 x2 x3 j q i : ℕ) → w ≡ 4 * R → x0 < 2 ^ R → x1 < 2 ^ R
     → x2 < 2 ^ R → x3 < 2 ^ R
     → j < 4 → q < R → i ≡ j * R + q

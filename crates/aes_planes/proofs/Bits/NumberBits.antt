@@ -63,8 +63,8 @@ bit_ones k i h = ap (λ v. v == 1) (bit_at_ones k i h)
 -- ---- a word of n bits
 
 -- below n, bit i of a number is element i of the list of its lowest n bits
-pub reads : (n a i : ℕ) → i < n → bit a i ≡ at (build n (bit a)) i
-reads n a i h = sym (get_or-build n i (bit a) false h)
+pub at-word_bits : (n a i : ℕ) → i < n → bit a i ≡ at (build n (bit a)) i
+at-word_bits n a i h = sym (get_or-build n i (bit a) false h)
 
 -- ---- shifts of numbers
 
@@ -99,7 +99,7 @@ bit_shl_high x n i h =
     ap (λ v. v == 1) (ap (λ v. bit_at v i) (sym (add-zero (x * 2 ^ n)))
     ∙ bit_at_cat_high x n 0 i (pow_pos n) h)
 
--- a shift up within w bits
+-- a shift up by n within w bits moves each bit n places up, and zeros into the first
 pub bit_shl : (w x n i : ℕ) → i < w → bit (x * 2 ^ n % 2 ^ w) i ≡ (nat_le n i && bit x (i - n))
 bit_shl w x n i h = bit_low (x * 2 ^ n) w i h ∙ elim (cases_lt i n) [
   | inl lt ↦ bit_shl_low x n i lt ∙ ap (λ b. b && bit x (i - n)) (sym (lt-leb n i lt))
@@ -109,7 +109,7 @@ bit_shl w x n i h = bit_low (x * 2 ^ n) w i h ∙ elim (cases_lt i n) [
 -- a number of w bits has no bit above them
 bit_within : (w x i : ℕ) → x < 2 ^ w → bit x i ≡ (nat_lt i w && at (build w (bit x)) i)
 bit_within w x i f = elim (cases_lt i w) [
-  | inl lt ↦ reads w x i lt ∙ ap (λ b. b && at (build w (bit x)) i) (sym (lt-ltb i w lt))
+  | inl lt ↦ at-word_bits w x i lt ∙ ap (λ b. b && at (build w (bit x)) i) (sym (lt-ltb i w lt))
   | inr le ↦ bit_above x w i f le ∙ ap (λ b. b && at (build w (bit x)) i) (sym (le-ltb i w le))
 ]
 
@@ -117,7 +117,7 @@ bit_within w x i f = elim (cases_lt i w) [
 pub word_shl : (w x n : ℕ) → Places w (build w (bit (x * 2 ^ n % 2 ^ w)))
     (λ i. nat_le n i && at (build w (bit x)) (i - n))
 word_shl w x n = Places-build w _ _ (λ i h. bit_shl w x n i h
-    ∙ ap (λ b. nat_le n i && b) (reads w x (i - n) (omega arith)))
+    ∙ ap (λ b. nat_le n i && b) (at-word_bits w x (i - n) (omega arith)))
 
 -- a word shifted right by n has in each place the bit n places above, and zeros in the highest n
 pub word_shr : (w x n : ℕ) → x < 2 ^ w
@@ -126,7 +126,7 @@ word_shr w x n f = Places-build w _ _ (λ i h. bit_shr x n i ∙ bit_within w x 
 
 -- the remainder modulo 256 has the bits of the word's lowest byte
 pub word_low_byte : (n x : ℕ) → 8 ≤ n → (i : ℕ) → i < 8 → bit (x % 256) i ≡ at (build n (bit x)) i
-word_low_byte n x h i k = bit_low x 8 i k ∙ reads n x i (omega arith)
+word_low_byte n x h i k = bit_low x 8 i k ∙ at-word_bits n x i (omega arith)
 
 -- ---- rotations
 
@@ -176,7 +176,7 @@ pub word_ror : (w x n y : ℕ) → x < 2 ^ w → n < w
     → Places w (build w (bit y)) (λ i. at (build w (bit x)) ((i + n) % w))
 word_ror w x n y f h e = Places-build w _ _ (λ i k.
     ap (λ v. bit v i) e ∙ ror_bit w x n i f h k
-    ∙ reads w x ((i + n) % w) (mod-lt (i + n) (omega arith)))
+    ∙ at-word_bits w x ((i + n) % w) (mod-lt (i + n) (omega arith)))
 
 -- what calls of a word leave, where it is a number: of operators bit by bit
 pub ruleset number_calls =
@@ -202,7 +202,7 @@ number_is (b ∷ bs) = ap (λ v. cond b 1 0 + 2 * v) (number_is bs)
 pub number_below : (bs : List Bool) → number bs < 2 ^ length bs
 number_below bs = rw (number_is bs) (mask_l-lt bs)
 
--- the bits of the number of some bits
+-- the number of some bits has those bits
 pub bit_of_number : (bs : List Bool) (i : ℕ) → bit (number bs) i ≡ at bs i
 unfolding bit
 bit_of_number bs i = rw (number_is bs) (ap (λ v. v == 1) (bit_mask_l bs i)

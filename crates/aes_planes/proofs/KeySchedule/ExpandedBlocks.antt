@@ -12,14 +12,14 @@ use Rattle.aes_planes.specs.Fips197.{sbox, field_add, byte_at, state, word, add_
 use Rattle.aes_planes.specs.Fips197.{rot_word, sub_bytes, add_round_key, power_of_x, round_constant}
 use Rattle.aes_planes.specs.Fips197.{added_word, expanded_word, key_words, key_expansion, rounds}
 use Rattle.aes_planes.specs.Fips197.{round_key}
-use Rattle.aes_planes.specs.Planes.{constant_block, summed, columns_summed, columns_straddled}
+use Rattle.aes_planes.specs.Planes.{constant_block, fold_to, columns_summed, columns_straddled}
 use Rattle.aes_planes.proofs.Bits.ByteCases.{by_four}
 use Rattle.aes_planes.proofs.KeySchedule.AddedWords.{added_word_constant, added_word_same}
 use Rattle.aes_planes.proofs.KeySchedule.AddedWords.{added_word_substituted}
 use Rattle.aes_planes.proofs.KeySchedule.ExpandedWords.{expanded_word_key, expanded_word_next}
 use Rattle.aes_planes.proofs.KeySchedule.ExpandedWords.{round_key_words}
-use Rattle.aes_planes.proofs.Lists.{built}
-use Rattle.aes_planes.proofs.Standard.States.{byte_at-state, state_is, state_same, state_length}
+use Rattle.aes_planes.proofs.Lists.{build-get_or}
+use Rattle.aes_planes.proofs.Standard.States.{byte_at-state, state_is, state_same, length-state}
 
 -- ---- blocks of four words
 
@@ -41,7 +41,7 @@ module _ (rows cols : ℕ) (f g : ℕ → List ℕ) (y : List ℕ)
   start r = byte_at y ((r + rows) % 4) cols
 
   -- the sum of columns 0 to c is the word of g there, column by column, each from the one before it
-  columns : (r c : ℕ) → r < 4 → c < 4 → summed field_add (byte_at (of_words f) r) (start r) c
+  columns : (r c : ℕ) → r < 4 → c < 4 → fold_to field_add (byte_at (of_words f) r) (start r) c
       ≡ slice_index (g c) r
   unfolding start
   columns r zero h k =
@@ -79,7 +79,8 @@ module _ (key : List ℕ) (nk : ℕ) (own : key_words key ≡ nk) (some : 0 < nk
       ∙ (λ t. add_words (expanded_word key (less t))
       (added_word (own t) i (expanded_word key (one t))))
 
-  -- the recursion where Nk divides the place
+  -- word j * Nk is the one Nk words before, SubWord of RotWord of the word before and a round
+  -- constant, summed
   pub first_word : (j : ℕ) → i ≡ j * nk → expanded_word key i
       ≡ add_words (expanded_word key b)
       (add_words (sub_word (rot_word (expanded_word key p))) (round_constant j))
@@ -93,9 +94,9 @@ module _ (key : List ℕ) (nk : ℕ) (own : key_words key ≡ nk) (some : 0 < nk
       ∙ ap (λ v. add_words (sub_word (rot_word w)) (round_constant v)) whole)
 
 -- a word of the key expansion has four bytes
-expanded_word_length : (key : List ℕ) (i : ℕ) → 0 < key_words key
+length-expanded_word : (key : List ℕ) (i : ℕ) → 0 < key_words key
     → length (expanded_word key i) ≡ 4
-expanded_word_length key i some = elim (cases_lt i (key_words key)) [
+length-expanded_word key i some = elim (cases_lt i (key_words key)) [
   | inl lt ↦ ap length (expanded_word_key key i (lt-ltb i (key_words key) lt))
   | inr ge ↦ ap length (expanded_word_next key i (le-ltb i (key_words key) ge) some (omega arith))
 ]
@@ -103,33 +104,35 @@ expanded_word_length key i some = elim (cases_lt i (key_words key)) [
 -- ---- blocks of four words, of which the first may be any
 
 -- the four words from word o on
-abbrev pub block_at : List ℕ → ℕ → List ℕ
-block_at key o = of_words (λ c. expanded_word key (o + c))
+abbrev pub words_from : List ℕ → ℕ → List ℕ
+words_from key o = of_words (λ c. expanded_word key (o + c))
 
 -- round key j of a key is the four words from word 4 j on
 pub round_key_at : (key : List ℕ) (j o : ℕ) → o ≡ 4 * j → j < rounds key + 1
     → round_key (key_expansion key) j
-    ≡ block_at key o
-round_key_at key j o e lt = round_key_words key j lt ∙ ap (block_at key) (sym e)
+    ≡ words_from key o
+round_key_at key j o e lt = round_key_words key j lt ∙ ap (words_from key) (sym e)
 
--- the last two of four words and the first two of the next four
+-- the last two of four words and the first two of the next four are the four words from the third
+-- on
 pub straddled_at : (key : List ℕ) (o p m : ℕ) → p ≡ o + 4 → m ≡ o + 2
-    → columns_straddled (block_at key o)
-    (block_at key p) ≡ block_at key m
+    → columns_straddled (words_from key o)
+    (words_from key p) ≡ words_from key m
 unfolding columns_straddled
 straddled_at key o p m ep em = state_same _ _ (λ r c h l. cond_both (nat_lt c 2) _ _
     (λ v. v ≡ slice_index (expanded_word key (m + c)) r)
     (λ t. let lt : c < 2 = ltb-true c 2 t in there r (c + 2) h (omega arith) o c (omega arith))
     (λ t. let le : 2 ≤ c = ltb-false c 2 t in there r (c - 2) h (omega arith) p c (omega arith)))
   where
-    there : (r c : ℕ) → r < 4 → c < 4 → (q d : ℕ) → q + c ≡ m + d → byte_at (block_at key q) r c
+    there : (r c : ℕ) → r < 4 → c < 4 → (q d : ℕ) → q + c ≡ m + d → byte_at (words_from key q) r c
         ≡ slice_index (expanded_word key (m + d)) r
     there r c h l q d e = byte_at-state (λ r c. slice_index (expanded_word key (q + c)) r) r c h l
         ∙ ap (λ v. slice_index (expanded_word key v) r) e
 
 -- ---- sums of columns from a column on
 
--- the constant in row 1 of column 3 and the S-box, a row on
+-- with the constant block added, the last column after SubBytes, a row on, is SubWord of RotWord of
+-- the last word, and the constant
 substituted_column : (f : ℕ → List ℕ) (x : ℕ)
     → word (λ r. byte_at (add_round_key (sub_bytes (of_words f)) (constant_block x))
     ((r + 1) % 4) 3)
@@ -143,7 +146,7 @@ substituted_plain : (f : ℕ → List ℕ) → length (f 3) ≡ 4
     ≡ sub_word (f 3)
 unfolding sub_bytes state sbox
 substituted_plain f l =
-    subst (λ (v : List ℕ). word (λ r. sbox (slice_index (f 3) r)) ≡ sub_word v) (built 4 (f 3) 0 l)
+    subst (λ (v : List ℕ). word (λ r. sbox (slice_index (f 3) r)) ≡ sub_word v) (build-get_or 4 (f 3) 0 l)
     refl
 
 -- column 1 as it is, without SubBytes
@@ -175,7 +178,7 @@ module _ (key : List ℕ) (nk : ℕ) (own : key_words key ≡ nk) (four : 4 ≤ 
       ⊎ ((e ≡ 0) ⊎ (e ≡ 4))
       → expanded_word key m ≡ add_words (expanded_word key o)
       (word (λ r. byte_at y ((r + rows) % 4) cols))
-      → columns_summed rows cols (block_at key o) y ≡ block_at key m
+      → columns_summed rows cols (words_from key o) y ≡ words_from key m
   sums_at rows cols o m q e y back at fits which first =
       let o0 : o ≡ o + 0 = omega arith in
       let m0 : m + 0 ≡ m = omega arith in
@@ -193,11 +196,12 @@ module _ (key : List ℕ) (nk : ℕ) (own : key_words key ≡ nk) (four : 4 ≤ 
         ])
       ]) (omega (arith, back)) (omega arith))
 
-  -- the four words at the next multiple of Nk, of the four Nk words before and the last four
+  -- the four words from a multiple of Nk on are sums of the four Nk words before and of the last
+  -- four, substituted and rotated
   pub first_block : (j o p m : ℕ) → o ≡ j * nk → m ≡ o + nk → m ≡ p + 4
-      → columns_summed 1 3 (block_at key o)
-      (add_round_key (sub_bytes (block_at key p)) (constant_block (power_of_x j)))
-      ≡ block_at key m
+      → columns_summed 1 3 (words_from key o)
+      (add_round_key (sub_bytes (words_from key p)) (constant_block (power_of_x j)))
+      ≡ words_from key m
   unfolding round_constant
   first_block j o p m at back before =
       let one : suc j - 1 ≡ j = omega arith in
@@ -212,7 +216,7 @@ module _ (key : List ℕ) (nk : ℕ) (own : key_words key ≡ nk) (four : 4 ≤ 
 
   -- the four words after the four at a multiple of Nk, where Nk is 8
   pub second_block : (j o p m : ℕ) → nk ≡ 8 → o ≡ j * nk + 4 → m ≡ o + nk → m ≡ p + 4
-      → columns_summed 0 3 (block_at key o) (sub_bytes (block_at key p)) ≡ block_at key m
+      → columns_summed 0 3 (words_from key o) (sub_bytes (words_from key p)) ≡ words_from key m
   second_block j o p m eight at back before =
       let spot : m ≡ suc j * nk + 4 = omega (arith, at, back) in
       let left : m % nk ≡ 4 = ap (λ v. v % nk) spot ∙ mod-mul-add (suc j) nk 4 (omega arith) in
@@ -222,11 +226,11 @@ module _ (key : List ℕ) (nk : ℕ) (own : key_words key ≡ nk) (four : 4 ≤ 
       ∙ ap (add_words (expanded_word key o))
       (added_word_substituted nk m w (λ z. absurd (omega (arith, left, z))) (omega arith) left
       ∙ sym (substituted_plain (λ c. expanded_word key (p + c))
-      (expanded_word_length key (p + 3) (omega (arith, own))))))
+      (length-expanded_word key (p + 3) (omega (arith, own))))))
 
   -- the four words two after a multiple of Nk, where Nk is 6
   pub last_block : (j o p m : ℕ) → nk ≡ 6 → o ≡ j * nk + 2 → m ≡ o + nk → m ≡ p + 2
-      → columns_summed 0 1 (block_at key o) (block_at key p) ≡ block_at key m
+      → columns_summed 0 1 (words_from key o) (words_from key p) ≡ words_from key m
   last_block j o p m six at back before =
       let next : m ≡ suc j * nk + 2 = omega (arith, at, back) in
       sums_at 0 1 o m (suc j) 2 _ back next (omega arith) (inl (omega arith))
@@ -234,9 +238,9 @@ module _ (key : List ℕ) (nk : ℕ) (own : key_words key ≡ nk) (four : 4 ≤ 
       (omega arith)
       ∙ sym (plain_column (λ c. expanded_word key (p + c)) (expanded_word key o)))
 
-  -- sixteen bytes of the key, from a word on
+  -- four of the first Nk words are sixteen bytes of the key
   pub key_block : (o p : ℕ) → p ≡ 4 * o → o + 4 ≤ nk → length key ≡ 4 * nk
-      → block_at key o ≡ take 16 (drop p key)
+      → words_from key o ≡ take 16 (drop p key)
   key_block o p at room l =
       let long : length (take 16 (drop p key)) ≡ 16 =
       simp (length-take, length-drop) (omega arith) in
@@ -252,9 +256,9 @@ module _ (key : List ℕ) (nk : ℕ) (own : key_words key ≡ nk) (four : 4 ≤ 
 -- ---- the bytes of a key in its first round keys
 
 -- each round key of a key has sixteen bytes
-pub round_key_length : (key : List ℕ) (i : ℕ) → i < rounds key + 1
+pub length-round_key : (key : List ℕ) (i : ℕ) → i < rounds key + 1
     → length (round_key (key_expansion key) i) ≡ 16
-round_key_length key i lt = ap length (round_key_words key i lt) ∙ state_length _
+length-round_key key i lt = ap length (round_key_words key i lt) ∙ length-state _
 
 module _ (key : List ℕ) (nk : ℕ) (own : key_words key ≡ nk) where
   -- the first nk words are the key's own bytes, so a byte of a round key among them is the key's
@@ -282,8 +286,8 @@ module _ (key : List ℕ) (nk : ℕ) (own : key_words key ≡ nk) where
   first_bytes size e l low high =
       let x : List ℕ = round_key (key_expansion key) 0 in
       let y : List ℕ = round_key (key_expansion key) 1 in
-      let lx : length x ≡ 16 = round_key_length key 0 (omega arith) in
-      let ly : length y ≡ 16 = round_key_length key 1 (omega arith) in
+      let lx : length x ≡ 16 = length-round_key key 0 (omega arith) in
+      let ly : length y ≡ 16 = length-round_key key 1 (omega arith) in
       let sized : length (take size (x ++ y)) ≡ size =
       length-take-le size (x ++ y) (simp length-append (omega arith))
       in

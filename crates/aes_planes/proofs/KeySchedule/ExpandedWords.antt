@@ -12,11 +12,11 @@ use Rattle.aes_planes.proofs.Standard.States.{state_same}
 
 module _ (key : List ℕ) where
   -- the expansion to n words has n
-  words_length : (n : ℕ) → length (expanded_words key n) ≡ n
+  length-expanded_words : (n : ℕ) → length (expanded_words key n) ≡ n
   unfolding expanded_words
-  words_length zero = refl
-  words_length (suc n) =
-      let l = words_length n in
+  length-expanded_words zero = refl
+  length-expanded_words (suc n) =
+      let l = length-expanded_words n in
       omega (
         arith,
         length-append (expanded_words key n)
@@ -34,7 +34,7 @@ module _ (key : List ℕ) where
       ∙ get_or-append (expanded_words key (suc i + d))
       (next_word_if (nat_lt (suc i + d) (key_words key)) key
       (expanded_words key (suc i + d)) (suc i + d) ∷ []) [] i
-      (let l = words_length (suc i + d) in omega arith)
+      (let l = length-expanded_words (suc i + d) in omega arith)
       ∙ word_kept d i
 
   -- word i is the same however many words further the key schedule has come
@@ -50,12 +50,12 @@ module _ (key : List ℕ) where
   unfolding expanded_word expanded_words
   word_is i = let e : i + 1 ≡ suc i = omega arith in
       ap (λ v. get_or (expanded_words key v) i []) e
-      ∙ ap (λ v. get_or (expanded_words key (suc i)) v []) (sym (words_length i))
+      ∙ ap (λ v. get_or (expanded_words key (suc i)) v []) (sym (length-expanded_words i))
       ∙ get_or-append_seam (expanded_words key i)
       (next_word_if (nat_lt i (key_words key)) key (expanded_words key i) i)
       [] []
 
-  -- the recursion of 5.2
+  -- from word Nk on, a word is the one Nk words before and what 5.2 adds of the word before
   pub expanded_word_next : (i : ℕ) → nat_lt i (key_words key) ≡ false → 0 < key_words key → 0 < i
       → expanded_word key i ≡ add_words (expanded_word key (i - key_words key))
       (added_word (key_words key) i (expanded_word key (i - 1)))

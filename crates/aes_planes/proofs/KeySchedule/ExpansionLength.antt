@@ -12,9 +12,9 @@ use Rattle.aes_planes.proofs.Standard.States.{RowsBytes, bytes_by_test}
 use Rattle.aes_planes.proofs.Standard.Steps.{mapped_bytes, state_bytes}
 
 -- a key of Nr rounds expands to Nr + 1 round keys
-pub expansion_length : (key : List ℕ) → length (key_expansion key) ≡ rounds key + 1
+pub length-key_expansion : (key : List ℕ) → length (key_expansion key) ≡ rounds key + 1
 unfolding key_expansion
-expansion_length key = length-build (rounds key + 1) _
+length-key_expansion key = length-build (rounds key + 1) _
 
 -- what makes words makes bytes, step by step up to the whole expansion
 word_bytes : (f : ℕ → ℕ) → ((i : ℕ) → f i < 256) → IsBytes (word f)

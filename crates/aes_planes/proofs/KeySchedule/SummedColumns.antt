@@ -7,7 +7,7 @@ use Rattle.std.proofs.Math.Bool.{or-false}
 use Rattle.std.proofs.lemmas.Bool.{le-leb, lt-ltb, cond_both, cond-true, cond-false}
 use Rattle.aes_planes.specs.Bits.{at, xor, bit, IsShape}
 use Rattle.aes_planes.specs.Fips197.{field_add, byte_at, state}
-use Rattle.aes_planes.specs.Planes.{held, held_byte, place, zip_with, words_at, summed}
+use Rattle.aes_planes.specs.Planes.{held, held_byte, place, zip_with, words_at, fold_to}
 use Rattle.aes_planes.specs.Planes.{columns_summed, columns_straddled}
 use Rattle.aes_planes.proofs.Standard.States.{byte_at-state, state_same}
 use Rattle.aes_planes.proofs.Bits.ByteCases.{by_four}
@@ -48,11 +48,11 @@ module _ (n B ror r k : ℕ) (before here first pairs out : List Bool)
     (bit 12 c && (nat_le (2 * n) (place n r c k) && at pairs (place n r c k - 2 * n)))) where
   -- the bit that comes out is the sum of the old bits of its row up to its column and of one bit of
   -- the other word
-  pub columns_right : (c : ℕ) → c < 4 → at out (place n r c k)
-      ≡ summed xor (λ e. at before (place n r e k))
+  pub bit_of_sums : (c : ℕ) → c < 4 → at out (place n r c k)
+      ≡ fold_to xor (λ e. at before (place n r e k))
       (at here ((place n r 0 k + ror) % B)) c
   unfolding bit
-  columns_right c l =
+  bit_of_sums c l =
       let p = λ (c : ℕ). place n r c k in
       let b = λ (c : ℕ). at before (p c) in
       let f0 = firsts 0 (omega arith) in
@@ -68,7 +68,7 @@ module _ (n B ror r k : ℕ) (before here first pairs out : List Bool)
       let p3 = seconds 3 (omega arith)
       ∙ (λ t. xor (f3 t) ((up (p 3) (p 2) (omega arith) (omega arith) ∙ f2) t)) in
       let up2 = brought_up pairs (2 * n) in
-      by_four (λ c. at out (p c) ≡ summed xor b (at here ((p 0 + ror) % B)) c)
+      by_four (λ c. at out (p c) ≡ fold_to xor b (at here ((p 0 + ror) % B)) c)
       (outs 0 (omega arith) ∙ xor_false (at pairs (p 0)) ∙ p0)
       (outs 1 (omega arith) ∙ xor_false (at pairs (p 1)) ∙ p1)
       (outs 2 (omega arith)
@@ -98,23 +98,23 @@ straddled n B r k left right eB h kn =
 -- ---- a byte of the planes
 
 -- bit m of a sum of bytes is the sum of their bits m
-bit_summed : (f : ℕ → ℕ) (y c m : ℕ) → bit (summed field_add f y c) m
-    ≡ summed xor (λ e. bit (f e) m) (bit y m) c
+bit_summed : (f : ℕ → ℕ) (y c m : ℕ) → bit (fold_to field_add f y c) m
+    ≡ fold_to xor (λ e. bit (f e) m) (bit y m) c
 bit_summed f y zero m = bit_of_xor (f 0) y m
 bit_summed f y (suc c) m =
-    bit_of_xor (f (suc c)) (summed field_add f y c) m
+    bit_of_xor (f (suc c)) (fold_to field_add f y c) m
     ∙ ap (xor (bit (f (suc c)) m)) (bit_summed f y c m)
 
 -- a sum of bytes is a byte
-summed_byte : (f : ℕ → ℕ) (y c : ℕ) → ((e : ℕ) → f e < 256) → y < 256 → summed field_add f y c < 256
+summed_byte : (f : ℕ → ℕ) (y c : ℕ) → ((e : ℕ) → f e < 256) → y < 256 → fold_to field_add f y c < 256
 summed_byte f y zero h k = field_add_byte (f 0) y (h 0) k
 summed_byte f y (suc c) h k =
-    field_add_byte (f (suc c)) (summed field_add f y c) (h (suc c)) (summed_byte f y c h k)
+    field_add_byte (f (suc c)) (fold_to field_add f y c) (h (suc c)) (summed_byte f y c h k)
 
 -- sums of equal elements are equal
 summed-ext : {A : Type 0} (op : A → A → A) (f g : ℕ → A) (y z : A) (c : ℕ)
     → ((e : ℕ) → e ≤ c → f e ≡ g e) → y ≡ z
-    → summed op f y c ≡ summed op g z c
+    → fold_to op f y c ≡ fold_to op g z c
 summed-ext op f g y z zero h e = (λ t. op (h 0 (omega arith) t) (e t))
 summed-ext op f g y z (suc c) h e =
     (λ t. op (h (suc c) (omega arith) t) (summed-ext op f g y z c (λ d l. h d (omega arith)) e t))
@@ -124,7 +124,7 @@ summed-ext op f g y z (suc c) h e =
 -- columns that are summed at every place of the planes are summed in every block
 columns_held : (n rows cols : ℕ) (new x y : List (List Bool)) → cols < 4
     → ((r c k : ℕ) → r < 4 → c < 4 → k < n → held_byte new (place n r c k)
-    ≡ summed field_add (λ e. held_byte x (place n r e k))
+    ≡ fold_to field_add (λ e. held_byte x (place n r e k))
     (held_byte y (place n ((r + rows) % 4) cols k)) c)
     → held n new ≡ zip_with (columns_summed rows cols) (held n x) (held n y)
 unfolding held columns_summed
@@ -138,14 +138,14 @@ columns_held n rows cols new x y lc h =
     ∙ sym (zip_with-build (columns_summed rows cols) n _ _)
 
 -- a list with an element has a first one: any default will do for what is read inside
-first_of : {A : Type 0} (xs : List A) → 0 < length xs → A
-first_of [] h = absurd (omega arith)
-first_of (x ∷ xs) h = x
+first_element : {A : Type 0} (xs : List A) → 0 < length xs → A
+first_element [] h = absurd (omega arith)
+first_element (x ∷ xs) h = x
 
--- the last columns of a state and the first of another, by their bytes
-ends : (f g : ℕ → ℕ → ℕ) (r c : ℕ) → r < 4 → c < 4 → cond (nat_lt c 2) (f r (c + 2)) (g r (c - 2))
+-- the last columns of a state and the first of another have the bytes that the states are built of
+straddled_bytes : (f g : ℕ → ℕ → ℕ) (r c : ℕ) → r < 4 → c < 4 → cond (nat_lt c 2) (f r (c + 2)) (g r (c - 2))
     ≡ cond (nat_lt c 2) (byte_at (state f) r (c + 2)) (byte_at (state g) r (c - 2))
-ends f g r c h = by_four (λ c. cond (nat_lt c 2) (f r (c + 2)) (g r (c - 2)) ≡ cond (nat_lt c 2)
+straddled_bytes f g r c h = by_four (λ c. cond (nat_lt c 2) (f r (c + 2)) (g r (c - 2)) ≡ cond (nat_lt c 2)
     (byte_at (state f) r (c + 2)) (byte_at (state g) r (c - 2)))
     (sym (byte_at-state f r 2 h (omega arith))) (sym (byte_at-state f r 3 h (omega arith)))
     (sym (byte_at-state g r 0 h (omega arith))) (sym (byte_at-state g r 1 h (omega arith))) c
@@ -157,12 +157,12 @@ module _ {A : Type 0} {bits : A → List Bool} {n B R H Q N S : ℕ}
   pub columns_of_eight : (ror rows cols : ℕ) → rows < 4 → cols < 4 → ror ≡ rows * (4 * n) + cols * n
       → ((m : ℕ) (d : A) (r c k : ℕ) → m < 8 → r < 4 → c < 4 → k < n
       → at (bits (get_or new m d)) (place n r c k)
-      ≡ summed xor (λ e. at (bits (get_or x m d)) (place n r e k))
+      ≡ fold_to xor (λ e. at (bits (get_or x m d)) (place n r e k))
       (at (bits (get_or y m d)) ((place n r 0 k + ror) % B)) c)
       → held n (map bits new) ≡ zip_with (columns_summed rows cols) (held n (map bits x))
       (held n (map bits y))
   columns_of_eight ror rows cols hr hc er h =
-      let d = first_of new (omega arith) in
+      let d = first_element new (omega arith) in
       columns_held n rows cols _ _ _ hc (λ r c k i j l.
       let p = place n r c k in
       let q = place n ((r + rows) % 4) cols k in
@@ -190,7 +190,7 @@ module _ {A : Type 0} (bits : A → List Bool) (n : ℕ) (new x y : List A) (ln 
       ≡ cond (nat_lt c 2) (held_byte (map bits x) (place n r (c + 2) k))
       (held_byte (map bits y) (place n r (c - 2) k))
   straddled_byte r c k i j l =
-      let d = first_of new (omega arith) in
+      let d = first_element new (omega arith) in
       cond_both (nat_lt c 2) _ _ (λ v. held_byte (map bits new) (place n r c k) ≡ v)
       (λ t. held_is bits new d _ _ ln (held_byte_lt bits x lx _)
       (λ m lt. h m d r c k lt i j l ∙ cond-true _ _ _ t
@@ -205,7 +205,7 @@ module _ {A : Type 0} (bits : A → List Bool) (n : ℕ) (new x y : List A) (ln 
       (held n (map bits y))
   unfolding held columns_straddled
   straddled_of_eight = build-ext n _ _ (λ k l. state_same _ _ (λ r c i j. straddled_byte r c k i j l
-      ∙ ends (λ r c. held_byte (map bits x) (place n r c k))
+      ∙ straddled_bytes (λ r c. held_byte (map bits x) (place n r c k))
       (λ r c. held_byte (map bits y) (place n r c k)) r c i j))
       ∙ sym (zip_with-build columns_straddled n _ _)
 
@@ -217,7 +217,7 @@ pub columns_of_words : {A : Type 0} {bits : A → List Bool} {n B R H Q N S : �
     → cols < 4 → ror ≡ rows * (4 * n) + cols * n
     → ((m : ℕ) (d : A) (r c k : ℕ) → m < 8 → r < 4 → c < 4 → k < n
     → at (bits (get_or new (o + m) d)) (place n r c k)
-    ≡ summed xor (λ e. at (bits (get_or old (o + m - back) d)) (place n r e k))
+    ≡ fold_to xor (λ e. at (bits (get_or old (o + m - back) d)) (place n r e k))
     (at (bits (get_or old (o + m) d)) ((place n r 0 k + ror) % B)) c)
     → held n (map bits (words_at new o)) ≡ zip_with (columns_summed rows cols)
     (held n (map bits (words_at old (o - back)))) (held n (map bits (words_at old o)))

@@ -129,7 +129,7 @@ module _ {A : Type 0} {bits : A → List Bool} {n w R H Q N S : ℕ}
   inside : (r c k : ℕ) → r < 4 → c < 4 → k < n → place n r c k < w
   inside r c k hr hc hk = omega (arith, shape.sixteen, place_lt n r c k hr hc hk)
 
-  -- planes whose bytes are sums
+  -- planes that hold the sums of the bytes of two others make the sum of what those make
   pub summed : {x y : Mix} {a b z : List (List Bool)} → Makes n cols old x a → Makes n cols old y b
       → ((i : ℕ) → i < w → held_byte z i ≡ field_add (held_byte a i) (held_byte b i))
       → Makes n cols old (Sum x y) z
@@ -138,7 +138,7 @@ module _ {A : Type 0} {bits : A → List Bool} {n w R H Q N S : ℕ}
         ∙ (λ t. field_add (p.bytes r c k hr hc hk t) (q.bytes r c k hr hc hk t));
   }
 
-  -- planes whose bytes are doubles
+  -- planes that hold the doubles of the bytes of others make the double of what those make
   pub doubled : {x : Mix} {a z : List (List Bool)} → Makes n cols old x a
       → ((i : ℕ) → i < w → held_byte z i ≡ field_mul 2 (held_byte a i))
       → Makes n cols old (Double x) z

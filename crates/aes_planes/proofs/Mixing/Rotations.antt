@@ -12,7 +12,8 @@ use Rattle.aes_planes.proofs.Planes.Held.{row_on}
 
 module _ {A : Type 0} {bits : A → List Bool} {n B R H Q N S : ℕ}
     (shape : IsShape bits n B R H Q N S) where
-  -- the place `rows` rows and `cols` columns on, if the column doesn't wrap
+  -- moving on by `rows` rows and `cols` columns leads to the place in that row and column, if the
+  -- column doesn't wrap
   pub rotated_place : (r c k rows cols : ℕ) → r < 4 → c + cols < 4 → k < n → rows ≤ 3
       → (place n r c k + (rows * R + cols * Q)) % B ≡ place n ((r + rows) % 4) ((c + cols) % 4) k
   rotated_place r c k rows cols h l kn d =

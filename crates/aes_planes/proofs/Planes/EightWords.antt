@@ -4,7 +4,7 @@ use Rattle.std.proofs.Common.{length, get_or, map, take, drop, set, replicate, r
 use Rattle.std.proofs.Common.{arith, length-take, length-drop, get_or-take, get_or-drop, add-zero}
 use Rattle.std.proofs.lemmas.List.{take-map, drop-map, same_lists}
 use Rattle.aes_planes.specs.Planes.{words_at}
-use Rattle.aes_planes.proofs.Bits.BitCases.{eight}
+use Rattle.aes_planes.proofs.Bits.BitCases.{list_of_eight}
 
 -- the eight words from a place on are eight, if the list goes that far
 pub length-words_at : {A : Type 0} (xs : List A) (o : ℕ) → o + 8 ≤ length xs
@@ -39,7 +39,7 @@ eight_words {A = A} xs o a b c d e f g h l ea eb ec ed ee ef eg eh =
     ∷ (ed ∙ at 3 d (omega arith)) t
     ∷ (ee ∙ at 4 e (omega arith)) t ∷ (ef ∙ at 5 f (omega arith)) t ∷ (eg ∙ at 6 g (omega arith)) t
     ∷ (eh ∙ at 7 h (omega arith)) t ∷ [])
-    ∙ sym (eight (words_at xs o) a b c d e f g h (length-words_at xs o l))
+    ∙ sym (list_of_eight (words_at xs o) a b c d e f g h (length-words_at xs o l))
 
 -- ---- words that stay, and words that are put
 

@@ -83,7 +83,7 @@ wrapped m x q h =
     mod-mul (q * m + x) {m = 4} {c = m} (omega arith) (omega arith)
     ∙ (λ t. (digits_div q h t % 4) * m + digits_mod q h t)
 
--- the place d rows on
+-- moving on by d rows leads to the place in row (r + d) % 4 of the same column
 pub row_on : (n r c k d : ℕ) → r < 4 → c < 4 → k < n → d < 4
     → (place n r c k + d * (4 * n)) % (16 * n) ≡ place n ((r + d) % 4) c k
 row_on n r c k d h i j l =
@@ -182,7 +182,7 @@ held_of n planes blocks l sized h =
     (λ k lt. state_is _ (get_or blocks k []) (sized k lt) (λ r c i j. h r c k i j lt))
 
 -- a list of one is its element
-pub single : {A : Type 0} (xs : List A) (d : A) → length xs ≡ 1 → xs ≡ get_or xs 0 d ∷ []
-single [] d e = absurd (omega arith)
-single (x ∷ []) d e = refl
-single (x ∷ y ∷ xs) d e = absurd (omega arith)
+pub list_of_one : {A : Type 0} (xs : List A) (d : A) → length xs ≡ 1 → xs ≡ get_or xs 0 d ∷ []
+list_of_one [] d e = absurd (omega arith)
+list_of_one (x ∷ []) d e = refl
+list_of_one (x ∷ y ∷ xs) d e = absurd (omega arith)

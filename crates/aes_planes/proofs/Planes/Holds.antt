@@ -7,7 +7,7 @@ use Rattle.aes_planes.specs.Bits.{at, bit}
 use Rattle.aes_planes.specs.Fips197.{IsBytes, byte_at, state, shift_rows, shift_times}
 use Rattle.aes_planes.specs.Planes.{held, held_byte, place, Holds, HoldsShifted}
 use Rattle.aes_planes.proofs.Standard.States.{byte_at-state}
-use Rattle.aes_planes.proofs.Standard.Steps.{state_length, state_bytes}
+use Rattle.aes_planes.proofs.Standard.Steps.{length-state, state_bytes}
 use Rattle.aes_planes.proofs.Lists.{get_or-build}
 use Rattle.aes_planes.proofs.Planes.Held.{held_of, length-held}
 use Rattle.aes_planes.proofs.Bits.BytesByBits.{mapped_lt, mapped_bit, mapped_is}
@@ -19,9 +19,9 @@ unfolding held
 held_at n planes k h = get_or-build n k _ [] h
 
 -- each block that planes hold has sixteen bytes
-pub held_length : (n : ℕ) (planes : List (List Bool)) (k : ℕ) → k < n
+pub length-held_block : (n : ℕ) (planes : List (List Bool)) (k : ℕ) → k < n
     → length (get_or (held n planes) k []) ≡ 16
-held_length n planes k h = ap length (held_at n planes k h) ∙ state_length _
+length-held_block n planes k h = ap length (held_at n planes k h) ∙ length-state _
 
 -- each byte of a block that planes hold is below 2 ^ 8
 pub held_bytes : (n : ℕ) (planes : List (List Bool)) (k i : ℕ) → length planes ≡ 8 → k < n
@@ -46,7 +46,7 @@ pub held_holds : (n : ℕ) (planes : List (List Bool)) → length planes ≡ 8
 held_holds n planes l = record {
   planes_count = l;
   blocks_count = length-held n planes;
-  block_length = held_length n planes;
+  block_length = length-held_block n planes;
   bytes = λ k h i. held_bytes n planes k i l h;
   bits = held_bits n planes l;
 }
@@ -82,4 +82,4 @@ one_more_deferred n s planes blocks is =
 pub ruleset laws_of_deferring = (none_deferred, one_more_deferred)
 
 pub ruleset laws_of_holding =
-    (length-held, held_length, held_bytes, held_bits, holds_held, map-zero_shifts)
+    (length-held, length-held_block, held_bytes, held_bits, holds_held, map-zero_shifts)

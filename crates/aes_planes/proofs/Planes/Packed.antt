@@ -46,7 +46,7 @@ same_planes n a b la lb sized e =
     ∙ ap (λ blocks. bit (byte_at (get_or blocks k []) r c) p) e
     ∙ sym (hb.bits p r c k hp hr hc hk)) i (omega (arith, s.0, li))))
 
--- the lengths of words
+-- words of the same length, mapped to their bits, have that many each
 pub lengths_of_words : {A : Type 0} (f : A → List Bool) (m : ℕ) → ((x : A) → length (f x) ≡ m)
     → (xs : List A) (p : ℕ)
     → p < length xs → length (get_or (map f xs) p []) ≡ m

@@ -19,7 +19,7 @@ use Rattle.aes_planes.proofs.Bits.ByteCases.{all_below, all_pairs_tell}
 use Rattle.aes_planes.proofs.Planes.Held.{place_lt, column_of, stepped_held, held_byte_lt, held_bit}
 use Rattle.aes_planes.proofs.Planes.Held.{held_is}
 use Rattle.std.proofs.lemmas.Simd.{map-map}
-use Rattle.aes_planes.proofs.Lists.{map-same}
+use Rattle.aes_planes.proofs.Lists.{map-ext}
 use lib.Arith.{digits_div}
 
 -- ---- by rows and columns, where the mask has a nibble for each row
@@ -38,7 +38,7 @@ module _ {A : Type 0} {bits : A → List Bool} {n B R H Q N S : ℕ}
       let column : p % R / Q ≡ c = column_of n R Q r c k shape.four shape.one h l kn in
       reads p b ∙ (λ t. bit (get_or nibbles (row t) 0) (column t))
 
--- f of whichever of three numbers two tests choose
+-- f of the number that two tests choose is the value that they choose
 value_of_choice : (b q : Bool) (f : ℕ → Bool) (u v x : ℕ)
     → cond b (f u) (cond q (f v) (f x)) ≡ f (cond b u (cond q v x))
 value_of_choice true q f u v x = refl
@@ -46,30 +46,30 @@ value_of_choice false true f u v x = refl
 value_of_choice false false f u v x = refl
 
 -- what a mask lets through, where two bits are the same under it
-let_through : (p q m : Bool) → (m ≡ true → p ≡ q) → (p && m) ≡ (q && m)
-let_through p q true e = ap (λ v. v && true) (e refl)
-let_through p q false e = and-false p ∙ sym (and-false q)
+same_under_mask : (p q m : Bool) → (m ≡ true → p ≡ q) → (p && m) ≡ (q && m)
+same_under_mask p q true e = ap (λ v. v && true) (e refl)
+same_under_mask p q false e = and-false p ∙ sym (and-false q)
 
 module _ (d : ℕ) (nibbles : List ℕ) (ok : (r c : ℕ) → r < 4 → c < 4
     → is_swap_at d nibbles r c ≡ true) where
   -- whether a column is named in a row
-  abbrev named : ℕ → ℕ → Bool
-  named r c = bit (get_or nibbles r 0) c
+  abbrev is_named : ℕ → ℕ → Bool
+  is_named r c = bit (get_or nibbles r 0) c
 
   -- a named column has one to swap with in its row
-  inside : (r c : ℕ) → r < 4 → c < 4 → named r c ≡ true → c + d < 4
-  inside r c h l e =
-      let t : (not (named r c) || nat_lt (c + d) 4) ≡ true = (and_parts _ _ (ok r c h l)).0 in
+  partner_in_row : (r c : ℕ) → r < 4 → c < 4 → is_named r c ≡ true → c + d < 4
+  partner_in_row r c h l e =
+      let t : (not (is_named r c) || nat_lt (c + d) 4) ≡ true = (and_parts _ _ (ok r c h l)).0 in
       ltb-true (c + d) 4 (rw e at t)
 
   -- no column is named on both sides of a swap, so no bit moves twice
-  apart : (r c : ℕ) → r < 4 → c < 4 → (named r c && (nat_le d c && named r (c - d))) ≡ false
-  apart r c h l = not-true _ (and_parts _ _ (ok r c h l)).1
+  named_once : (r c : ℕ) → r < 4 → c < 4 → (is_named r c && (nat_le d c && is_named r (c - d))) ≡ false
+  named_once r c h l = not-true _ (and_parts _ _ (ok r c h l)).1
 
   -- a column below 4 is swapped with a column below 4
   source_lt : (r c : ℕ) → r < 4 → c < 4 → source d nibbles r c < 4
-  source_lt r c h l = cond_both (named r c) _ _ (λ v. v < 4) (inside r c h l)
-      (λ t. cond_both (nat_le d c && named r (c - d)) (c - d) c (λ v. v < 4)
+  source_lt r c h l = cond_both (is_named r c) _ _ (λ v. v < 4) (partner_in_row r c h l)
+      (λ t. cond_both (nat_le d c && is_named r (c - d)) (c - d) c (λ v. v < 4)
       (λ u. omega arith) (λ u. l))
 
   -- the state of bytes read at swapped columns is the state of the bytes, with its columns swapped
@@ -81,68 +81,68 @@ module _ (d : ℕ) (nibbles : List ℕ) (ok : (r c : ℕ) → r < 4 → c < 4
       (byte_at-state f r (source d nibbles r c) h (source_lt r c h l)))
 
   module _ (n k : ℕ) (a mask : List Bool) (kn : k < n)
-      (masked : (r c : ℕ) → r < 4 → c < 4 → at mask (place n r c k) ≡ named r c) where
-    own : ℕ → ℕ → Bool
-    own r c = at a (place n r c k)
+      (masked : (r c : ℕ) → r < 4 → c < 4 → at mask (place n r c k) ≡ is_named r c) where
+    own_bit : ℕ → ℕ → Bool
+    own_bit r c = at a (place n r c k)
 
-    moved : ℕ → Bool
-    moved = moved_bit (16 * n) a mask (d * n)
+    moves_at : ℕ → Bool
+    moves_at = moved_bit (16 * n) a mask (d * n)
 
     -- a named column and its partner differ where bits move
-    moved_at : (r c : ℕ) → r < 4 → c < 4 → moved (place n r c k)
-        ≡ (xor (own r c) (own r (c + d)) && named r c)
-    unfolding moved own
+    moved_at : (r c : ℕ) → r < 4 → c < 4 → moves_at (place n r c k)
+        ≡ (xor (own_bit r c) (own_bit r (c + d)) && is_named r c)
+    unfolding moves_at own_bit
     moved_at r c h l =
         let up : Bool = nat_lt (place n r c k + d * n) (16 * n) && at a (place n r c k + d * n) in
-        ap (λ m. xor (own r c) up && m) (masked r c h l) ∙ let_through _ _ (named r c) (λ t.
-        let s = inside r c h l t in
+        ap (λ m. xor (own_bit r c) up && m) (masked r c h l) ∙ same_under_mask _ _ (is_named r c) (λ t.
+        let s = partner_in_row r c h l t in
         let p : place n r c k + d * n ≡ place n r (c + d) k = omega arith in
-        ap (xor (own r c)) (ap (λ v. nat_lt v (16 * n) && at a v) p
-        ∙ ap (λ v. v && own r (c + d)) (lt-ltb _ _ (place_lt n r (c + d) k h s kn))))
+        ap (xor (own_bit r c)) (ap (λ v. nat_lt v (16 * n) && at a v) p
+        ∙ ap (λ v. v && own_bit r (c + d)) (lt-ltb _ _ (place_lt n r (c + d) k h s kn))))
 
     -- no bit moves into a column below d
     none_below : (r c : ℕ) → r < 4 → c < d → d < 4
-        → (nat_le (d * n) (place n r c k) && moved (place n r c k - d * n))
+        → (nat_le (d * n) (place n r c k) && moves_at (place n r c k - d * n))
         ≡ false
     none_below zero c h l dl =
         let m : suc c * n ≤ d * n = mul-le-mul_right n l in
-        ap (λ v. v && moved (place n 0 c k - d * n)) (lt-leb (d * n) (place n 0 c k) (omega arith))
+        ap (λ v. v && moves_at (place n 0 c k - d * n)) (lt-leb (d * n) (place n 0 c k) (omega arith))
     none_below (suc r) c h l dl =
         let e : ℕ = c + 4 - d in
         let p : (c + 4) * n ≡ (e + d) * n = ap (λ v. v * n) (omega arith) in
         let j : place n (suc r) c k - d * n ≡ place n r e k = omega arith in
-        let f : named r e ≡ false = false_from_ne_true _
-        (λ t. let s = inside r e (omega arith) (omega arith) t in omega arith) in
+        let f : is_named r e ≡ false = false_from_ne_true _
+        (λ t. let s = partner_in_row r e (omega arith) (omega arith) t in omega arith) in
         ap (λ v. nat_le (d * n) (place n (suc r) c k) && v)
-        (ap moved j ∙ moved_at r e (omega arith) (omega arith)
-        ∙ ap (λ v. xor (own r e) (own r (e + d)) && v) f ∙ and-false _) ∙ and-false _
+        (ap moves_at j ∙ moved_at r e (omega arith) (omega arith)
+        ∙ ap (λ v. xor (own_bit r e) (own_bit r (e + d)) && v) f ∙ and-false _) ∙ and-false _
 
     -- the bits that move into a column from d on are those of the column d below
     moved_up : (r c : ℕ) → r < 4 → c < 4 → d < 4 → (c < d) ⊎ (d ≤ c)
-        → (nat_le (d * n) (place n r c k) && moved (place n r c k - d * n))
-        ≡ (xor (own r (c - d)) (own r c) && (nat_le d c && named r (c - d)))
+        → (nat_le (d * n) (place n r c k) && moves_at (place n r c k - d * n))
+        ≡ (xor (own_bit r (c - d)) (own_bit r c) && (nat_le d c && is_named r (c - d)))
     moved_up r c h l dl (inl lt) = none_below r c h lt dl
-        ∙ sym (ap (λ v. xor (own r (c - d)) (own r c) && (v && named r (c - d))) (lt-leb d c lt)
+        ∙ sym (ap (λ v. xor (own_bit r (c - d)) (own_bit r c) && (v && is_named r (c - d))) (lt-leb d c lt)
         ∙ and-false _)
     moved_up r c h l dl (inr le) =
         let m : c * n ≡ (c - d + d) * n = ap (λ v. v * n) (omega arith) in
         let j : place n r c k - d * n ≡ place n r (c - d) k = omega arith in
         let e : c - d + d ≡ c = omega arith in
         (λ t. le-leb (d * n) (place n r c k) (omega arith) t
-        && (ap moved j ∙ moved_at r (c - d) h (omega arith)
-        ∙ ap (λ v. xor (own r (c - d)) (own r v) && named r (c - d)) e) t)
-        ∙ ap (λ v. xor (own r (c - d)) (own r c) && (v && named r (c - d))) (sym (le-leb d c le))
+        && (ap moves_at j ∙ moved_at r (c - d) h (omega arith)
+        ∙ ap (λ v. xor (own_bit r (c - d)) (own_bit r v) && is_named r (c - d)) e) t)
+        ∙ ap (λ v. xor (own_bit r (c - d)) (own_bit r c) && (v && is_named r (c - d))) (sym (le-leb d c le))
 
     -- after a swap of bits under the mask each place has the bit of the column that its column is
     -- swapped with
     swapped_rc : (r c : ℕ) → r < 4 → c < 4 → d < 4
         → swapped_bit (16 * n) a mask (d * n) (place n r c k)
         ≡ at a (place n r (source d nibbles r c) k)
-    unfolding moved own
+    unfolding moves_at own_bit
     swapped_rc r c h l dl =
-        (λ t. xor (xor (own r c) (moved_at r c h l t)) (moved_up r c h l dl (cases_lt c d) t))
-        ∙ swapped (own r c) (own r (c + d)) (own r (c - d)) (named r c) _ (apart r c h l)
-        ∙ value_of_choice (named r c) (nat_le d c && named r (c - d)) (own r) (c + d) (c - d) c
+        (λ t. xor (xor (own_bit r c) (moved_at r c h l t)) (moved_up r c h l dl (cases_lt c d) t))
+        ∙ swapped (own_bit r c) (own_bit r (c + d)) (own_bit r (c - d)) (is_named r c) _ (named_once r c h l)
+        ∙ value_of_choice (is_named r c) (nat_le d c && is_named r (c - d)) (own_bit r) (c + d) (c - d) c
 
 -- ---- eight words
 
@@ -219,13 +219,13 @@ pub shifted_1 : (bs : List (List ℕ))
     (map (columns_swapped 2 two_apart_1) bs)
 unfolding columns_swapped build shift_times shift_rows bit
 shifted_1 bs = sym (map-map (columns_swapped 1 pairs) (columns_swapped 2 two_apart_1) bs
-    ∙ map-same _ _ bs (λ s. refl))
+    ∙ map-ext _ _ bs (λ s. refl))
 
 -- two ShiftRows of each block swap columns two apart
 pub shifted_2 : (bs : List (List ℕ)) → map (shift_times 2) bs
     ≡ map (columns_swapped 2 two_apart_2) bs
 unfolding columns_swapped build shift_times shift_rows bit
-shifted_2 bs = map-same _ _ bs (λ s. refl)
+shifted_2 bs = map-ext _ _ bs (λ s. refl)
 
 -- three ShiftRows of each block swap columns two apart and then neighbours
 pub shifted_3 : (bs : List (List ℕ))
@@ -233,7 +233,7 @@ pub shifted_3 : (bs : List (List ℕ))
     (map (columns_swapped 2 two_apart_3) bs)
 unfolding columns_swapped build shift_times shift_rows bit
 shifted_3 bs = sym (map-map (columns_swapped 1 pairs) (columns_swapped 2 two_apart_3) bs
-    ∙ map-same _ _ bs (λ s. refl))
+    ∙ map-ext _ _ bs (λ s. refl))
 
 -- three ShiftRows are one InvShiftRows
 pub shifted_back_1 : (s : List ℕ) → shift_times 3 s ≡ inv_shift_times 1 s

@@ -2,6 +2,7 @@
 -- into the round keys.
 use Rattle.std.proofs.Common.{◌≡◌, ℕ, zero, suc, ◌<◌, List, [], ◌∷◌, length, map, get_or, refl, ap}
 use Rattle.std.proofs.Common.{sym, subst, ◌∙◌}
+use Rattle.std.proofs.lemmas.List.{length-map}
 use Rattle.std.specs.Int.Bits.{xor_assoc, xor_zero_r}
 use Rattle.aes_planes.specs.Fips197.{field_add, field_mul, sbox, inv_sbox, byte_at, build, state}
 use Rattle.aes_planes.specs.Fips197.{sub_bytes, inv_sub_bytes, shift_rows, inv_shift_rows}
@@ -9,16 +10,16 @@ use Rattle.aes_planes.specs.Fips197.{shift_times, inv_shift_times, mix_columns, 
 use Rattle.aes_planes.specs.Fips197.{add_round_key}
 use Rattle.aes_planes.specs.Planes.{plus63, between_shifts}
 use Rattle.aes_planes.proofs.Bits.ByteCases.{by_four}
-use Rattle.aes_planes.proofs.Lists.{built}
+use Rattle.aes_planes.proofs.Lists.{build-get_or}
 use Rattle.aes_planes.proofs.Mixing.MixColumns.{mix_block, inv_mix_block, mix_columns_add}
 use Rattle.aes_planes.proofs.Mixing.MixColumns.{inv_mix_columns_add}
 use Rattle.std.proofs.lemmas.Simd.{map-map}
 use Rattle.aes_planes.proofs.Shifts.ColumnSwaps.{shifted_back_3}
 use Rattle.aes_planes.proofs.Standard.FieldLaws.{add_swap, add_twice}
 use Rattle.aes_planes.proofs.Standard.LinearSteps.{shift_map, inv_sub_shift}
-use Rattle.aes_planes.proofs.Standard.Steps.{add_length, inv_shift_length, map_length, shift_length}
+use Rattle.aes_planes.proofs.Standard.Steps.{length-add_round_key, length-inv_shift_rows, length-shift_rows}
 use Rattle.aes_planes.proofs.Standard.Steps.{shift_of_inv_shift, inv_shift_of_shift}
-use Rattle.aes_planes.proofs.Standard.Steps.{shift_times_length}
+use Rattle.aes_planes.proofs.Standard.Steps.{length-shift_times}
 
 -- ---- 0x63 added to each byte
 
@@ -46,7 +47,7 @@ all63 = state (λ r c. 0x63)
 -- adding 0x63 to each byte is adding the block with 0x63 in each byte
 plus63_sum : (s : List ℕ) → length s ≡ 16 → map plus63 s ≡ add_round_key s all63
 unfolding all63 add_round_key
-plus63_sum s l = subst (λ (v : List ℕ). map plus63 v ≡ add_round_key v all63) (built 16 s 0 l) refl
+plus63_sum s l = subst (λ (v : List ℕ). map plus63 v ≡ add_round_key v all63) (build-get_or 16 s 0 l) refl
 
 -- a step that is linear and keeps the block of 0x63 passes 0x63 on
 passes63 : (step : List ℕ → List ℕ)
@@ -80,7 +81,7 @@ add_plus63 : (s t : List ℕ) → length t ≡ 16
     → add_round_key s (map plus63 t) ≡ map plus63 (add_round_key s t)
 add_plus63 s t l =
     ap (add_round_key s) (plus63_sum t l) ∙ add_key_assoc s t all63
-    ∙ sym (plus63_sum (add_round_key s t) (add_length s t))
+    ∙ sym (plus63_sum (add_round_key s t) (length-add_round_key s t))
 
 -- the block of 0x63 added to both blocks of a sum falls out, since twice 0x63 is nothing
 sum_of_both63 : (s t : List ℕ) → add_round_key (add_round_key s all63) (add_round_key t all63)
@@ -116,7 +117,7 @@ unfolding shift_times inv_shift_times
 shift_times_of_inv_shift_times zero s l = refl
 shift_times_of_inv_shift_times (suc k) s l =
     ap (λ v. shift_rows (shift_times k v)) (inv_shift_first k s)
-    ∙ ap shift_rows (shift_times_of_inv_shift_times k (inv_shift_rows s) (inv_shift_length s))
+    ∙ ap shift_rows (shift_times_of_inv_shift_times k (inv_shift_rows s) (length-inv_shift_rows s))
     ∙ shift_of_inv_shift s l
 
 -- k InvShiftRows after k ShiftRows leave a list of sixteen as it was
@@ -126,7 +127,7 @@ unfolding shift_times inv_shift_times
 inv_shift_times_of_shift_times zero s l = refl
 inv_shift_times_of_shift_times (suc k) s l =
     inv_shift_first k (shift_rows (shift_times k s))
-    ∙ ap (inv_shift_times k) (inv_shift_of_shift (shift_times k s) (shift_times_length k s l))
+    ∙ ap (inv_shift_times k) (inv_shift_of_shift (shift_times k s) (length-shift_times k s l))
     ∙ inv_shift_times_of_shift_times k s l
 
 -- two shifts forth where one is deferred: three are
@@ -158,8 +159,8 @@ module _ (f g h : ℕ → ℕ) where
   of_sixteen : (P : List ℕ → List ℕ → Type 0)
       → ((v w : ℕ → ℕ) → P (build 16 v) (build 16 w)) → (s key : List ℕ) → length s ≡ 16
       → length key ≡ 16 → P s key
-  of_sixteen P each s key l m = subst (λ (x : List ℕ). P x key) (built 16 s 0 l)
-      (subst (λ (y : List ℕ). P (build 16 (λ i. get_or s i 0)) y) (built 16 key 0 m)
+  of_sixteen P each s key l m = subst (λ (x : List ℕ). P x key) (build-get_or 16 s 0 l)
+      (subst (λ (y : List ℕ). P (build 16 (λ i. get_or s i 0)) y) (build-get_or 16 key 0 m)
       (each (λ i. get_or s i 0) (λ i. get_or key i 0)))
 
   -- a round moves any sixteen elements alike, so one computation for each j suffices
@@ -176,12 +177,13 @@ module _ (f g h : ℕ → ℕ) where
 
 -- ---- rounds of the cipher
 
--- SubBytes as the circuit computes it, without 0x63, before ShiftRows
+-- SubBytes without 0x63, as the circuit computes it, and then ShiftRows are the standard's two
+-- without 0x63
 substituted : (s : List ℕ) → length s ≡ 16
     → shift_rows (map (λ b. plus63 (sbox b)) s) ≡ map plus63 (shift_rows (sub_bytes s))
 unfolding sub_bytes
 substituted s l = ap shift_rows (sym (map-map plus63 sbox s))
-    ∙ shift_map plus63 (map sbox s) (map_length sbox s ∙ l)
+    ∙ shift_map plus63 (map sbox s) (length-map s sbox ∙ l)
 
 -- a round after which j shifts are deferred
 pub round_deferred : (j : ℕ) → j < 4 → (s key : List ℕ) → length s ≡ 16 → length key ≡ 16
@@ -194,7 +196,7 @@ round_deferred j few s key l m =
     let x = shift_rows (sub_bytes s) in
     forth (λ b. plus63 (sbox b)) plus63 inv_sbox j few s key l m ∙ ap (inv_shift_times j)
     ((λ i. add_round_key (mix_columns (substituted s l i)) (map plus63 key))
-    ∙ ap (λ v. add_round_key v (map plus63 key)) (mix_plus63 x (shift_length (sub_bytes s)))
+    ∙ ap (λ v. add_round_key v (map plus63 key)) (mix_plus63 x (length-shift_rows (sub_bytes s)))
     ∙ add_both63 (mix_columns x) key (mix_block x).0 m)
 
 -- the last round, on a state of which three shifts are deferred
@@ -206,7 +208,7 @@ last_deferred s key l m =
     let f : ℕ → ℕ = λ b. plus63 (sbox b) in
     ap (λ v. add_round_key (map f v) (map plus63 key)) (sym (shifted_back_3 s))
     ∙ ap (λ v. add_round_key v (map plus63 key)) (sym (shift_map f s l) ∙ substituted s l)
-    ∙ add_both63 (shift_rows (sub_bytes s)) key (shift_length (sub_bytes s)) m
+    ∙ add_both63 (shift_rows (sub_bytes s)) key (length-shift_rows (sub_bytes s)) m
 
 -- ---- rounds of the inverse cipher, whose substitution takes 0x63 out by itself
 
@@ -230,7 +232,7 @@ inv_round_deferred k few s key l m =
     let x : List ℕ = inv_sub_bytes (inv_shift_rows s) in
     back undo plus63 inv_sbox k few s key l m ∙ ap (inv_shift_times (deferred_before k))
     (ap (λ v. map undo (inv_mix_columns v)) (add_plus63 x key m)
-    ∙ ap (map undo) (inv_mix_plus63 (add_round_key x key) (add_length x key))
+    ∙ ap (map undo) (inv_mix_plus63 (add_round_key x key) (length-add_round_key x key))
     ∙ without63 (inv_mix_columns (add_round_key x key)))
 
 -- the last inverse round, on a substituted state to which one shift back is left

@@ -3,7 +3,7 @@ use Rattle.std.proofs.Common.{◌≡◌, ℕ, zero, suc, ◌-◌, ◌≤◌, Lis
 use Rattle.aes_planes.specs.Fips197 as fips
 use Rattle.aes_planes.specs.Rounds.{rounds_after, all_rounds}
 
--- the state after one more round
+-- a step and AddRoundKey lead from the state after n - 1 rounds to that after n
 pub rounds_more : (step : List ℕ → List ℕ) (w : List (List ℕ)) (b : List ℕ) (n : ℕ) → 1 ≤ n
     → fips.add_round_key (step (rounds_after step w b (n - 1))) (fips.round_key w n)
     ≡ rounds_after step w b n
@@ -25,21 +25,21 @@ after_is step w b state first next (suc n) =
     (after_is step w b state first next n) ∙ next n
 
 -- Cipher is `all_rounds` of its steps
-pub is_cipher : (w : List (List ℕ)) (b : List ℕ)
+pub cipher_is : (w : List (List ℕ)) (b : List ℕ)
     → all_rounds (λ b. fips.mix_columns (fips.shift_rows (fips.sub_bytes b)))
     (λ b. fips.shift_rows (fips.sub_bytes b))
     w b ≡ fips.cipher_with w b
 unfolding all_rounds fips.cipher_with
-is_cipher w b = ap
+cipher_is w b = ap
     (λ s. fips.add_round_key (fips.shift_rows (fips.sub_bytes s))
     (fips.round_key w (fips.last_round w)))
     (after_is _ w b (fips.state_after w b) refl (λ n. refl) (fips.last_round w - 1))
 
 -- EqInvCipher is `all_rounds` of its steps
-pub is_eq_inv_cipher : (w : List (List ℕ)) (b : List ℕ)
+pub eq_inv_cipher_is : (w : List (List ℕ)) (b : List ℕ)
     → all_rounds (λ b. fips.inv_mix_columns (fips.inv_shift_rows (fips.inv_sub_bytes b)))
     (λ b. fips.inv_shift_rows (fips.inv_sub_bytes b)) w b ≡ fips.eq_inv_cipher_with w b
 unfolding all_rounds fips.eq_inv_cipher_with
-is_eq_inv_cipher w b = ap (λ s. fips.add_round_key (fips.inv_shift_rows (fips.inv_sub_bytes s))
+eq_inv_cipher_is w b = ap (λ s. fips.add_round_key (fips.inv_shift_rows (fips.inv_sub_bytes s))
     (fips.round_key w (fips.last_round w)))
     (after_is _ w b (fips.eq_inv_state_after w b) refl (λ n. refl) (fips.last_round w - 1))

@@ -14,7 +14,7 @@ use Rattle.aes_planes.specs.Fips197.{next_word_if, expanded_words, expanded_word
 use Rattle.aes_planes.specs.Fips197.{key_expansion, inverted_keys}
 use Rattle.aes_planes.specs.Rounds.{all_rounds}
 use Rattle.aes_planes.proofs.SBox.InverseSBox.{listed, inv_listed, sbox_listed, inv_sbox_listed}
-use Rattle.aes_planes.proofs.Standard.AllRounds.{is_cipher}
+use Rattle.aes_planes.proofs.Standard.AllRounds.{cipher_is}
 
 -- ---- the definitions, with any function in the place of the S-box
 
@@ -70,7 +70,7 @@ standard_added true b j w = refl
 standard_added false true j w = refl
 standard_added false false j w = refl
 
--- word i of the key expansion, from the words before it
+-- the standard's word i, from the words before it, is that by the S-box
 standard_next_word : (a : Bool) (key : List ℕ) (ws : List (List ℕ)) (i : ℕ)
     → next_word_if a key ws i ≡ next_word_with_sbox sbox a key ws i
 unfolding next_word_if next_word_with_sbox
@@ -81,7 +81,7 @@ standard_next_word false key ws i =
     (standard_added (i % nk == 0) (nat_lt 6 nk && (i % nk == 4)) (i / nk)
     (slice_index_or ws (i - 1) []))
 
--- the first n words of the key expansion
+-- the standard's first n words are those by the S-box
 standard_words : (key : List ℕ) (n : ℕ) → expanded_words key n ≡ words_with_sbox sbox key n
 unfolding expanded_words words_with_sbox
 standard_words key zero = refl
@@ -90,7 +90,7 @@ standard_words key (suc n) =
     ∙ ap (λ v. words_with_sbox sbox key n ++ v ∷ [])
     (standard_next_word (nat_lt n (key_words key)) key (words_with_sbox sbox key n) n)
 
--- the round keys of the key expansion
+-- the standard's round keys are those by the S-box
 standard_expansion : (key : List ℕ) → key_expansion key ≡ expansion_with_sbox sbox key
 unfolding key_expansion expansion_with_sbox
 standard_expansion key =
@@ -103,9 +103,9 @@ looked_up : (ℕ → ℕ) → (ℕ → ℕ) → ℕ → ℕ
 looked_up f table b = cond (nat_lt b 256) (table b) (f b)
 
 -- a function with the table's values at all bytes is looked up there
-is_looked_up : (f table : ℕ → ℕ) → ((b : ℕ) → b < 256 → f b ≡ table b) → f ≡ looked_up f table
+looked_up_is : (f table : ℕ → ℕ) → ((b : ℕ) → b < 256 → f b ≡ table b) → f ≡ looked_up f table
 unfolding looked_up
-is_looked_up f table e = fun_ext (λ b. cond_both (nat_lt b 256) (table b) (f b) (λ v. f b ≡ v)
+looked_up_is f table e = fun_ext (λ b. cond_both (nat_lt b 256) (table b) (f b) (λ v. f b ≡ v)
     (λ t. e b (ltb-true b 256 t)) (λ t. refl))
 
 -- the key expansion, by the table of the S-box
@@ -147,7 +147,7 @@ pub word_by_table_tells : (key : List ℕ) (i : ℕ) (v : List ℕ) → word_by_
     → expanded_word key i ≡ v
 unfolding expanded_word word_by_table
 word_by_table_tells key i v e = ap (λ ws. slice_index_or ws i []) (standard_words key (i + 1)
-    ∙ ap (λ s. words_with_sbox s key (i + 1)) (is_looked_up sbox listed sbox_listed)) ∙ e
+    ∙ ap (λ s. words_with_sbox s key (i + 1)) (looked_up_is sbox listed sbox_listed)) ∙ e
 
 -- the key expansion is what the table gives
 pub expansion_by_table_tells : (key : List ℕ) (w : List (List ℕ)) → expansion_by_table key ≡ w
@@ -155,7 +155,7 @@ pub expansion_by_table_tells : (key : List ℕ) (w : List (List ℕ)) → expans
 unfolding expansion_by_table
 expansion_by_table_tells key w e =
     standard_expansion key
-    ∙ ap (λ s. expansion_with_sbox s key) (is_looked_up sbox listed sbox_listed) ∙ e
+    ∙ ap (λ s. expansion_with_sbox s key) (looked_up_is sbox listed sbox_listed) ∙ e
 
 -- a round key for the equivalent inverse cipher is what the table gives
 pub inverted_key_tells : (key : List ℕ) (i : ℕ) (k : List ℕ)
@@ -169,14 +169,14 @@ pub cipher_is_by_table : (key b : List ℕ) → cipher key b ≡ cipher_by_table
 unfolding cipher_by_table sub_bytes
 cipher_is_by_table key b =
     let w : List (List ℕ) = expansion_by_table key in
-    ap (λ w. cipher_with w b) (expansion_by_table_tells key w refl) ∙ sym (is_cipher w b)
+    ap (λ w. cipher_with w b) (expansion_by_table_tells key w refl) ∙ sym (cipher_is w b)
     ∙ ap (λ s. all_rounds (λ b. mix_columns (shift_rows (map s b))) (λ b. shift_rows (map s b)) w b)
-    (is_looked_up sbox listed sbox_listed)
+    (looked_up_is sbox listed sbox_listed)
 
 -- InvSubBytes of a block is what the table gives
 pub inv_sub_bytes_tells : (b c : List ℕ) → inv_sub_by_table b ≡ c → inv_sub_bytes b ≡ c
 unfolding inv_sub_by_table inv_sub_bytes
-inv_sub_bytes_tells b c e = ap (λ s. map s b) (is_looked_up inv_sbox inv_listed inv_sbox_listed) ∙ e
+inv_sub_bytes_tells b c e = ap (λ s. map s b) (looked_up_is inv_sbox inv_listed inv_sbox_listed) ∙ e
 
 -- InvCipher by the tables is InvCipher
 pub inv_cipher_is_by_table : (key b : List ℕ) → inv_cipher key b ≡ inv_cipher_by_table key b
@@ -188,4 +188,4 @@ inv_cipher_is_by_table key b =
     ∙ ap (λ x. add_round_key (inv_sub_bytes (inv_shift_rows x)) (round_key w 0))
     (standard_inv_state w b n)
     ∙ ap (λ s. add_round_key (map s (inv_shift_rows (inv_state_with_sbox s w b n))) (round_key w 0))
-    (is_looked_up inv_sbox inv_listed inv_sbox_listed)
+    (looked_up_is inv_sbox inv_listed inv_sbox_listed)

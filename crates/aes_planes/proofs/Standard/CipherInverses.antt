@@ -7,7 +7,7 @@ use Rattle.aes_planes.specs.Fips197.{inv_mix_columns, add_round_key, state_after
 use Rattle.aes_planes.specs.Fips197.{inv_state_after, inv_cipher_with}
 use Rattle.aes_planes.proofs.Standard.Steps.{Undoes, both_undone, inv_sub_of_sub, sub_of_inv_sub}
 use Rattle.aes_planes.proofs.Standard.Steps.{inv_shift_undoes, shift_undoes, inv_mix_undoes}
-use Rattle.aes_planes.proofs.Standard.Steps.{mix_undoes, add_undoes, add_length}
+use Rattle.aes_planes.proofs.Standard.Steps.{mix_undoes, add_undoes, length-add_round_key}
 
 -- ---- a run of steps, and a run of steps that undo them in the other order
 
@@ -156,9 +156,9 @@ module _ (w : List (List ℕ)) where
         (run_block _ _ _ _ _ _ _ encryption b h (last_round w - 1) (omega (arith, keys.two)))).1 i)
 
   -- Cipher leaves sixteen bytes
-  pub cipher_length : (b : List ℕ) → length (cipher_with w b) ≡ 16
+  pub length-cipher : (b : List ℕ) → length (cipher_with w b) ≡ 16
   unfolding cipher_with
-  cipher_length b = add_length _ _
+  length-cipher b = length-add_round_key _ _
 
 -- where one function undoes another on blocks, it does so on lists of them
 undone_each : (f g : List ℕ → List ℕ) → ((b : List ℕ) → IsBlock b → g (f b) ≡ b)

@@ -7,28 +7,28 @@ use Rattle.aes_planes.specs.Fips197.{IsBytes, IsBlock, AreRoundKeys, add_round_k
 use Rattle.aes_planes.specs.Fips197.{inv_cipher, rounds, key_expansion, eq_inv_cipher_with}
 use Rattle.aes_planes.specs.Fips197.{inverted_keys}
 use Rattle.aes_planes.proofs.KeySchedule.ExpandedWords.{round_key_words}
-use Rattle.aes_planes.proofs.KeySchedule.ExpansionLength.{expansion_length, expansion_bytes}
+use Rattle.aes_planes.proofs.KeySchedule.ExpansionLength.{length-key_expansion, expansion_bytes}
 use Rattle.aes_planes.proofs.Standard.CipherInverses.{inv_cipher_of_cipher, cipher_of_inv_cipher}
-use Rattle.aes_planes.proofs.Standard.CipherInverses.{cipher_length, cipher_bytes}
+use Rattle.aes_planes.proofs.Standard.CipherInverses.{length-cipher, cipher_bytes}
 use Rattle.aes_planes.proofs.Standard.EquivalentInverse.{eq_inv_is_inv}
-use Rattle.aes_planes.proofs.Standard.States.{state_length}
-use Rattle.aes_planes.proofs.Standard.Steps.{add_block, add_length, add_key_twice}
+use Rattle.aes_planes.proofs.Standard.States.{length-state}
+use Rattle.aes_planes.proofs.Standard.Steps.{add_block, length-add_round_key, add_key_twice}
 
 -- a key expansion has two blocks and more
-pub two_keys : (key : List ℕ) → 2 ≤ length (key_expansion key)
-two_keys key = let e = expansion_length key in omega arith
+pub two_expanded : (key : List ℕ) → 2 ≤ length (key_expansion key)
+two_expanded key = let e = length-key_expansion key in omega arith
 
 -- EqInvCipher under a key's inverted round keys is InvCipher under the key
 pub inverse_of_expansion : (key b : List ℕ)
     → eq_inv_cipher_with (inverted_keys (key_expansion key)) b ≡ inv_cipher key b
-inverse_of_expansion key b = eq_inv_is_inv (key_expansion key) b (two_keys key)
+inverse_of_expansion key b = eq_inv_is_inv (key_expansion key) b (two_expanded key)
 
 -- a key of bytes expands to round keys, each of them a block
 pub expansion_round_keys : (key : List ℕ) → IsBytes key → AreRoundKeys (key_expansion key)
 expansion_round_keys key h = record {
-  two = two_keys key;
-  blocks = λ i lt. let j : i < rounds key + 1 = omega (arith, expansion_length key) in
-      (ap length (round_key_words key i j) ∙ state_length _, expansion_bytes key h i);
+  two = two_expanded key;
+  blocks = λ i lt. let j : i < rounds key + 1 = omega (arith, length-key_expansion key) in
+      (ap length (round_key_words key i j) ∙ length-state _, expansion_bytes key h i);
 }
 
 -- InvCipher undoes Cipher under the same key
@@ -68,4 +68,4 @@ pub ruleset places_of_each = (each_at, each_of, length-map)
 
 pub ruleset inverse_ciphers = (inv_cipher_undoes, cipher_undoes)
 
-pub ruleset block_sums = (cipher_length, cipher_bytes, add_length, sum_bytes, sum_twice)
+pub ruleset block_sums = (length-cipher, cipher_bytes, length-add_round_key, sum_bytes, sum_twice)

@@ -7,21 +7,21 @@ use Rattle.aes_planes.specs.Fips197.{state_after, inv_state_after, inv_cipher_wi
 use Rattle.aes_planes.specs.Fips197.{eq_inv_state_after, eq_inv_cipher_with}
 use Rattle.aes_planes.proofs.Standard.InvertedKeys.{inverted_length, inverted_end, inverted_middle}
 use Rattle.aes_planes.proofs.Mixing.MixColumns.{inv_mix_block, inv_mix_columns_add}
-use Rattle.aes_planes.proofs.Standard.Steps.{inv_sub_shift, add_length}
+use Rattle.aes_planes.proofs.Standard.Steps.{inv_sub_shift, length-add_round_key}
 
 -- the state after a round of Cipher has sixteen bytes
-pub after_length : (w : List (List ℕ)) (b : List ℕ) (n : ℕ) → length (state_after w b n) ≡ 16
+pub length-state_after : (w : List (List ℕ)) (b : List ℕ) (n : ℕ) → length (state_after w b n) ≡ 16
 unfolding state_after
-after_length w b zero = add_length b (round_key w 0)
-after_length w b (suc n) =
-    add_length (mix_columns (shift_rows (sub_bytes (state_after w b n)))) (round_key w (suc n))
+length-state_after w b zero = length-add_round_key b (round_key w 0)
+length-state_after w b (suc n) =
+    length-add_round_key (mix_columns (shift_rows (sub_bytes (state_after w b n)))) (round_key w (suc n))
 
 -- the state after a round of InvCipher has sixteen bytes
-pub inv_after_length : (w : List (List ℕ)) (b : List ℕ) (n : ℕ)
+pub length-inv_state_after : (w : List (List ℕ)) (b : List ℕ) (n : ℕ)
     → length (inv_state_after w b n) ≡ 16
 unfolding inv_state_after
-inv_after_length w b zero = add_length b (round_key w (last_round w))
-inv_after_length w b (suc n) = (inv_mix_block _).0
+length-inv_state_after w b zero = length-add_round_key b (round_key w (last_round w))
+length-inv_state_after w b (suc n) = (inv_mix_block _).0
 
 -- the last steps of a round of EqInvCipher are those of InvCipher
 module _ (w : List (List ℕ)) (b : List ℕ) where
@@ -39,7 +39,7 @@ module _ (w : List (List ℕ)) (b : List ℕ) where
       (inv_mix_columns (inv_shift_rows (inv_sub_bytes (equivalent n (omega arith) i)))) (sym key i))
       ∙ ap (λ v. add_round_key (inv_mix_columns v)
       (inv_mix_columns (round_key w (last_round w - suc n))))
-      (inv_sub_shift q (inv_after_length w b n))
+      (inv_sub_shift q (length-inv_state_after w b n))
       ∙ sym (inv_mix_columns_add (inv_sub_bytes (inv_shift_rows q))
       (round_key w (last_round w - suc n)))
 
@@ -58,4 +58,4 @@ module _ (w : List (List ℕ)) (b : List ℕ) where
       (inv_shift_rows (inv_sub_bytes (equivalent (last_round w - 1) (omega arith) i))) (key i))
       ∙ ap (λ v. add_round_key v (round_key w 0))
       (inv_sub_shift (inv_state_after w b (last_round w - 1))
-      (inv_after_length w b (last_round w - 1)))
+      (length-inv_state_after w b (last_round w - 1)))

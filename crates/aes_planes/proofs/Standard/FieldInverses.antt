@@ -82,10 +82,10 @@ record Inverse (b v : ℕ) : Type 0 where
   undoes : all_below 8 (λ i. field_mul v (field_mul b (2 ^ i)) == 2 ^ i) ≡ true
 
 -- each byte but 0 has the inverse that the table gives, by all cases
-has_inverse : (b : ℕ) → b < 256 → b ≢ 0 → Inverse b (untransformed b)
+inverse_found : (b : ℕ) → b < 256 → b ≢ 0 → Inverse b (untransformed b)
 unfolding all_below inverse_test untransformed turned_left sbox_table field_mul
-has_inverse zero h n = absurd (n refl)
-has_inverse (suc b) h n =
+inverse_found zero h n = absurd (n refl)
+inverse_found (suc b) h n =
     let p = and_parts _ _
     (all_below_tells 255 (λ b. inverse_test (suc b) (untransformed (suc b))) refl b
     (omega arith)) in
@@ -97,7 +97,7 @@ pub inverse_right : (b : ℕ) → b < 256 → b ≢ 0
     → (field_inverse b < 256) × (field_mul b (field_inverse b) ≡ 1)
 unfolding field_inverse
 inverse_right b h n =
-    let i = has_inverse b h n in
+    let i = inverse_found b h n in
     let found = byte_passes (λ c. field_mul b c == 1) (untransformed b) i.byte
     (eq-eqb _ _ i.product) in
     (found.1, eqb-true _ _ found.0)
@@ -109,13 +109,13 @@ power_only b c h n k e =
     sym (agree_by_powers (λ x. field_mul v (field_mul b x)) (λ x. x)
     (λ x y. ap (field_mul v) (field_mul_add b x y)
     ∙ field_mul_add v (field_mul b x) (field_mul b y)) (λ x y. refl)
-    (has_inverse b h n).undoes c k) ∙ ap (field_mul v) e ∙ field_mul_one v
+    (inverse_found b h n).undoes c k) ∙ ap (field_mul v) e ∙ field_mul_one v
 
 -- the search of the definition finds the inverse that the table gives
 inverse_listed_of : (b : ℕ) → b < 256 → b ≢ 0 → field_inverse b ≡ untransformed b
 inverse_listed_of b h n = let r = inverse_right b h n in power_only b (field_inverse b) h n r.0 r.1
 
--- the inverse of a byte, and 0 for 0, without a search
+-- the table gives the inverse of a byte, and 0 for 0, without a search
 pub inverse_listed : (b : ℕ) → b < 256 → field_inverse b ≡ untransformed b
 unfolding field_inverse field_mul least_byte first_from untransformed turned_left sbox_table
 inverse_listed zero h = refl

@@ -18,22 +18,22 @@ module _ (w : List (List ℕ)) (i : ℕ) (lt : i < length w) where
       if same then fips.round_key w (fips.last_round w - i) else fips.inv_mix_columns
       (fips.round_key w (fips.last_round w - i))
 
-  -- the definition at place i
+  -- place i of the inverted round keys has the key that the test for the ends chooses
   inverted_at : slice_index_or (fips.inverted_keys w) i []
       ≡ key_if ((i == 0) || (i == fips.last_round w))
   unfolding fips.inverted_keys key_if
   inverted_at = get_or-build (length w) i _ [] lt
 
   -- the test for the first and the last place is passed there
-  is_end : (i ≡ 0) ⊎ (i ≡ fips.last_round w) → ((i == 0) || (i == fips.last_round w)) ≡ true
-  is_end (inl e) = ap (λ v. v || (i == fips.last_round w)) (eq-eqb i 0 e)
-  is_end (inr e) = ap (λ v. (i == 0) || v) (eq-eqb i (fips.last_round w) e) ∙ or-true (i == 0)
+  end_passes : (i ≡ 0) ⊎ (i ≡ fips.last_round w) → ((i == 0) || (i == fips.last_round w)) ≡ true
+  end_passes (inl e) = ap (λ v. v || (i == fips.last_round w)) (eq-eqb i 0 e)
+  end_passes (inr e) = ap (λ v. (i == 0) || v) (eq-eqb i (fips.last_round w) e) ∙ or-true (i == 0)
 
   -- the first and the last round key stay as they are
   pub inverted_end : (i ≡ 0) ⊎ (i ≡ fips.last_round w) → fips.round_key w (fips.last_round w - i)
       ≡ slice_index_or (fips.inverted_keys w) i []
   unfolding key_if
-  inverted_end e = sym (inverted_at ∙ ap key_if (is_end e))
+  inverted_end e = sym (inverted_at ∙ ap key_if (end_passes e))
 
   -- the round keys between the first and the last are mixed back
   pub inverted_middle : i ≢ 0 → i ≢ fips.last_round w

@@ -7,7 +7,7 @@ use Rattle.aes_planes.specs.Fips197.{mix_row, inv_mix_row, mix_columns, inv_mix_
 use Rattle.aes_planes.specs.Fips197.{add_round_key, shift_rows, inv_shift_rows, inv_sbox}
 use Rattle.aes_planes.specs.Fips197.{inv_sub_bytes, IsBytes}
 use Rattle.aes_planes.proofs.Bits.ByteCases.{all_below, all_below_tells}
-use Rattle.aes_planes.proofs.Lists.{built}
+use Rattle.aes_planes.proofs.Lists.{build-get_or}
 use Rattle.aes_planes.proofs.Standard.FieldLaws.{add_swap, field_mul_add, agree_by_powers}
 use Rattle.aes_planes.proofs.Standard.States.{state_same}
 
@@ -18,7 +18,7 @@ pub shift_map : (f : ℕ → ℕ) (s : List ℕ) → length s ≡ 16
     → shift_rows (map f s) ≡ map f (shift_rows s)
 unfolding shift_rows build
 shift_map f s l = subst (λ (v : List ℕ). shift_rows (map f v) ≡ map f (shift_rows v))
-    (built 16 s 0 l) refl
+    (build-get_or 16 s 0 l) refl
 
 -- a function of each byte commutes with the inverse shifts
 inv_shift_map : (f : ℕ → ℕ) (s : List ℕ) → length s ≡ 16
@@ -26,7 +26,7 @@ inv_shift_map : (f : ℕ → ℕ) (s : List ℕ) → length s ≡ 16
 unfolding inv_shift_rows build
 inv_shift_map f s l =
     subst (λ (v : List ℕ). inv_shift_rows (map f v) ≡ map f (inv_shift_rows v))
-    (built 16 s 0 l) refl
+    (build-get_or 16 s 0 l) refl
 
 -- InvSubBytes and InvShiftRows commute
 pub inv_sub_shift : (s : List ℕ) → length s ≡ 16
@@ -179,7 +179,7 @@ pub inv_mix_columns_add : (s t : List ℕ) → inv_mix_columns (add_round_key s 
 unfolding inv_mix_columns times
 inv_mix_columns_add s t = times_add inv_mix_row s t
 
--- two matrices, one after the other, column by column
+-- one matrix after another is the two on each column
 times_times : (m n : ℕ → List ℕ) (s : List ℕ) → times m (times n s)
     ≡ state (λ r c. matrix m (matrix n (first_rows 4 (column s c))) r)
 unfolding times first_rows
@@ -201,7 +201,7 @@ times_as m n f p test s h =
 pub times_undone : (m n : ℕ → List ℕ) → agree_on_powers (λ v. matrix m (matrix n v)) (λ v. v) ≡ true
     → (s : List ℕ) → length s ≡ 16 → IsBytes s → times m (times n s) ≡ s
 unfolding state build first_rows
-times_undone m n test s l h = times_as m n (λ v. v) (λ v w. refl) test s h ∙ built 16 s 0 l
+times_undone m n test s l h = times_as m n (λ v. v) (λ v w. refl) test s h ∙ build-get_or 16 s 0 l
 
 -- two matrices whose squares agree on the powers of x in each row have equal squares on states of
 -- bytes

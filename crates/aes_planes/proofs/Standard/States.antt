@@ -10,11 +10,11 @@ use Rattle.aes_planes.specs.Fips197.{byte_at, state, IsBytes, IsBlock}
 use Rattle.aes_planes.proofs.Lists.{get_or-build, build_is, build_each}
 
 -- a state has sixteen bytes
-pub state_length : (f : ℕ → ℕ → ℕ) → length (state f) ≡ 16
+pub length-state : (f : ℕ → ℕ → ℕ) → length (state f) ≡ 16
 unfolding state
-state_length f = refl
+length-state f = refl
 
--- reading a state that was built
+-- a state that is built of f has the byte f r c in row r and column c
 pub byte_at-state : (f : ℕ → ℕ → ℕ) (r c : ℕ) → r < 4 → c < 4 → byte_at (state f) r c ≡ f r c
 unfolding state
 byte_at-state f r c h k =
@@ -34,7 +34,7 @@ state_is f s l h = build_is 16 (λ i. f (i % 4) (i / 4)) s 0 l
 -- states with the same bytes are the same
 pub state_same : (f g : ℕ → ℕ → ℕ) → ((r c : ℕ) → r < 4 → c < 4 → f r c ≡ g r c) → state f ≡ state g
 state_same f g h =
-    state_is f (state g) (state_length g) (λ r c p q. h r c p q ∙ sym (byte_at-state g r c p q))
+    state_is f (state g) (length-state g) (λ r c p q. h r c p q ∙ sym (byte_at-state g r c p q))
 
 -- a state of bytes is a list of bytes
 pub state_bytes : (f : ℕ → ℕ → ℕ) → ((r c : ℕ) → f r c < 256) → IsBytes (state f)
@@ -44,13 +44,13 @@ state_bytes f h =
 
 -- a state of bytes is a block
 pub state_block : (f : ℕ → ℕ → ℕ) → ((r c : ℕ) → f r c < 256) → IsBlock (state f)
-state_block f h = (state_length f, state_bytes f h)
+state_block f h = (length-state f, state_bytes f h)
 
 -- lists of bytes in each place
 abbrev pub RowsBytes : List (List ℕ) → Type 0
 RowsBytes m = (i : ℕ) → IsBytes (slice_index_or m i [])
 
--- a list of bytes, by a test of each
+-- a list whose numbers all pass the test for a byte is a list of bytes
 pub bytes_by_test : (s : List ℕ) → list_all (λ x. nat_lt x 256) s ≡ true → IsBytes s
 bytes_by_test [] h i = omega arith
 bytes_by_test (x ∷ s) h zero =
@@ -75,7 +75,7 @@ append_bytes [] t h k i = k i
 append_bytes (x ∷ s) t h k zero = h 0
 append_bytes (x ∷ s) t h k (suc i) = append_bytes s t (λ j. h (suc j)) k i
 
--- the rows of a matrix of bytes
+-- a matrix whose numbers all pass the test for a byte has rows of bytes
 pub rows_by_test : (m : List (List ℕ)) → list_all (list_all (λ x. nat_lt x 256)) m ≡ true
     → RowsBytes m
 rows_by_test [] h r = λ i. omega arith

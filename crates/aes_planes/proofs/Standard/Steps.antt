@@ -1,45 +1,41 @@
 -- The steps on blocks: blocks stay blocks, and which steps undo which.
 use Rattle.std.proofs.Common.{◌≡◌, ℕ, zero, suc, ◌+◌, ◌-◌, ◌*◌, ◌%◌, ◌<◌, List, [], ◌∷◌, length}
 use Rattle.std.proofs.Common.{map, refl, ap, ◌∙◌, arith}
+use Rattle.std.proofs.lemmas.List.{length-map}
 use Rattle.aes_planes.specs.Fips197.{field_add, sbox, inv_sbox, byte_at, build, state, sub_bytes}
 use Rattle.aes_planes.specs.Fips197.{inv_sub_bytes, shift_rows, inv_shift_rows, shift_times}
 use Rattle.aes_planes.specs.Fips197.{mix_columns, inv_mix_columns, add_round_key, IsBytes, IsBlock}
 use Rattle.aes_planes.proofs.SBox.InverseSBox.{sbox_byte, inv_sbox_byte, sbox_of_inv_sbox}
 use Rattle.aes_planes.proofs.SBox.InverseSBox.{inv_sbox_of_sbox}
-use Rattle.aes_planes.proofs.Lists.{built}
+use Rattle.aes_planes.proofs.Lists.{build-get_or}
 use Rattle.aes_planes.proofs.Mixing.MixColumns.{mix_block, inv_mix_block, inv_mix_of_mix}
 use Rattle.aes_planes.proofs.Mixing.MixColumns.{mix_of_inv_mix}
 use Rattle.aes_planes.proofs.Standard.FieldLaws.{add_twice, field_add_byte}
 pub use Rattle.aes_planes.proofs.Standard.LinearSteps.{inv_sub_shift}
-pub use Rattle.aes_planes.proofs.Standard.States.{state_length, state_bytes, state_block}
+pub use Rattle.aes_planes.proofs.Standard.States.{length-state, state_bytes, state_block}
 
 -- ---- lengths
 
--- a function of each byte keeps the length
-pub map_length : (f : ℕ → ℕ) (s : List ℕ) → length (map f s) ≡ length s
-map_length f [] = refl
-map_length f (x ∷ s) = ap suc (map_length f s)
-
 -- ShiftRows leaves sixteen bytes
-pub shift_length : (s : List ℕ) → length (shift_rows s) ≡ 16
+pub length-shift_rows : (s : List ℕ) → length (shift_rows s) ≡ 16
 unfolding shift_rows
-shift_length s = refl
+length-shift_rows s = refl
 
 -- InvShiftRows leaves sixteen bytes
-pub inv_shift_length : (s : List ℕ) → length (inv_shift_rows s) ≡ 16
+pub length-inv_shift_rows : (s : List ℕ) → length (inv_shift_rows s) ≡ 16
 unfolding inv_shift_rows
-inv_shift_length s = refl
+length-inv_shift_rows s = refl
 
 -- AddRoundKey leaves sixteen bytes
-pub add_length : (s k : List ℕ) → length (add_round_key s k) ≡ 16
+pub length-add_round_key : (s k : List ℕ) → length (add_round_key s k) ≡ 16
 unfolding add_round_key
-add_length s k = refl
+length-add_round_key s k = refl
 
 -- any number of ShiftRows of a block leaves sixteen bytes
-pub shift_times_length : (n : ℕ) (s : List ℕ) → length s ≡ 16 → length (shift_times n s) ≡ 16
+pub length-shift_times : (n : ℕ) (s : List ℕ) → length s ≡ 16 → length (shift_times n s) ≡ 16
 unfolding shift_times
-shift_times_length zero s l = l
-shift_times_length (suc n) s l = shift_length (shift_times n s)
+length-shift_times zero s l = l
+length-shift_times (suc n) s l = length-shift_rows (shift_times n s)
 
 -- ---- bytes and blocks
 
@@ -102,7 +98,7 @@ pub record Undoes (f g : List ℕ → List ℕ) : Type 0 where
   -- f leaves of what g left the block that g was given
   pub undone : (s : List ℕ) → IsBlock s → f (g s) ≡ s
 
--- one step and then another, undone in the other order
+-- one step and then another are undone in the other order
 pub both_undone : {f g f' g' : List ℕ → List ℕ} → Undoes f g → Undoes f' g'
     → Undoes (λ s. f (f' s)) (λ s. g' (g s))
 both_undone {f = f} {g = g} p q = record {
@@ -120,7 +116,7 @@ map_undone f g u (x ∷ s) h = λ i. u x (h 0) i ∷ map_undone f g u s (λ j. h
 pub inv_sub_of_sub : Undoes inv_sub_bytes sub_bytes
 unfolding inv_sub_bytes sub_bytes
 inv_sub_of_sub = record {
-  block = λ s h. (map_length sbox s ∙ h.0, sub_bytes_bytes s);
+  block = λ s h. (length-map s sbox ∙ h.0, sub_bytes_bytes s);
   undone = λ s h. map_undone inv_sbox sbox inv_sbox_of_sbox s h.1;
 }
 
@@ -128,19 +124,19 @@ inv_sub_of_sub = record {
 pub sub_of_inv_sub : Undoes sub_bytes inv_sub_bytes
 unfolding inv_sub_bytes sub_bytes
 sub_of_inv_sub = record {
-  block = λ s h. (map_length inv_sbox s ∙ h.0, inv_sub_bytes_bytes s);
+  block = λ s h. (length-map s inv_sbox ∙ h.0, inv_sub_bytes_bytes s);
   undone = λ s h. map_undone sbox inv_sbox sbox_of_inv_sbox s h.1;
 }
 
 -- ShiftRows after InvShiftRows leaves a list of sixteen as it was
 pub shift_of_inv_shift : (s : List ℕ) → length s ≡ 16 → shift_rows (inv_shift_rows s) ≡ s
 unfolding inv_shift_rows shift_rows build
-shift_of_inv_shift s l = built 16 s 0 l
+shift_of_inv_shift s l = build-get_or 16 s 0 l
 
 -- InvShiftRows after ShiftRows leaves a list of sixteen as it was
 pub inv_shift_of_shift : (s : List ℕ) → length s ≡ 16 → inv_shift_rows (shift_rows s) ≡ s
 unfolding inv_shift_rows shift_rows build
-inv_shift_of_shift s l = built 16 s 0 l
+inv_shift_of_shift s l = build-get_or 16 s 0 l
 
 -- ShiftRows undoes InvShiftRows
 pub shift_undoes : Undoes shift_rows inv_shift_rows
@@ -161,7 +157,7 @@ inv_shift_undoes = record {
 -- four ShiftRows leave a list of sixteen as it was
 pub shift_four : (s : List ℕ) → length s ≡ 16 → shift_times 4 s ≡ s
 unfolding shift_times shift_rows state build
-shift_four s l = built 16 s 0 l
+shift_four s l = build-get_or 16 s 0 l
 
 -- InvMixColumns undoes MixColumns
 pub inv_mix_undoes : Undoes inv_mix_columns mix_columns
@@ -175,7 +171,7 @@ mix_undoes = record { block = λ s h. inv_mix_block s; undone = mix_of_inv_mix }
 pub add_key_twice : (s k : List ℕ) → length s ≡ 16 → add_round_key (add_round_key s k) k ≡ s
 unfolding add_round_key build
 add_key_twice s k l = (λ i. state (λ r c. add_twice (byte_at s r c) (byte_at k r c) i))
-    ∙ built 16 s 0 l
+    ∙ build-get_or 16 s 0 l
 
 -- AddRoundKey undoes itself
 pub add_undoes : (k : List ℕ) → IsBytes k → Undoes (λ s. add_round_key s k) (λ s. add_round_key s k)

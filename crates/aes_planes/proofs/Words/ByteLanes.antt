@@ -35,7 +35,8 @@ module _ (n : ℕ) where
       → length (zip2 f xs (replicate n s)) ≡ n
   length-splat f xs s d = length-zip2 f xs (replicate n s) (d ∙ sym (length-replicate n s)) ∙ d
 
-  -- two vectors under an operator, each under another with the same number in each lane
+  -- two vectors under an operator, each under another with the same number in each lane, are so
+  -- lane by lane
   pub lane_of_splats : (f g h : ℕ → ℕ → ℕ) (a b : List ℕ) (s t j : ℕ) → length a ≡ n
       → length b ≡ n → j < n
       → get_or (zip2 f (zip2 g a (replicate n s)) (zip2 h b (replicate n t))) j 0
@@ -84,36 +85,36 @@ laid w lane xs = build w (λ i. bit (get_or xs (lane i) 0) (i % 8))
 
 module _ {n w : ℕ} {lane : ℕ → ℕ} (laws : IsLayout n w lane) where
   -- bit i of the word is that of the lane there
-  pub reads : (xs : List ℕ) (i : ℕ) → i < w
+  pub at-laid : (xs : List ℕ) (i : ℕ) → i < w
       → bit (get_or xs (lane i) 0) (i % 8) ≡ at (laid w lane xs) i
-  reads xs i h = sym (get_or-build w i (λ i. bit (get_or xs (lane i) 0) (i % 8)) false h)
+  at-laid xs i h = sym (get_or-build w i (λ i. bit (get_or xs (lane i) 0) (i % 8)) false h)
 
   -- bit i of the word, where the lane and the place in it are given by other terms
   pub bit_at : (xs : List ℕ) (j r i : ℕ) → i < w → j ≡ lane i → r ≡ i % 8
       → bit (get_or xs j 0) r ≡ at (laid w lane xs) i
-  bit_at xs j r i h e f = (λ t. bit (get_or xs (e t) 0) (f t)) ∙ reads xs i h
+  bit_at xs j r i h e f = (λ t. bit (get_or xs (e t) 0) (f t)) ∙ at-laid xs i h
 
-  -- bit r of byte j
+  -- bit r of byte j of the word is bit r of the lane there
   pub at_byte : (xs : List ℕ) (j r : ℕ) → 8 * j + 8 ≤ w → r < 8
       → at (laid w lane xs) (8 * j + r) ≡ bit (get_or xs (lane (8 * j)) 0) r
   at_byte xs j r h k = sym (bit_at xs (lane (8 * j)) r (8 * j + r) (omega arith)
       (laws.same (8 * j) (8 * j + r) (omega arith)) (omega arith))
 
-  -- a byte in every lane
+  -- a word with a byte in every lane has at each place the bit of the byte, by the place modulo 8
   pub byte_in_each : (b : ℕ) → Places w (laid w lane (replicate n b)) (λ i. bit b (i % 8))
   byte_in_each b = Places-build w _ _ (λ i h.
       ap (λ v. bit v (i % 8)) (get_or-replicate n (lane i) b 0 (laws.within i h)))
 
-  -- bit i of a lane that was picked so
-  read : (x : List ℕ) (i k o source : ℕ) (some : Bool)
+  -- bit i % 8 of a lane that was picked so is bit k of the word, or none
+  bit_picked : (x : List ℕ) (i k o source : ℕ) (some : Bool)
       → (some ≡ true → (k < w) × (source < 16) × (o + source ≡ lane k) × (i % 8 ≡ k % 8))
       → (some ≡ false → 16 ≤ source)
       → bit (lane_from x o source) (i % 8) ≡ (some && at (laid w lane x) k)
-  read x i k o source true there none =
+  bit_picked x i k o source true there none =
       let t = there refl in
       ap (λ b. bit (cond b (get_or x (o + source) 0) 0) (i % 8)) (lt-ltb source 16 t.1)
       ∙ bit_at x (o + source) (i % 8) k t.0 t.2 t.3
-  read x i k o source false there none =
+  bit_picked x i k o source false there none =
       ap (λ b. bit (cond b (get_or x (o + source) 0) 0) (i % 8)) (le-ltb source 16 (none refl))
       ∙ bit_zero (i % 8)
 
@@ -135,7 +136,7 @@ module _ {n w : ℕ} {lane : ℕ → ℕ} (laws : IsLayout n w lane) where
       (omega arith)
       (laws.within i l))
       ∙ ap (λ o. lane_from x o source) start)
-      ∙ read x i k (16 * (j / 16)) source some there none
+      ∙ bit_picked x i k (16 * (j / 16)) source some there none
 
   -- ---- rotations and shifts by bits, made of those by bytes
   -- (in each lane are the high bits of a, and then the low bits of b)
@@ -160,7 +161,8 @@ module _ {n w : ℕ} {lane : ℕ → ℕ} (laws : IsLayout n w lane) where
       (laws.same i (i - q) (omega (arith, s, le)))
       (omega (arith, s, le)) ∙ high i l le))
 
-  -- a rotation by any number of bits, from those by bytes
+  -- two rotations by neighbouring numbers of bytes, joined within each lane, are a rotation by m
+  -- bits
   pub rotated : (x : List Bool) (a b : List ℕ) (m : ℕ) → length a ≡ n → length b ≡ n
       → Each1 (Fits w8) a
       → Turned w x (laid w lane a) (8 * (m / 8)) → Turned w x (laid w lane b) (8 * (m / 8 + 1))
@@ -173,7 +175,8 @@ module _ {n w : ℕ} {lane : ℕ → ℕ} (laws : IsLayout n w lane) where
       (λ i l s. b_is (i - (8 - m % 8)) (omega (arith, l))
       ∙ ap (λ v. at x (v % w)) (omega (arith, s)))
 
-  -- shifts to the right
+  -- two shifts right by neighbouring numbers of bytes, joined within each lane, are a shift by m
+  -- bits
   pub shifted_right : (x : List Bool) (a b : List ℕ) (m : ℕ) → length a ≡ n → length b ≡ n
       → Each1 (Fits w8) a
       → Right w x (laid w lane a) (8 * (m / 8)) → Right w x (laid w lane b) (8 * (m / 8 + 1))
@@ -186,7 +189,8 @@ module _ {n w : ℕ} {lane : ℕ → ℕ} (laws : IsLayout n w lane) where
       (λ i l s. b_is (i - (8 - m % 8)) (omega (arith, l))
       ∙ ap (λ v. nat_lt v w && at x v) (omega (arith, s)))
 
-  -- shifts to the left
+  -- two shifts left by neighbouring numbers of bytes, joined within each lane, are a shift by m
+  -- bits
   pub shifted_left : (x : List Bool) (a b : List ℕ) (m : ℕ) → length a ≡ n → length b ≡ n
       → Each1 (Fits w8) a
       → Left w x (laid w lane a) (8 * (m / 8 + 1)) → Left w x (laid w lane b) (8 * (m / 8))

@@ -9,7 +9,7 @@ use Rattle.aes_planes.specs.Words.{word_bits}
 use Rattle.aes_planes.proofs.Bits.BitCases.{same, same_tells}
 use Rattle.aes_planes.proofs.Bits.ByteCases.{all_below, all_below_tells, all_pairs_tell, by_four}
 use Rattle.aes_planes.proofs.Bits.Digits.{field_bit, rows_joined, byte_repeated}
-use Rattle.aes_planes.proofs.Bits.NumberBits.{bit_low, bit_shr, reads, number_calls}
+use Rattle.aes_planes.proofs.Bits.NumberBits.{bit_low, bit_shr, at-word_bits, number_calls}
 
 -- ---- a row of n bits a column
 
@@ -21,8 +21,8 @@ nibble_row b n =
     (b / 8 * 2 ^ (3 * n) % 2 ^ 32) * (1 * 2 ^ n % 2 ^ 32 - 1)
 
 -- a test of all bits of a nibble's row, and that it fits in a row and in 32 bits
-row_case : ℕ → ℕ → Bool
-row_case n b =
+row_test : ℕ → ℕ → Bool
+row_test n b =
     (nat_lt (nibble_row b n) (2 ^ (4 * n)) && nat_lt (nibble_row b n) (2 ^ 32))
     && all_below (4 * n) (λ q. same (bit (nibble_row b n) q) (bit b (q / n)))
 
@@ -30,11 +30,11 @@ row_case n b =
 row_right : (b n : ℕ) → b ≤ 15 → 1 ≤ n → n ≤ 8
     → (nibble_row b n < 2 ^ (4 * n)) × (nibble_row b n < 2 ^ 32)
     × ((q : ℕ) → q < 4 * n → bit (nibble_row b n) q ≡ bit b (q / n))
-unfolding all_below row_case same bit
+unfolding all_below row_test same bit
 row_right b zero h some few = absurd (omega arith)
 row_right b (suc m) h some few =
     let t = and_parts _ _
-    (all_pairs_tell 8 16 (λ m b. row_case (suc m) b) refl m b (omega arith) (omega arith)) in
+    (all_pairs_tell 8 16 (λ m b. row_test (suc m) b) refl m b (omega arith) (omega arith)) in
     let small = and_parts _ _ t.0 in (
       ltb-true _ _ small.0,
       ltb-true _ _ small.1,
@@ -69,7 +69,7 @@ column_below i R Q some e =
     let m : i % R < R = mod-lt i (omega (arith, e, some)) in
     row_below (i % R) Q (omega (arith, m, e))
 
--- one nibble in every row
+-- a list of four times the same nibble has it in every row
 pub same_nibble : (b j : ℕ) → j < 4 → get_or (b ∷ b ∷ b ∷ b ∷ []) j 0 ≡ b
 same_nibble b j h = by_four (λ j. get_or (b ∷ b ∷ b ∷ b ∷ []) j 0 ≡ b) refl refl refl refl j h
 
@@ -92,7 +92,7 @@ rows_packed {n = n} {x0 = x0} {x1 = x1} {x2 = x2} {x3 = x3} {r0 = r0} {r1 = r1} 
     let q = i % (4 * n) in
     let row : i / (4 * n) < 4 = row_below i (4 * n) (omega arith) in
     let column : q < 4 * n = mod-lt i (omega arith) in
-    sym (reads (16 * n) _ i h)
+    sym (at-word_bits (16 * n) _ i h)
     ∙ rows_joined (16 * n) (4 * n) x0 x1 x2 x3 (i / (4 * n)) q i
     (omega arith) a.small b.small c.small d.small row
     column (sym (div-add-mod' i (4 * n)))
@@ -112,7 +112,7 @@ rows_packed_16 r0 r1 r2 r3 i h0 h1 h2 h3 =
     } in
     rows_packed (own r0 h0) (own r1 h1) (own r2 h2) (own r3 h3) i
 
--- a number in four parts of w bits
+-- bit i of part p of a number in four parts of w bits is bit w * p + i of the number
 quarter_bit : (w x p i : ℕ) → p < 4 → i < w
     → bit (get_or (x % 2 ^ w ∷ x / 2 ^ w % 2 ^ w ∷ x / 2 ^ (2 * w) % 2 ^ w
     ∷ x / 2 ^ (3 * w) ∷ []) p 0) i
@@ -142,15 +142,15 @@ pub joined_bit : (a b c d p i : ℕ) → a < 2 ^ 16 → b < 2 ^ 16 → c < 2 ^ 1
 joined_bit a b c d p i f0 f1 f2 f3 hp hi =
     rows_joined 64 16 a b c d p i (16 * p + i) refl f0 f1 f2 f3 hp hi (omega arith)
 
--- a byte in every byte of a word of 16 bits
+-- a byte times 0x0101 has the byte in both bytes of 16 bits
 pub bytes_of_16 : (b : ℕ) → b < 256 → (i : ℕ) → i < 16 → bit (b * 0x0101) i ≡ bit b (i % 8)
 bytes_of_16 b f = byte_repeated 16 2 b _ refl f (omega arith)
 
--- a byte in every byte of a word of 32 bits
+-- a byte times 0x01010101 has the byte in every byte of 32 bits
 pub bytes_of_32 : (b : ℕ) → b < 256 → (i : ℕ) → i < 32 → bit (b * 0x01010101) i ≡ bit b (i % 8)
 bytes_of_32 b f = byte_repeated 32 4 b _ refl f (omega arith)
 
--- a byte in every byte of a word of 64 bits
+-- a byte times 0x0101010101010101 has the byte in every byte of 64 bits
 pub bytes_of_64 : (b : ℕ) → b < 256 → (i : ℕ) → i < 64
     → bit (b * 0x0101010101010101) i ≡ bit b (i % 8)
 bytes_of_64 b f = byte_repeated 64 8 b _ refl f (omega arith)

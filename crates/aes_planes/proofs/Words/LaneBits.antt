@@ -15,7 +15,7 @@ use Rattle.aes_planes.proofs.Planes.Held.{build-ext}
 use Rattle.aes_planes.proofs.Bits.NumberBits.{Places-build, bit_low}
 use Rattle.aes_planes.proofs.Words.ByteLanes.{IsLayout, bit_at, byte_in_each, funneled, swizzled}
 use Rattle.aes_planes.proofs.Words.ByteLanes.{rotated, shifted_right, shifted_left}
-use Rattle.aes_planes.proofs.Words.Swizzles.{sixteen, rotate_to, down_to, up_to, place_ok}
+use Rattle.aes_planes.proofs.Words.Swizzles.{lane_numbers, rotate_to, down_to, up_to, place_ok}
 use Rattle.aes_planes.proofs.Words.Swizzles.{masked_place}
 use Rattle.aes_planes.proofs.Words.Moved.{Turned, Right, Left, rotate_whole, shift_right_whole}
 use Rattle.aes_planes.proofs.Words.Moved.{shift_left_whole}
@@ -53,7 +53,7 @@ number_bits xs d f = build-ext 128 _ _ (λ i h.
 
 -- ---- lanes in their order
 
--- sixteen lanes, one after another
+-- sixteen lanes lie one after another
 pub narrow : IsLayout 16 128 (λ i. i / 8)
 narrow = record {
   sized = refl;
@@ -80,21 +80,21 @@ place_within = masked_place 16 0 refl
 
 -- a swizzle by the numbers m on, round the end, has in each place the bit m bytes on, round the end
 pub rotated_lanes : (x : List ℕ) (m : ℕ) → m < 16
-    → Places 128 (lane_bits (swz_l w8 16 x 0 (rotate_to sixteen m)))
+    → Places 128 (lane_bits (swz_l w8 16 x 0 (rotate_to lane_numbers m)))
     (λ i. at (lane_bits x) ((i + 8 * m) % 128))
 unfolding all_below
 rotated_lanes x m h = Places-build 128 _ _ (λ i l.
-    swizzled narrow (rotate_to sixteen) (λ m j. (j + m) % 16) refl x m i
+    swizzled narrow (rotate_to lane_numbers) (λ m j. (j + m) % 16) refl x m i
     ((i + 8 * m) % 128) true refl (omega arith) l
     (λ t. (omega arith, omega arith, omega arith, omega arith)) (λ t. absurd (grind (arith, t))))
 
 -- a swizzle by the numbers m on has in each place the bit m bytes on, and zeros past the last
 pub lanes_right : (x : List ℕ) (m : ℕ) → m ≤ 16
-    → Places 128 (lane_bits (swz_l w8 16 x 0 (down_to sixteen m)))
+    → Places 128 (lane_bits (swz_l w8 16 x 0 (down_to lane_numbers m)))
     (λ i. nat_lt (i + 8 * m) 128 && at (lane_bits x) (i + 8 * m))
 unfolding all_below
 lanes_right x m h = Places-build 128 _ _ (λ i l.
-    swizzled narrow (down_to sixteen) (λ m j. j + m) refl x m i (i + 8 * m)
+    swizzled narrow (down_to lane_numbers) (λ m j. j + m) refl x m i (i + 8 * m)
     (nat_lt (i + 8 * m) 128) refl h l
     (λ t. let lt : i + 8 * m < 128 = ltb-true (i + 8 * m) 128 t in
     (lt, omega arith, omega arith, omega arith))
@@ -102,11 +102,11 @@ lanes_right x m h = Places-build 128 _ _ (λ i l.
 
 -- a swizzle by the numbers m back has in each place the bit m bytes back, and zeros below the first
 pub lanes_left : (x : List ℕ) (m : ℕ) → m ≤ 16
-    → Places 128 (lane_bits (swz_l w8 16 x 0 (up_to sixteen m)))
+    → Places 128 (lane_bits (swz_l w8 16 x 0 (up_to lane_numbers m)))
     (λ i. nat_le (8 * m) i && at (lane_bits x) (i - 8 * m))
 unfolding all_below
 lanes_left x m h = Places-build 128 _ _ (λ i l.
-    swizzled narrow (up_to sixteen) (λ m j. (j + (256 - m)) % 256) refl x m i (i - 8 * m)
+    swizzled narrow (up_to lane_numbers) (λ m j. (j + (256 - m)) % 256) refl x m i (i - 8 * m)
     (nat_le (8 * m) i) refl h l
     (λ t. let le : 8 * m ≤ i = leb-true (8 * m) i t in
     (omega arith, omega arith, omega arith, omega arith))

@@ -7,7 +7,7 @@ use Rattle.std.specs.Int.{to_le_bytes, from_le_bytes, w32}
 use Rattle.std.proofs.lemmas.List.{ext_get_or, get_or-map, length-map}
 use Rattle.std.proofs.lemmas.Nat.{le_bytes_4}
 use Rattle.std.proofs.lemmas.Simd.{pick_l_left, Each1-get_or, Each1-from_get_or, below_from_Fits}
-use Rattle.std.proofs.lemmas.Bool.{cases_lt, eqb-true}
+use Rattle.std.proofs.lemmas.Bool.{cases_lt}
 use lib.Lanes.{Each1, pick_l, digits_l, number_l, all_below as all_lanes_below}
 use Rattle.aes_planes.specs.Bits.{at, bit}
 use Rattle.aes_planes.specs.Fips197.{byte_at, IsBlock}
@@ -17,10 +17,11 @@ use Rattle.aes_planes.specs.Words.{word_bits, lane_bits}
 use Rattle.aes_planes.proofs.Bits.ByteCases.{all_below, all_below_tells, all_pairs_tell, by_one}
 use Rattle.aes_planes.proofs.Bits.ByteCases.{by_four}
 use Rattle.aes_planes.proofs.Bits.Digits.{field_bit, regrouped, digits_small, each_small}
-use Rattle.aes_planes.proofs.Bits.NumberBits.{bit_low, reads}
+use Rattle.aes_planes.proofs.Bits.NumberBits.{bit_low, at-word_bits}
 use Rattle.aes_planes.proofs.Planes.Held.{place_lt}
 use Rattle.aes_planes.proofs.Planes.Holds.{holds_held}
 use Rattle.aes_planes.proofs.Words.LaneBits.{lane_at}
+use Rattle.aes_planes.proofs.Words.Swizzles.{picked_at}
 
 -- ---- planes and the words that they are the transpose of
 
@@ -148,7 +149,7 @@ module _ {A : Type 0} (bits : A → List Bool) (n : ℕ) (whose from : ℕ → �
       (λ t ht j p hj hp. loaded t ht j p hj hp ∙ ap (λ x. at x (8 * j + p))
       (sym (get_or-map bits words t d [] (omega (arith, lw, ht))))))
 
--- planes of one block, each a word
+-- eight words that have the bits of a block's bytes are planes that hold the block
 pub one_packed : (planes block : List ℕ) → length planes ≡ 8 → IsBlock block
     → ((p i : ℕ) → p < 8 → i < 16 → bit (get_or planes p 0) i ≡ bit (row_byte block i) p)
     → held 1 (map (word_bits 16) planes) ≡ block ∷ []
@@ -161,7 +162,7 @@ one_packed planes block lp typed turned =
     ≡ bit (row_byte (get_or (block ∷ []) k []) (4 * r + c)) p)
     (ap (λ w. at w (place 1 r c 0)) (get_or-map (word_bits 16) planes p 0 [] (omega (arith, lp)))
     ∙ ap (at (word_bits 16 (get_or planes p 0))) spot
-    ∙ sym (reads 16 (get_or planes p 0) (4 * r + c) (omega arith))
+    ∙ sym (at-word_bits 16 (get_or planes p 0) (4 * r + c) (omega arith))
     ∙ turned p (4 * r + c) hp (omega arith)) k)
 
 -- ---- words of four bytes
@@ -177,7 +178,7 @@ word_to_four f bs x bytes_are first second third fourth j p hj hp =
     ((λ t. bit ((second ∙ ap (λ v. get_or v 1 0) bytes_are) t) p) ∙ field_bit x 8 8 p hp)
     ((λ t. bit ((third ∙ ap (λ v. get_or v 2 0) bytes_are) t) p) ∙ field_bit x 16 8 p hp)
     ((λ t. bit ((fourth ∙ ap (λ v. get_or v 3 0) bytes_are) t) p) ∙ field_bit x 24 8 p hp) j hj
-    ∙ reads 32 x (8 * j + p) (omega arith)
+    ∙ at-word_bits 32 x (8 * j + p) (omega arith)
 
 -- four bytes that make a word of 32 bits have the word's bits, eight each from the lowest on
 word_of_four : (f : ℕ → ℕ) (bs : List ℕ) (x : ℕ) → length bs ≡ 4 → ((i : ℕ) → get_or bs i 0 < 256)
@@ -186,7 +187,7 @@ word_of_four : (f : ℕ → ℕ) (bs : List ℕ) (x : ℕ) → length bs ≡ 4 �
     → (j p : ℕ) → j < 4 → p < 8 → bit (f j) p ≡ at (word_bits 32 x) (8 * j + p)
 word_of_four f bs x l s e = word_to_four f bs x (sym (le_bytes_4 bs x l s e))
 
--- a column of a block as a word
+-- the word of a column of a block has the bits of the column's bytes
 pub column_word : (xs : List ℕ) (c j p x : ℕ) → ((i : ℕ) → get_or xs i 0 < 256) → c < 4
     → j < 4 → p < 8
     → x ≡ from_le_bytes w32 (get_or xs (4 * c) 0 ∷ get_or xs (4 * c + 1) 0 ∷ get_or xs (4 * c + 2) 0
@@ -222,49 +223,47 @@ module _ (xs ks : List ℕ) (d : length xs ≡ 16) (within : T (all_lanes_below 
   pub swizzled : (i o : ℕ) → i < length ks → (get_or ks i 0 == o) ≡ true
       → get_or (pick_l 0 (xs ++ xs) ks) i 0 ≡ get_or xs o 0
   swizzled i o h k =
-      ap (λ v. get_or v i 0) (pick_l_left 0 xs xs 16 ks d within)
-      ∙ get_or-map (λ k. get_or xs k 0) ks i 0 0 h
-      ∙ ap (λ v. get_or xs v 0) (eqb-true _ _ k)
+      ap (λ v. get_or v i 0) (pick_l_left 0 xs xs 16 ks d within) ∙ picked_at xs ks i o h k
 
 -- rows for columns, and columns for rows
 
 -- the swizzle that exchanges rows and columns
-abbrev pub flipped : List ℕ
-flipped = 0 ∷ 4 ∷ 8 ∷ 12 ∷ 1 ∷ 5 ∷ 9 ∷ 13 ∷ 2 ∷ 6 ∷ 10 ∷ 14 ∷ 3 ∷ 7 ∷ 11 ∷ 15 ∷ []
+abbrev pub flipped_places : List ℕ
+flipped_places = 0 ∷ 4 ∷ 8 ∷ 12 ∷ 1 ∷ 5 ∷ 9 ∷ 13 ∷ 2 ∷ 6 ∷ 10 ∷ 14 ∷ 3 ∷ 7 ∷ 11 ∷ 15 ∷ []
 
 -- byte j of a block read row by row is lane j of the block swizzled
 pub by_rows_at : (xs : List ℕ) (j p : ℕ) → length xs ≡ 16 → j < 16 → p < 8
-    → bit (row_byte xs j) p ≡ at (lane_bits (pick_l 0 (xs ++ xs) flipped)) (8 * j + p)
+    → bit (row_byte xs j) p ≡ at (lane_bits (pick_l 0 (xs ++ xs) flipped_places)) (8 * j + p)
 unfolding all_below
-by_rows_at xs j p d h hp = sym (lane_at (pick_l 0 (xs ++ xs) flipped) j p h hp
-    ∙ ap (λ v. bit v p) (swizzled xs flipped d tt j (j / 4 + 4 * (j % 4)) h
-    (all_below_tells 16 (λ j. get_or flipped j 0 == j / 4 + 4 * (j % 4)) refl j h)))
+by_rows_at xs j p d h hp = sym (lane_at (pick_l 0 (xs ++ xs) flipped_places) j p h hp
+    ∙ ap (λ v. bit v p) (swizzled xs flipped_places d tt j (j / 4 + 4 * (j % 4)) h
+    (all_below_tells 16 (λ j. get_or flipped_places j 0 == j / 4 + 4 * (j % 4)) refl j h)))
 
 -- lane j of a vector is byte j, read row by row, of the vector swizzled
 pub by_columns_at : (xs : List ℕ) (j p : ℕ) → length xs ≡ 16 → j < 16 → p < 8
-    → bit (row_byte (pick_l 0 (xs ++ xs) flipped) j) p ≡ at (lane_bits xs) (8 * j + p)
+    → bit (row_byte (pick_l 0 (xs ++ xs) flipped_places) j) p ≡ at (lane_bits xs) (8 * j + p)
 unfolding all_below
 by_columns_at xs j p d h hp =
-    ap (λ v. bit v p) (swizzled xs flipped d tt (j / 4 + 4 * (j % 4)) j (omega (arith, h))
-    (all_below_tells 16 (λ j. get_or flipped (j / 4 + 4 * (j % 4)) 0 == j) refl j h))
+    ap (λ v. bit v p) (swizzled xs flipped_places d tt (j / 4 + 4 * (j % 4)) j (omega (arith, h))
+    (all_below_tells 16 (λ j. get_or flipped_places (j / 4 + 4 * (j % 4)) 0 == j) refl j h))
     ∙ sym (lane_at xs j p h hp)
 
 -- sixteen bytes, swizzled, are a block
 pub by_columns_typed : (xs : List ℕ) → length xs ≡ 16 → Each1 (Fits w8) xs
-    → IsBlock (pick_l 0 (xs ++ xs) flipped)
+    → IsBlock (pick_l 0 (xs ++ xs) flipped_places)
 by_columns_typed xs d f =
-    (refl, swizzled_small xs flipped d tt (each_small 8 xs (below_from_Fits w8 xs f)))
+    (refl, swizzled_small xs flipped_places d tt (each_small 8 xs (below_from_Fits w8 xs f)))
 
 -- even and odd columns apart, and together
 
 -- the swizzle that puts the even columns, row by row, into the lower half and the odd ones into the
 -- upper
-abbrev pub apart : List ℕ
-apart = 0 ∷ 8 ∷ 1 ∷ 9 ∷ 2 ∷ 10 ∷ 3 ∷ 11 ∷ 4 ∷ 12 ∷ 5 ∷ 13 ∷ 6 ∷ 14 ∷ 7 ∷ 15 ∷ []
+abbrev pub apart_places : List ℕ
+apart_places = 0 ∷ 8 ∷ 1 ∷ 9 ∷ 2 ∷ 10 ∷ 3 ∷ 11 ∷ 4 ∷ 12 ∷ 5 ∷ 13 ∷ 6 ∷ 14 ∷ 7 ∷ 15 ∷ []
 
 -- the swizzle back, which alternates bytes of the two halves
-abbrev pub together : List ℕ
-together = 0 ∷ 2 ∷ 4 ∷ 6 ∷ 8 ∷ 10 ∷ 12 ∷ 14 ∷ 1 ∷ 3 ∷ 5 ∷ 7 ∷ 9 ∷ 11 ∷ 13 ∷ 15 ∷ []
+abbrev pub together_places : List ℕ
+together_places = 0 ∷ 2 ∷ 4 ∷ 6 ∷ 8 ∷ 10 ∷ 12 ∷ 14 ∷ 1 ∷ 3 ∷ 5 ∷ 7 ∷ 9 ∷ 11 ∷ 13 ∷ 15 ∷ []
 
 -- half o of a block so swizzled, as a word of 64 bits, has in lane j byte 2 * j + o of the block,
 -- row by row
@@ -272,19 +271,19 @@ pub apart_at : (xs : List ℕ) → length xs ≡ 16 → ((i : ℕ) → get_or xs
     → (j p : ℕ) → j < 8
     → p < 8
     → bit (row_byte xs (2 * j + o)) p ≡ at (word_bits 64 (get_or
-    (digits_l (2 ^ 64) 2 (number_l (2 ^ 8) (pick_l 0 (xs ++ xs) apart))) o 0)) (8 * j + p)
+    (digits_l (2 ^ 64) 2 (number_l (2 ^ 8) (pick_l 0 (xs ++ xs) apart_places))) o 0)) (8 * j + p)
 unfolding all_below
 apart_at xs d f o ho j p hj hp =
-    let ys = pick_l 0 (xs ++ xs) apart in
+    let ys = pick_l 0 (xs ++ xs) apart_places in
     let small = Each1-from_get_or (λ (v : ℕ). v < 2 ^ 8) ys 0
-    (λ i l. swizzled_small xs apart d tt f i) in
+    (λ i l. swizzled_small xs apart_places d tt f i) in
     sym (ap (λ v. bit v p)
-    (swizzled xs apart d tt (8 * o + j) ((2 * j + o) / 4 + 4 * ((2 * j + o) % 4)) (omega arith)
+    (swizzled xs apart_places d tt (8 * o + j) ((2 * j + o) / 4 + 4 * ((2 * j + o) % 4)) (omega arith)
     (all_pairs_tell 2 8
-    (λ o j. get_or apart (8 * o + j) 0 == (2 * j + o) / 4 + 4 * ((2 * j + o) % 4)) refl o j ho hj)))
+    (λ o j. get_or apart_places (8 * o + j) 0 == (2 * j + o) / 4 + 4 * ((2 * j + o) % 4)) refl o j ho hj)))
     ∙ sym (regrouped 64 8 2 ys o (8 * j + p) (8 * o + j) p small ho (omega arith) (omega arith) hp
     (omega arith))
-    ∙ reads 64 (get_or (digits_l (2 ^ 64) 2 (number_l (2 ^ 8) ys)) o 0) (8 * j + p) (omega arith)
+    ∙ at-word_bits 64 (get_or (digits_l (2 ^ 64) 2 (number_l (2 ^ 8) ys)) o 0) (8 * j + p) (omega arith)
 
 -- the sixteen bytes of two words of 64 bits
 abbrev pub bytes_of : ℕ → ℕ → List ℕ
@@ -293,26 +292,26 @@ bytes_of even odd = digits_l (2 ^ 8) 16 (number_l (2 ^ 64) (even ∷ odd ∷ [])
 -- byte 2 * j + o, row by row, of the block that two words are swizzled into is lane j of word o
 pub together_at : (even odd : ℕ) → even < 2 ^ 64 → odd < 2 ^ 64 → (o : ℕ) → o < 2 → (j p : ℕ)
     → j < 8 → p < 8
-    → bit (row_byte (pick_l 0 (bytes_of even odd ++ bytes_of even odd) together) (2 * j + o)) p
+    → bit (row_byte (pick_l 0 (bytes_of even odd ++ bytes_of even odd) together_places) (2 * j + o)) p
     ≡ at (word_bits 64 (get_or (even ∷ odd ∷ []) o 0)) (8 * j + p)
 unfolding all_below
 together_at even odd fe fo o ho j p hj hp =
-    ap (λ v. bit v p) (swizzled (bytes_of even odd) together refl tt
+    ap (λ v. bit v p) (swizzled (bytes_of even odd) together_places refl tt
     ((2 * j + o) / 4 + 4 * ((2 * j + o) % 4))
     (8 * o + j) (omega arith)
     (all_pairs_tell 2 8
-    (λ o j. get_or together ((2 * j + o) / 4 + 4 * ((2 * j + o) % 4)) 0 == 8 * o + j) refl o j ho
+    (λ o j. get_or together_places ((2 * j + o) / 4 + 4 * ((2 * j + o) % 4)) 0 == 8 * o + j) refl o j ho
     hj))
     ∙ regrouped 8 64 16 (even ∷ odd ∷ []) (8 * o + j) p o (8 * j + p) (fe, (fo, tt))
     (omega arith) hp ho (omega arith)
     (omega arith)
-    ∙ reads 64 (get_or (even ∷ odd ∷ []) o 0) (8 * j + p) (omega arith)
+    ∙ at-word_bits 64 (get_or (even ∷ odd ∷ []) o 0) (8 * j + p) (omega arith)
 
 -- two words of 64 bits so swizzled are a block
 pub together_typed : (even odd : ℕ)
-    → IsBlock (pick_l 0 (bytes_of even odd ++ bytes_of even odd) together)
+    → IsBlock (pick_l 0 (bytes_of even odd ++ bytes_of even odd) together_places)
 together_typed even odd = (
   refl,
-  swizzled_small (bytes_of even odd) together refl tt (each_small 8 (bytes_of even odd)
+  swizzled_small (bytes_of even odd) together_places refl tt (each_small 8 (bytes_of even odd)
       (digits_small 8 16 (number_l (2 ^ 64) (even ∷ odd ∷ [])))),
 )

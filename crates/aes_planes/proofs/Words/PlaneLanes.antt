@@ -11,11 +11,11 @@ use Rattle.aes_planes.proofs.Bits.Digits.{digits_small, regrouped}
 use Rattle.aes_planes.proofs.Words.ByteLanes.{lane_of_splat, length-splat, lane_small, shl8}
 use Rattle.std.proofs.lemmas.Simd.{below_from_Fits, get_or-zip2, get_or-replicate, length-zip2}
 use Rattle.std.proofs.lemmas.Simd.{mask_l-mod, bit_mask_l, tops_compared}
-use Rattle.aes_planes.proofs.Words.Packing.{swizzled, together}
+use Rattle.aes_planes.proofs.Words.Packing.{swizzled, together_places}
 
 -- ---- lanes of another width
 
--- a lane of sixteen bits, of two of sixty-four
+-- lane p of sixteen bits is a quarter of one of two lanes of sixty-four
 pub narrow_lane : (low high p i : ℕ) → low < 2 ^ 64 → high < 2 ^ 64 → p < 8 → i < 16
     → bit (get_or (digits_l (2 ^ 16) 8
     (number_l (2 ^ 8) (digits_l (2 ^ 8) 16 (number_l (2 ^ 64) (low ∷ high ∷ []))))) p
@@ -38,13 +38,13 @@ lane_bytes x = digits_l (2 ^ 8) 16 (number_l (2 ^ 16) x)
 
 -- byte 8 * j + r, of all lower bytes and then all upper ones, has bits 8 * j to 8 * j + 7 of lane r
 pub half_bit : (x : List ℕ) (j r i : ℕ) → length x ≡ 8 → Each1 (Fits w16) x → j < 2 → r < 8 → i < 8
-    → bit (get_or (pick_l 0 (lane_bytes x ++ lane_bytes x) together) (8 * j + r) 0) i
+    → bit (get_or (pick_l 0 (lane_bytes x ++ lane_bytes x) together_places) (8 * j + r) 0) i
     ≡ bit (get_or x r 0) (8 * j + i)
 unfolding all_below
 half_bit x j r i d f hj hr hi =
-    ap (λ v. bit v i) (swizzled (lane_bytes x) together refl tt (8 * j + r) (2 * r + j)
+    ap (λ v. bit v i) (swizzled (lane_bytes x) together_places refl tt (8 * j + r) (2 * r + j)
     (omega arith)
-    (all_pairs_tell 2 8 (λ j r. get_or together (8 * j + r) 0 == 2 * r + j) refl j r hj hr))
+    (all_pairs_tell 2 8 (λ j r. get_or together_places (8 * j + r) 0 == 2 * r + j) refl j r hj hr))
     ∙ regrouped 8 16 16 x (2 * r + j) i r (8 * j + i) (below_from_Fits w16 x f) (omega arith) hi
     (omega (arith, d))
     (omega arith) (omega arith)

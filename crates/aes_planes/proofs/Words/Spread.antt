@@ -35,11 +35,11 @@ drawn_bit s m x i h = bit_of_and (bit_or x (x * 2 ^ s % 2 ^ 64)) m i
 
 -- whether a place has the right bit: under a mask, the first or the second of two bits that can
 -- stand there
-joined_right : Bool → Bool → Bool → Bool → Bool → Bool → Bool
-joined_right p q false o e f = not o
-joined_right p q true false e f = not p && not q
-joined_right true q true true e f = e && (not q || f)
-joined_right false q true true e f = q && f
+joined_test : Bool → Bool → Bool → Bool → Bool → Bool → Bool
+joined_test p q false o e f = not o
+joined_test p q true false e f = not p && not q
+joined_test true q true true e f = e && (not q || f)
+joined_test false q true true e f = q && f
 
 -- the second of two bits stands alone, or is the same as the first
 second_alone : (q : Bool) (x : ℕ → Bool) (v w : ℕ) → (not q || (v == w)) ≡ true
@@ -48,25 +48,25 @@ second_alone true x v w h = ap (λ k. x w || x k) (eqb-true v w h) ∙ or_self (
 second_alone false x v w h = or-false (x w)
 
 -- what the mask lets through of two bits that pass the test is the right bit
-let_through : (p q b o : Bool) (x : ℕ → Bool) (u v w : ℕ)
-    → joined_right p q b o (u == w) (v == w) ≡ true
+right_bit_let_through : (p q b o : Bool) (x : ℕ → Bool) (u v w : ℕ)
+    → joined_test p q b o (u == w) (v == w) ≡ true
     → (((p && x u) || (q && x v)) && b) ≡ (o && x w)
-unfolding joined_right
-let_through p q false o x u v w h = and-false _ ∙ ap (λ c. c && x w) (sym (not-true o h))
-let_through p q true false x u v w h =
+unfolding joined_test
+right_bit_let_through p q false o x u v w h = and-false _ ∙ ap (λ c. c && x w) (sym (not-true o h))
+right_bit_let_through p q true false x u v w h =
     let t = and_parts (not p) (not q) h in
     (λ i. ((not-true p t.0 i && x u) || (not-true q t.1 i && x v)) && true)
-let_through true q true true x u v w h =
+right_bit_let_through true q true true x u v w h =
     let t = and_parts (u == w) _ h in
     and-true _ ∙ ap (λ k. x k || (q && x v)) (eqb-true u w t.0) ∙ second_alone q x v w t.1
-let_through false q true true x u v w h =
+right_bit_let_through false q true true x u v w h =
     let t = and_parts q (v == w) h in
     and-true _ ∙ (λ i. t.0 i && x (eqb-true v w t.1 i))
 
 -- the test of one step of spreading at place i
 step_test : ℕ → ℕ → (ℕ → Bool) → (ℕ → Bool) → (ℕ → ℕ) → (ℕ → ℕ) → ℕ → Bool
 step_test s m on on-next from from-next i =
-    joined_right (on i) (nat_le s i && on (i - s)) (bit m i) (on-next i) (from i == from-next i)
+    joined_test (on i) (nat_le s i && on (i - s)) (bit m i) (on-next i) (from i == from-next i)
     (from (i - s) == from-next i)
 
 module _ (s m : ℕ) (on on-next : ℕ → Bool) (from from-next : ℕ
@@ -80,7 +80,7 @@ module _ (s m : ℕ) (on on-next : ℕ → Bool) (from from-next : ℕ
       g i h ∙ (λ t. (f i h t || (nat_le s i && f (i - s) (omega arith) t)) && bit m i)
       ∙ ap (λ v. ((on i && bit x (from i)) || v) && bit m i)
       (sym (and_assoc (nat_le s i) (on (i - s)) (bit x (from (i - s)))))
-      ∙ let_through (on i) (nat_le s i && on (i - s)) (bit m i) (on-next i) (bit x) (from i)
+      ∙ right_bit_let_through (on i) (nat_le s i && on (i - s)) (bit m i) (on-next i) (bit x) (from i)
       (from (i - s)) (from-next i)
       (all_below_tells 64 (step_test s m on on-next from from-next) right i h)
 
@@ -116,7 +116,7 @@ pub each_four_times : (x eights fours twos ones twice last : ℕ) → x < 2 ^ 16
     → Drawn 3 0x1111111111111111 twos ones → Drawn 1 0x3333333333333333 ones twice
     → Drawn 2 0xffffffffffffffff twice last
     → (i : ℕ) → i < 64 → bit last i ≡ bit x (i / 4)
-unfolding all_below step_test joined_right bit
+unfolding all_below step_test joined_test bit
 each_four_times x eights fours twos ones twice last f d24 d12 d6 d3 d1 d2 =
     let at = first_places in
     let to = from_place in
@@ -189,7 +189,7 @@ unfolding all_below
 bit_of_lane j h = eqb-true _ _
     (all_below_tells 16 (λ j. get_or (powers ++ powers) j 0 == 2 ^ (j % 8)) refl j h)
 
--- one byte in eight lanes, and another in eight more
+-- of sixteen lanes, the first eight have one byte and the others another
 pub byte_of_lane : (low high j : ℕ) → j < 16
     → get_or (replicate 8 low ++ replicate 8 high) j 0 ≡ get_or (low ∷ high ∷ []) (j / 8) 0
 byte_of_lane low high j h =
@@ -209,7 +209,7 @@ lane_of_ones : (b : Bool) (p : ℕ) → p < 8 → bit (cond b 255 0) p ≡ b
 lane_of_ones true p h = bit_ones 8 p h
 lane_of_ones false p h = bit_zero p
 
--- bit p of byte q of a word of sixteen bits
+-- bit p of byte q of a word of sixteen bits is bit 8 * q + p of the word
 byte_of_two : (x q p : ℕ) → q < 2 → p < 8
     → bit (get_or (x % 256 ∷ x / 256 ∷ []) q 0) p ≡ bit x (8 * q + p)
 byte_of_two x q p hq hp =

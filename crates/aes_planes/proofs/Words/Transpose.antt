@@ -13,7 +13,7 @@ use Rattle.aes_planes.specs.Words.{word_bits}
 use Rattle.aes_planes.proofs.Bits.BitCases.{all_bools, all_bools_tells, same, same_tells, xor_false}
 use Rattle.aes_planes.proofs.Bits.ByteCases.{all_below, all_pairs_tell}
 use Rattle.aes_planes.proofs.Bits.NumberBits.{bit_shl, bit_shl_high, bit_shr, bit_above, bit_of_and}
-use Rattle.aes_planes.proofs.Bits.NumberBits.{bit_of_xor, reads}
+use Rattle.aes_planes.proofs.Bits.NumberBits.{bit_of_xor, at-word_bits}
 use Rattle.aes_planes.proofs.Words.Constants.{bytes_of_32, bytes_of_64}
 use Rattle.aes_planes.proofs.Words.ByteLanes.{IsLayout, laid, at_byte, lane_of_two, lane_of_splat}
 use Rattle.aes_planes.proofs.Words.ByteLanes.{length-splat, shr8, shl8}
@@ -21,17 +21,17 @@ use Rattle.aes_planes.proofs.Words.ByteLanes.{length-splat, shr8, shl8}
 -- ---- one exchange between two numbers
 
 -- the test of all cases
-chooses : List Bool → Bool
-chooses b =
+flip_test : List Bool → Bool
+flip_test b =
     same (xor (at b 0) (xor (at b 0) (at b 1) && at b 2)) (cond (at b 2) (at b 1) (at b 0))
     && same (xor (at b 0) (xor (at b 1) (at b 0) && at b 2)) (cond (at b 2) (at b 1) (at b 0))
 
 -- a bit that differs is flipped exactly where the mask says so
 flipped_by_mask : (a b k : Bool)
     → (xor a (xor a b && k) ≡ cond k b a) × (xor a (xor b a && k) ≡ cond k b a)
-unfolding all_bools chooses same
+unfolding all_bools flip_test same
 flipped_by_mask a b k =
-    let t = and_parts _ _ (all_bools_tells 3 chooses refl (a ∷ b ∷ k ∷ []) refl) in
+    let t = and_parts _ _ (all_bools_tells 3 flip_test refl (a ∷ b ∷ k ∷ []) refl) in
     (same_tells _ _ t.0, same_tells _ _ t.1)
 
 -- a bit that differs from one that may come from below the lowest place is flipped where the mask
@@ -46,7 +46,7 @@ flipped_by_mask_if a b c false k e = xor_false a
 abbrev pub differing : ℕ → ℕ → ℕ → ℕ → ℕ
 differing s m low high = bit_and (bit_xor high (low / 2 ^ s)) m
 
--- bit j of `differing`
+-- bit j of `differing` says whether two bits differ under the mask
 differing_bit : (s m low high j : ℕ) → bit (differing s m low high) j
     ≡ (xor (bit high j) (bit low (j + s)) && bit m j)
 differing_bit s m low high j = bit_of_and (bit_xor high (low / 2 ^ s)) m j
@@ -74,19 +74,19 @@ exchanged_low w s m low high i h = bit_of_xor low (differing s m low high * 2 ^ 
 -- ---- the same in each lane, under a byte that shifts none of its bits out of a lane
 
 -- a byte that shifts none of its bits out of a lane has no bit among the s highest
-outside : (s m r : ℕ) → m * 2 ^ s < 2 ^ 8 → 8 ≤ r + s → bit m r ≡ false
-outside s m r f h =
+no_mask_past_lane : (s m r : ℕ) → m * 2 ^ s < 2 ^ 8 → 8 ≤ r + s → bit m r ≡ false
+no_mask_past_lane s m r f h =
     let e : r ≡ r + s - s = omega arith in
     ap (bit m) e ∙ sym (bit_shl_high m s (r + s) (omega arith))
     ∙ bit_above (m * 2 ^ s) 8 (r + s) f h
 
 -- a bit under the mask stays in its lane
-pub inside : (s m r : ℕ) → m * 2 ^ s < 2 ^ 8 → bit m r ≡ true → r + s < 8
-inside s m r f h =
+pub mask_within_lane : (s m r : ℕ) → m * 2 ^ s < 2 ^ 8 → bit m r ≡ true → r + s < 8
+mask_within_lane s m r f h =
     elim (cases_lt (r + s) 8) as (λ _. r + s < 8) [
       | inl lt ↦ lt
       | inr le ↦ absurd
-          (grind (arith, h, outside s m r f le))
+          (grind (arith, h, no_mask_past_lane s m r f le))
     ]
 
 -- choices between bits that are the same where they are taken
@@ -95,21 +95,21 @@ chosen_same : (a b : Bool) (x y u v : Bool) → a ≡ b → (b ≡ true → x �
 chosen_same a true x y u v e f g = ap (λ c. cond c x y) e ∙ f refl
 chosen_same a false x y u v e f g = ap (λ c. cond c x y) e ∙ g
 
-module _ (w s m M low high : ℕ) (f : m * 2 ^ s < 2 ^ 8) (k : s < 8)
-    (rep : (i : ℕ) → i < w → bit M i ≡ bit m (i % 8)) where
-  -- the bit of a mask that repeats a byte, s places below bit r of a lane
+module _ (w s m M low high : ℕ) (stays : m * 2 ^ s < 2 ^ 8) (few : s < 8)
+    (repeated : (i : ℕ) → i < w → bit M i ≡ bit m (i % 8)) where
+  -- s places below bit r of a lane, a mask that repeats a byte has bit r - s of the byte, or none
   masked_below : (j r : ℕ) → 8 * j + 8 ≤ w → r < 8 → (r < s) ⊎ (s ≤ r)
       → (8 * j + r < s) ⊎ (s ≤ 8 * j + r)
       → (nat_le s (8 * j + r) && bit M (8 * j + r - s)) ≡ (nat_le s r && bit m (r - s))
   masked_below j r hj hr (inr le) (inr u) =
       let e : (8 * j + r - s) % 8 ≡ r - s = omega (arith, le, u) in
-      (λ i. le-leb s (8 * j + r) u i && (rep (8 * j + r - s) (omega arith) ∙ ap (bit m) e) i)
+      (λ i. le-leb s (8 * j + r) u i && (repeated (8 * j + r - s) (omega arith) ∙ ap (bit m) e) i)
       ∙ ap (λ b. b && bit m (r - s)) (sym (le-leb s r le))
   masked_below j r hj hr (inr le) (inl u) = absurd (omega (arith, le, u))
   masked_below j r hj hr (inl lt) (inr u) =
       let e : (8 * j + r - s) % 8 ≡ 8 + r - s = omega (arith, lt, u) in
-      let none = rep (8 * j + r - s) (omega arith) ∙ ap (bit m) e
-      ∙ outside s m (8 + r - s) f (omega (arith, lt)) in
+      let none = repeated (8 * j + r - s) (omega arith) ∙ ap (bit m) e
+      ∙ no_mask_past_lane s m (8 + r - s) stays (omega (arith, lt)) in
       (λ i. le-leb s (8 * j + r) u i && none i) ∙ ap (λ b. b && bit m (r - s)) (sym (lt-leb s r lt))
   masked_below j r hj hr (inl lt) (inl u) =
       ap (λ b. b && bit M (8 * j + r - s)) (lt-leb s (8 * j + r) u)
@@ -123,11 +123,11 @@ module _ (w s m M low high : ℕ) (f : m * 2 ^ s < 2 ^ 8) (k : s < 8)
   word_high j r hj hr =
       let byte : (8 * j + r) % 8 ≡ r = omega arith in
       let spot : 8 * j + r + s ≡ 8 * j + (r + s) = omega arith in
-      sym (reads w (bit_xor high (differing s M low high)) (8 * j + r) (omega arith))
+      sym (at-word_bits w (bit_xor high (differing s M low high)) (8 * j + r) (omega arith))
       ∙ exchanged_high s M low high (8 * j + r)
-      ∙ chosen_same _ _ _ _ _ _ (rep (8 * j + r) (omega arith) ∙ ap (bit m) byte)
-      (λ e. ap (bit low) spot ∙ reads w low (8 * j + (r + s)) (omega (arith, hj, inside s m r f e)))
-      (reads w high (8 * j + r) (omega arith))
+      ∙ chosen_same _ _ _ _ _ _ (repeated (8 * j + r) (omega arith) ∙ ap (bit m) byte)
+      (λ e. ap (bit low) spot ∙ at-word_bits w low (8 * j + (r + s)) (omega (arith, hj, mask_within_lane s m r stays e)))
+      (at-word_bits w high (8 * j + r) (omega arith))
 
   -- after an exchange the low word has, s places above the mask, the high word's bit s places down,
   -- and else its own
@@ -137,13 +137,13 @@ module _ (w s m M low high : ℕ) (f : m * 2 ^ s < 2 ^ 8) (k : s < 8)
       (at (word_bits w low) (8 * j + r))
   word_low j r hj hr =
       let i = 8 * j + r in
-      sym (reads w (bit_xor low (differing s M low high * 2 ^ s % 2 ^ w)) i (omega arith))
+      sym (at-word_bits w (bit_xor low (differing s M low high * 2 ^ s % 2 ^ w)) i (omega arith))
       ∙ exchanged_low w s M low high i (omega arith)
       ∙ chosen_same _ _ _ _ _ _ (masked_below j r hj hr (cases_lt r s) (cases_lt i s)) (λ e.
       let le : s ≤ r = leb-true s r (and_parts _ _ e).0 in
       let spot : 8 * j + r - s ≡ 8 * j + (r - s) = omega (arith, le) in
-      ap (bit high) spot ∙ reads w high (8 * j + (r - s)) (omega arith))
-      (reads w low i (omega arith))
+      ap (bit high) spot ∙ at-word_bits w high (8 * j + (r - s)) (omega arith))
+      (at-word_bits w low i (omega arith))
 
 pub ruleset exchange_calls = (word_high, word_low, bytes_of_32, bytes_of_64)
 
@@ -190,7 +190,7 @@ module _ {n w : ℕ} {lane : ℕ → ℕ} (laws : IsLayout n w lane) (s m : ℕ)
       ∙ ap (λ v. bit v r) (lane_of_two n bit_xor high moved l dh length-moved h
       ∙ ap (bit_xor (get_or high l 0)) (lane_of_moved l h))
       ∙ exchanged_high s m (get_or low l 0) (get_or high l 0) r
-      ∙ chosen_same _ _ _ _ _ _ refl (λ is. sym (at_byte laws low j (r + s) hj (inside s m r f is)))
+      ∙ chosen_same _ _ _ _ _ _ refl (λ is. sym (at_byte laws low j (r + s) hj (mask_within_lane s m r f is)))
       (sym (at_byte laws high j r hj hr))
 
   -- after an exchange the low vector has, s places above the mask, the high one's bit s places
@@ -223,8 +223,8 @@ choice words j true p q u v = refl
 choice words j false p q u v = refl
 
 -- the test of three exchanges, followed back: bit r of word w has to come from bit w of word r
-chain : ℕ → ℕ → Bool
-chain w r =
+exchanges_test : ℕ → ℕ → Bool
+exchanges_test w r =
     let w3 = source_word 4 0x0f w r in
     let r3 = source_bit 4 0x0f w r in
     let w2 = source_word 2 0x33 w3 r3 in
@@ -243,13 +243,13 @@ pub transposed : (n : ℕ) (words ones twos last : List (List Bool)) → Exchang
     → Exchanged n 2 0x33 ones twos
     → Exchanged n 4 0x0f twos last → (w j r : ℕ) → w < 8 → 8 * j + 8 ≤ n → r < 8
     → at (get_or last w []) (8 * j + r) ≡ at (get_or words r []) (8 * j + w)
-unfolding all_below chain bit
+unfolding all_below exchanges_test bit
 transposed n words ones twos last f g h w j r hw hj hr =
     let w3 = source_word 4 0x0f w r in
     let r3 = source_bit 4 0x0f w r in
     let w2 = source_word 2 0x33 w3 r3 in
     let r2 = source_bit 2 0x33 w3 r3 in
-    let t = and_parts _ _ (all_pairs_tell 8 8 chain refl w r hw hr) in
+    let t = and_parts _ _ (all_pairs_tell 8 8 exchanges_test refl w r hw hr) in
     let a = and_parts _ _ t.0 in
     let u = and_parts _ _ t.1 in
     let b = and_parts _ _ u.0 in

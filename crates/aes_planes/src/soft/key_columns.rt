@@ -5,7 +5,7 @@ ghost use Rattle.std.specs.Prelude.{◌≡◌, ℕ, cond, nat_lt, ◌+◌, ◌-�
 ghost use Rattle.std.specs.Prelude.{length, map, slice_index_or};
 ghost use Rattle.aes_planes.specs.Bits.{at, xor};
 ghost use Rattle.aes_planes.specs.Fips197 as fips;
-ghost use Rattle.aes_planes.specs.Planes.{held, place, zip_with, words_at, constant_block, summed};
+ghost use Rattle.aes_planes.specs.Planes.{held, place, zip_with, words_at, constant_block, fold_to};
 ghost use Rattle.aes_planes.specs.Planes.{columns_summed, columns_straddled};
 
 use crate::soft::word::Word;
@@ -52,7 +52,7 @@ pub fn xor_columns<W: Word>(round_keys: &mut [W], offset: usize, distance: usize
         ≡ slice_index_or round_keys.old i d }
     ensures sums { (i : ℕ) (d : _) (r c k : ℕ) → i < 8 → r < 4 → c < 4 → k < W.BLOCKS
         → at (W.bits (slice_index_or round_keys.new (offset + i) d)) (place W.BLOCKS r c k)
-        ≡ summed xor (λ e. at (W.bits (slice_index_or round_keys.old (offset + i - distance) d))
+        ≡ fold_to xor (λ e. at (W.bits (slice_index_or round_keys.old (offset + i - distance) d))
         (place W.BLOCKS r e k))
         (at (W.bits (slice_index_or round_keys.old (offset + i) d))
         ((place W.BLOCKS r 0 k + rotation) % W.BITS)) c }

@@ -15,7 +15,7 @@ use aes_planes::soft::word::Block;
 const ZERO_KEY: Block = [0; 16];
 
 // Encrypts each block (Cipher, FIPS 197, 5.1).
-#[tactic(auto, using(aes_planes::proofs::Standard::AllRounds::is_cipher))]
+#[tactic(auto, using(aes_planes::proofs::Standard::AllRounds::cipher_is))]
 pub(super) fn encrypt(blocks: &mut [Block], round_keys: &[Block])
     requires { 2 ≤ length round_keys.now }
     ensures { Each (fips.cipher_with round_keys.now) blocks.old blocks.new }
@@ -24,7 +24,7 @@ pub(super) fn encrypt(blocks: &mut [Block], round_keys: &[Block])
 }
 
 // Decrypts each block under inverted round keys (EqInvCipher, FIPS 197, 5.3.5).
-#[tactic(auto, using(aes_planes::proofs::Standard::AllRounds::is_eq_inv_cipher))]
+#[tactic(auto, using(aes_planes::proofs::Standard::AllRounds::eq_inv_cipher_is))]
 pub(super) fn decrypt(blocks: &mut [Block], inverted_keys: &[Block])
     requires { 2 ≤ length inverted_keys.now }
     ensures { Each (fips.eq_inv_cipher_with inverted_keys.now) blocks.old blocks.new }

@@ -13,13 +13,13 @@ use aes_cipher::zeroize::Wiped;
 use aes_planes::laws;
 use aes_planes::soft::sbox::Layers;
 
-/// Room for the round keys of a key of any size in the full layout, on words of one block: as many
-/// words as the largest has.
-pub type PlaneRoom = [u16; 120];
+/// Room for the round keys of a key of any size in the full layout: as many words as the largest
+/// has.
+pub type PlaneRoom<W> = [W; 120];
 
 /// Returns the stored round keys of a key: the first of the words.
 #[inline(always)]
-pub fn keys_in_room<K: KeySize>(room: &Wiped<PlaneRoom>) -> &[u16]
+pub fn keys_in_room<K: KeySize>(room: &Wiped<PlaneRoom<u16>>) -> &[u16]
     ensures words { result.now ≡ stored_words K.SIZE room.now }
     ensures count { length result.now ≡ words_for K.SIZE }
 {
@@ -28,7 +28,7 @@ pub fn keys_in_room<K: KeySize>(room: &Wiped<PlaneRoom>) -> &[u16]
 
 /// Writes the round keys of a key, as the full layout stores them: KeyExpansion (FIPS 197, 5.2).
 #[inline(always)]
-pub fn expand_in_room<K: KeySize>(room: &mut PlaneRoom, key: &[u8], layers: &mut Layers)
+pub fn expand_in_room<K: KeySize>(room: &mut PlaneRoom<u16>, key: &[u8], layers: &mut Layers)
     requires sized { length key.now ≡ K.SIZE }
     ensures schedule { IsFullSchedule (word_bits 16) 1 (stored_words K.SIZE room.new) }
     ensures key { key_of_planes (word_bits 16) 1 (stored_words K.SIZE room.new) ≡ key.now }

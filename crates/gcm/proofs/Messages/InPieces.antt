@@ -1,8 +1,7 @@
 -- GHASH and GCTR of strings that come in pieces.
-use Rattle.std.proofs.Common.{◌≡◌, ℕ, suc, ◌+◌, ◌-◌, ◌*◌, ◌/◌, ◌%◌, ◌<◌, List, [], ◌++◌}
-use Rattle.std.proofs.Common.{length, take, drop, inl, inr, subst, replicate, bit_xor, refl, ap}
-use Rattle.std.proofs.Common.{sym, ◌∙◌, arith, length-append, length-drop, length-take}
-use Rattle.std.proofs.Common.{append_assoc}
+use Rattle.std.proofs.Common.{◌≡◌, ℕ, suc, ◌+◌, ◌-◌, ◌*◌, ◌/◌, ◌%◌, ◌<◌, List, [], ◌++◌, length}
+use Rattle.std.proofs.Common.{take, drop, inl, inr, subst, replicate, bit_xor, refl, ap, sym, ◌∙◌}
+use Rattle.std.proofs.Common.{arith, length-append, length-drop, length-take, append_assoc}
 use Rattle.std.proofs.lemmas.List.{drop-append-le, take_all, take-append-drop}
 use Rattle.std.proofs.Math.ListN.{drop_of_length-le}
 use Rattle.std.specs.Int.{w64, w128, to_be_bytes, from_be_bytes}
@@ -16,8 +15,7 @@ use Rattle.gcm.specs.declared.message_state.Message.{Message}
 use Rattle.gcm.specs.declared.message_state.Phase.{Phase}
 use Rattle.gcm.proofs.Messages.Counting.{from_second}
 use Rattle.aes_cipher.proofs.Strings.{length-padded}
-use Rattle.gcm.proofs.Messages.Hashing.{hashed_first, hashed_on, hashed_whole}
-use Rattle.gcm.proofs.Messages.Hashing.{ghash_pieces}
+use Rattle.gcm.proofs.Messages.Hashing.{hashed_first, hashed_on, hashed_whole, ghash_pieces}
 
 -- GHASH after a piece that doesn't fill the block: the value stays, and the block has more bytes
 pub unfilled : (h y v : ℕ) (s rest b after : List ℕ) → IsHashing h y s v rest
@@ -62,7 +60,8 @@ filled h y v s rest b block after is whole written =
           (omega (arith, places)));
     }
 
--- GHASH after a string of whole blocks and a piece of whole blocks
+-- after a string of whole blocks, a piece of whole blocks is hashed, and no byte is left in the
+-- block
 pub whole_blocks : (h y v : ℕ) (s rest b after : List ℕ) → IsHashing h y s v rest
     → length s % 16 ≡ 0
     → length b % 16 ≡ 0
@@ -145,7 +144,7 @@ closed h y v s rest is =
     ∙ sym (hashed_on h y a (padded t) n (length (padded t) / 16) a_long)
     ∙ (λ i. hashed h y (whole i) (count i))
 
--- S of additional data and text, by the value after both and by their lengths
+-- S of additional data and text follows from the value after both and from their lengths
 pub summed : (h v m n : ℕ) (a c : List ℕ)
     → v ≡ hashed h (hashed_padded h a) (padded c) (length (padded c) / 16)
     → m ≡ length a → n ≡ length c

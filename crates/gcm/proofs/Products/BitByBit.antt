@@ -24,7 +24,7 @@ first_left x i inside =
     cut ∙ ap (λ p. x * 2 ^ i / p % 2) power
     ∙ ap (λ n. n % 2) (mul-div-mul_right x (2 ^ (127 - i)) (pow_pos i))
 
--- the partial product of one bit more
+-- the partial product of one bit more is the sum with the power of x, if the bit is 1
 pub one_more : (x h l z v w i : ℕ) → l ≡ x * 2 ^ i % 2 ^ 128 → z ≡ z_at x h i → v ≡ v_at h i
     → i < 128
     → w ≡ (if l / 2 ^ 127 == 0 then 0 else v) → bit_xor z w ≡ z_at x h (suc i)

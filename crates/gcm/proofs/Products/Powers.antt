@@ -8,11 +8,9 @@ use Rattle.aes_planes.proofs.Bits.ByteCases.{all_below, all_below_tells}
 use Rattle.gcm.specs.Gcm.{bit_of, v_at, next_v, product}
 use Rattle.gcm.specs.Multiples.{sum_of, byte_of, nibble_multiple, byte_multiple}
 use Rattle.gcm.proofs.Products.Linear.{term, term_adds, term_keeps, term_zero, term_below}
-use Rattle.gcm.proofs.Products.Linear.{term_mapped, term_through}
-use Rattle.gcm.proofs.Products.Linear.{product_terms, product_bytes, byte_small, sum-agree, sum-add}
-use Rattle.gcm.proofs.Products.Linear.{sum-zero, sum-through, v-sum, v_keeps, v_zero, v_swap}
-use Rattle.gcm.proofs.Products.Linear.{v_below}
-use Rattle.gcm.proofs.Products.Linear.{sum-below}
+use Rattle.gcm.proofs.Products.Linear.{term_mapped, term_through, product_terms, product_bytes}
+use Rattle.gcm.proofs.Products.Linear.{byte_small, sum-ext, sum-add, sum-zero, sum-through, v-sum}
+use Rattle.gcm.proofs.Products.Linear.{v_keeps, v_zero, v_swap, v_below, sum-below}
 use Rattle.gcm.proofs.Products.Reduction.{number_sum, placed}
 
 -- ---- products keep sums
@@ -33,7 +31,7 @@ product_left_keeps : (a b h : ℕ) → product (bit_xor a b) h ≡ bit_xor (prod
 unfolding product
 product_left_keeps a b h =
     product_terms (bit_xor a b) h 128
-    ∙ sum-agree 128 (λ i. term (bit_of (bit_xor a b) i) (v_at h i))
+    ∙ sum-ext 128 (λ i. term (bit_of (bit_xor a b) i) (v_at h i))
     (λ i. bit_xor (term (bit_of a i) (v_at h i)) (term (bit_of b i) (v_at h i)))
     (λ i l. ap (λ t. term t (v_at h i)) (bit_keeps a b i)
     ∙ term_adds (bit_of a i) (bit_of b i) (v_at h i) (bit_small a i) (bit_small b i))
@@ -45,7 +43,7 @@ product_right_keeps : (x a b : ℕ) → product x (bit_xor a b) ≡ bit_xor (pro
 unfolding product
 product_right_keeps x a b =
     product_terms x (bit_xor a b) 128
-    ∙ sum-agree 128 (λ i. term (bit_of x i) (v_at (bit_xor a b) i))
+    ∙ sum-ext 128 (λ i. term (bit_of x i) (v_at (bit_xor a b) i))
     (λ i. bit_xor (term (bit_of x i) (v_at a i)) (term (bit_of x i) (v_at b i)))
     (λ i l. ap (term (bit_of x i)) (v_keeps i a b) ∙ term_keeps (bit_of x i) (v_at a i) (v_at b i))
     ∙ sum-add 128 (λ i. term (bit_of x i) (v_at a i)) (λ i. term (bit_of x i) (v_at b i))
@@ -56,7 +54,7 @@ product_right_zero : (x : ℕ) → product x 0 ≡ 0
 unfolding product
 product_right_zero x =
     product_terms x 0 128
-    ∙ sum-agree 128 (λ i. term (bit_of x i) (v_at 0 i)) (λ i. 0)
+    ∙ sum-ext 128 (λ i. term (bit_of x i) (v_at 0 i)) (λ i. 0)
     (λ i l. ap (term (bit_of x i)) (v_zero i) ∙ term_zero (bit_of x i))
     ∙ sum-zero 128
 
@@ -69,7 +67,7 @@ pub product_right_v : (x a m : ℕ) → product x (v_at a m) ≡ v_at (product x
 unfolding product
 product_right_v x a m =
     product_terms x (v_at a m) 128
-    ∙ sum-agree 128 (λ i. term (bit_of x i) (v_at (v_at a m) i))
+    ∙ sum-ext 128 (λ i. term (bit_of x i) (v_at (v_at a m) i))
     (λ i. v_at (term (bit_of x i) (v_at a i)) m)
     (λ i l. ap (term (bit_of x i)) (v_swap a m i) ∙ sym (term_through (bit_of x i) (v_at a i) m))
     ∙ sym (v-sum 128 m (λ i. term (bit_of x i) (v_at a i)))
@@ -84,7 +82,7 @@ product_left_swap x y h =
     ap (product x) (product_terms y h 128)
     ∙ sum-through (product x) (product_right_zero x) (product_right_keeps x) 128
     (λ i. term (bit_of y i) (v_at h i))
-    ∙ sum-agree 128 (λ i. product x (term (bit_of y i) (v_at h i)))
+    ∙ sum-ext 128 (λ i. product x (term (bit_of y i) (v_at h i)))
     (λ i. term (bit_of y i) (v_at (product x h) i))
     (λ i l. product_right_term x (bit_of y i) (v_at h i)
     ∙ ap (term (bit_of y i)) (product_right_v x h i))
@@ -100,7 +98,7 @@ one_test = refl
 pub product_by_one : (a : ℕ) → a < 2 ^ 128 → product a (2 ^ 127) ≡ a
 product_by_one a small =
     product_bytes a (2 ^ 127)
-    ∙ sum-agree 16 (λ j. v_at (byte_multiple (2 ^ 127) (byte_of a j)) (8 * j))
+    ∙ sum-ext 16 (λ j. v_at (byte_multiple (2 ^ 127) (byte_of a j)) (8 * j))
     (λ j. byte_of a j * 2 ^ (8 * (15 - j)))
     (λ j l. ap (λ m. v_at m (8 * j))
     (eqb-true _ _ (all_below_tells 256 (λ b. byte_multiple (2 ^ 127) b == b * 2 ^ 120)

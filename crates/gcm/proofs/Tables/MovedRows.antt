@@ -18,9 +18,8 @@ use Rattle.aes_permute.proofs.ByHalves.{by_half, half_of_both, half_of_zip}
 use Rattle.gcm.specs.declared.moved_rows.TheConstants.{FALLEN_FIRST, FALLEN_SECOND}
 use Rattle.gcm.specs.Gcm.{next_v, v_at}
 use Rattle.gcm.specs.Multiples.{byte_of, nibble_multiple, multiples_row, multiples_rows, row_at}
-use Rattle.gcm.proofs.Products.Linear.{sum-agree, v-sum, v_keeps, v_swap, v_shifted, term}
-use Rattle.gcm.proofs.Products.Linear.{term_through}
-use Rattle.gcm.proofs.Products.Linear.{sum_without_carry, nibble_below}
+use Rattle.gcm.proofs.Products.Linear.{sum-ext, v-sum, v_keeps, v_swap, v_shifted, term}
+use Rattle.gcm.proofs.Products.Linear.{term_through, sum_without_carry, nibble_below}
 use Rattle.gcm.proofs.Tables.Rows.{byte_of_sum, zero_at}
 
 -- ---- a number times x^4
@@ -130,7 +129,7 @@ nibble_four : (v n : ℕ) → nibble_multiple (v_at v 4) n ≡ v_at (nibble_mult
 unfolding nibble_multiple term
 nibble_four v n =
     let f = λ (i : ℕ). term (n / 2 ^ (3 - i) % 2) (v_at v i) in
-    sum-agree 4 (λ i. term (n / 2 ^ (3 - i) % 2) (v_at (v_at v 4) i)) (λ i. v_at (f i) 4)
+    sum-ext 4 (λ i. term (n / 2 ^ (3 - i) % 2) (v_at (v_at v 4) i)) (λ i. v_at (f i) 4)
     (λ i h. ap (term (n / 2 ^ (3 - i) % 2)) (v_swap v 4 i)
     ∙ sym (term_through (n / 2 ^ (3 - i) % 2) (v_at v i) 4))
     ∙ sym (v-sum 4 4 f)
@@ -191,7 +190,7 @@ fallen_long table m t last end long sized t_is last_is =
     length-zip2 bit_xor m t (long ∙ sym (ap length t_is ∙ length-map last (looked table)
     ∙ ap length last_is ∙ length-map end low_nibble ∙ sized)) ∙ long
 
--- the first row of a number times x^4: no row comes before it
+-- the first row of a number times x^4 has nothing of a row before it
 pub first_row : (v : ℕ) (rows : List (List ℕ)) (m t last : List ℕ) → v < 2 ^ 128
     → rows ≡ multiples_rows v → length m ≡ 16 → length (get_or rows 15 []) ≡ 16
     → ((n : ℕ) → n < 16 → get_or m n 0 ≡ bit_xor (get_or (get_or rows 0 []) n 0 / 16)
@@ -208,7 +207,7 @@ first_row v rows m t last small is long sized lanes t_is last_is =
     (looked FALLEN_FIRST (lane_of_row v 15 n rows is (omega arith) h u % 16)))
     ∙ sym (four_first (nibble_multiple v n) (nibble_below v n small)))
 
--- the second row of a number times x^4
+-- the second row of a number times x^4 has nibbles of the rows before it
 pub second_row : (v : ℕ) (rows : List (List ℕ)) (m t last : List ℕ)
     → rows ≡ multiples_rows v → length m ≡ 16 → length (get_or rows 15 []) ≡ 16
     → ((n : ℕ) → n < 16 → get_or m n 0 ≡ bit_xor (get_or (get_or rows 2 []) n 0 / 16)

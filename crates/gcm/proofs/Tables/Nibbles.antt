@@ -41,7 +41,7 @@ byte_if : (t : Bool) (y r : ℕ) → (if t then 0 else byte_of y r) ≡ byte_of 
 byte_if true y r = sym (byte_of_sum 0 0 r ∙ xor_self (byte_of 0 r))
 byte_if false y r = refl
 
--- the look-ups of byte r for a bit
+-- the look-ups of byte r for a bit are the row of that bit
 pub looked_bit : (v bit r : ℕ) (block : List ℕ) → bit < 4 → r < 16 → block ≡ to_be_bytes w128 v
     → map (looked block) (zip2 bit_or (replicate 16 r) (get_or WITHOUT bit [])) ≡ bit_row v bit r
 unfolding bit_row build build_from

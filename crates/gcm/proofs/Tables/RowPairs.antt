@@ -11,45 +11,38 @@ use Rattle.std.proofs.lemmas.List.{drop-drop, drop_at}
 use Rattle.std.proofs.lemmas.Simd.{pick_l-range_with_len, zip2_splat}
 use lib.Lanes.{zip2, pick_l}
 use Rattle.aes_planes.specs.Fips197.{IsBlock}
+use Rattle.aes_planes.proofs.Lists.{zip2_append}
 use Rattle.aes_permute.specs.Lookup.{looked, is_index, low_nibble, high_nibble, by_nibbles}
-use Rattle.aes_permute.specs.Lookup.{AreIndices}
+use Rattle.aes_permute.specs.Lookup.{AreIndices, Nibbles}
 use Rattle.aes_permute.proofs.ByHalves.{indices_append}
 use Rattle.aes_permute.proofs.Lookups.{low_nibbles_are, high_nibbles_are, nibbles_are_indices}
-use Rattle.aes_permute.proofs.Lookups.{low_is, high_is, nibbles_looked_up}
+use Rattle.aes_permute.proofs.Lookups.{nibbles_looked_up}
 
 -- ---- nibbles
+
+-- what vectors make of each byte of a block and the same number, they make of a block in both halves
+splat_twice : (f : ℕ → ℕ → ℕ) (v : ℕ) (x y : List ℕ) → length x ≡ 16
+    → zip2 f x (replicate 16 v) ≡ y → zip2 f (x ++ x) (replicate 32 v) ≡ y ++ y
+splat_twice f v x y long is =
+    let once : map (λ b. f b v) x ≡ y = sym (zip2_splat f x 16 v long) ∙ is in
+    zip2_splat f (x ++ x) 32 v (length-append x x ∙ omega (arith, long))
+    ∙ map-append (λ b. f b v) x x ∙ (λ t. once t ++ once t)
 
 -- a block in both halves of a vector, under the mask, has its low nibbles in both
 pub low_twice : (x : List ℕ) → IsBlock x
     → zip2 bit_and (x ++ x) (replicate 32 15) ≡ map low_nibble x ++ map low_nibble x
-low_twice x block =
-    let once : map (λ b. bit_and b 15) x ≡ map low_nibble x =
-    sym (zip2_splat bit_and x 16 15 block.0) ∙ low_nibbles_are x block in
-    zip2_splat bit_and (x ++ x) 32 15 (length-append x x ∙ omega (arith, block.0))
-    ∙ map-append (λ b. bit_and b 15) x x ∙ (λ t. once t ++ once t)
+low_twice x block = splat_twice bit_and 15 x _ block.0 (low_nibbles_are x block)
 
 -- a block in both halves of a vector, shifted, has its high nibbles in both
 pub high_twice : (x : List ℕ) → IsBlock x
     → zip2 (λ a b. a / 2 ^ b) (x ++ x) (replicate 32 4) ≡ map high_nibble x ++ map high_nibble x
-high_twice x block =
-    let once : map (λ b. b / 2 ^ 4) x ≡ map high_nibble x =
-    sym (zip2_splat (λ a b. a / 2 ^ b) x 16 4 block.0) ∙ high_nibbles_are x block in
-    zip2_splat (λ a b. a / 2 ^ b) (x ++ x) 32 4 (length-append x x ∙ omega (arith, block.0))
-    ∙ map-append (λ b. b / 2 ^ 4) x x ∙ (λ t. once t ++ once t)
+high_twice x block = splat_twice (λ a b. a / 2 ^ b) 4 x _ block.0 (high_nibbles_are x block)
 
--- low nibbles in both halves are indices of a table of sixteen bytes
-pub low_indices : (x places : List ℕ) → IsBlock x → places ≡ map low_nibble x ++ map low_nibble x
-    → AreIndices places
-low_indices x places block is =
-    let one = nibbles_are_indices (map low_nibble x) (low_is x block) in
-    ap (list_all is_index) is ∙ indices_append (map low_nibble x) (map low_nibble x) one one
-
--- high nibbles in both halves are indices of a table of sixteen bytes
-pub high_indices : (x places : List ℕ) → IsBlock x → places ≡ map high_nibble x ++ map high_nibble x
-    → AreIndices places
-high_indices x places block is =
-    let one = nibbles_are_indices (map high_nibble x) (high_is x block) in
-    ap (list_all is_index) is ∙ indices_append (map high_nibble x) (map high_nibble x) one one
+-- nibbles in both halves are indices of a table of sixteen bytes
+pub nibbles_twice : (x places : List ℕ) → Nibbles x → places ≡ x ++ x → AreIndices places
+nibbles_twice x places nibbles is =
+    let one = nibbles_are_indices x nibbles in
+    ap (list_all is_index) is ∙ indices_append x x one one
 
 -- ---- look-ups in the tables of the halves
 
@@ -61,16 +54,8 @@ indices_parts (x ∷ xs) ys h =
     let rest = indices_parts xs ys both.1 in
     ((λ t. both.0 t && rest.0 t), rest.1)
 
--- two lists of two parts are summed part by part
-zip2_append : (f : ℕ → ℕ → ℕ) (a b c d : List ℕ) → length a ≡ length c
-    → zip2 f (a ++ b) (c ++ d) ≡ zip2 f a c ++ zip2 f b d
-zip2_append f [] b [] d same = refl
-zip2_append f [] b (y ∷ c) d same = absurd (omega (arith, same))
-zip2_append f (x ∷ a) b [] d same = absurd (omega (arith, same))
-zip2_append f (x ∷ a) b (y ∷ c) d same =
-    ap (λ l. f x y ∷ l) (zip2_append f a b c d (omega (arith, same)))
-
--- what the nibbles of a block look up in both halves, summed
+-- the nibbles of a block, looked up in both halves and summed, are the look-ups by nibbles in each
+-- half
 pub rows_in_halves : (l1 l2 h1 h2 x lows highs low high : List ℕ) → length x ≡ 16
     → lows ≡ map low_nibble x ++ map low_nibble x → highs ≡ map high_nibble x ++ map high_nibble x
     → ((p q : List ℕ) → length p ≡ 16 → length q ≡ 16 → lows ≡ p ++ q
@@ -105,7 +90,8 @@ pub zeros_upper : (x : List ℕ) → length x ≡ 32
     → 0 ∷ pick_l 0 x (range_with_len 16 15) ≡ 0 ∷ take 15 (drop 16 x)
 zeros_upper x long = ap (λ l. 0 ∷ l) (pick_l-range_with_len 0 x 16 15 (omega (arith, long)))
 
--- the bytes of the lower half after the byte that fell out of the other vector's
+-- the byte that falls out of the lower half of one vector comes before the first fifteen of the
+-- other's
 pub lasts_lower : (x y : List ℕ) → length x ≡ 32 → length y ≡ 32
     → get_or (x ++ y) 15 0 ∷ pick_l 0 (x ++ y) (range_with_len 32 15)
     ≡ get_or (take 16 x) 15 0 ∷ take 15 (take 16 y)
@@ -117,7 +103,8 @@ lasts_lower x y x_long y_long =
     ∙ ap (take 15) (drop_at x y 32 x_long) ∙ sym (take-take 15 16 y (omega arith)) in
     λ t. last t ∷ rest t
 
--- the bytes of the upper half after the byte that fell out of the other vector's
+-- the byte that falls out of the upper half of one vector comes before the first fifteen of the
+-- other's
 pub lasts_upper : (x y : List ℕ) → length x ≡ 32 → length y ≡ 32
     → get_or (x ++ y) 31 0 ∷ pick_l 0 (x ++ y) (range_with_len 48 15)
     ≡ get_or (drop 16 x) 15 0 ∷ take 15 (drop 16 y)

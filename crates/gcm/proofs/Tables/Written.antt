@@ -17,7 +17,7 @@ use Rattle.gcm.specs.Multiples.{IsTable, HasMultiples}
 use Rattle.gcm.proofs.Products.Linear.{byte_small}
 use Rattle.gcm.proofs.Messages.Counting.{block_below}
 use Rattle.gcm.proofs.Products.Powers.{product_below}
-use Rattle.gcm.proofs.Tables.Rows.{byte_of_bytes, is_block}
+use Rattle.gcm.proofs.Tables.Rows.{byte_of_bytes, bytes_block}
 
 -- ---- tables
 
@@ -58,7 +58,7 @@ high_row rows rest h r is inside =
     ∙ get_or-build 16 p row [] (omega (arith, inside))
     ∙ ap (multiples_row h) back
 
--- the rows of a table by the last four bits of a byte
+-- row 16 + place_of r of a table is row r of the multiples of the number times x^4
 pub low_row : (rows : List (List ℕ)) (h r : ℕ) → rows ≡ table_of h → r < 16
     → get_or rows (16 + place_of r) [] ≡ multiples_row (v_at h 4) r
 unfolding table_of multiples_rows
@@ -98,7 +98,7 @@ subkey_below : (rows rest : List (List ℕ)) → rows ≡ table_of (subkey_in ro
 unfolding subkey_in
 subkey_below rows rest is =
     block_below (build 16 (λ r. get_or (get_or rows (place_of r) []) 8 0))
-    (is_block (build 16 (λ r. get_or (get_or rows (place_of r) []) 8 0))
+    (bytes_block (build 16 (λ r. get_or (get_or rows (place_of r) []) 8 0))
     (length-build 16 (λ r. get_or (get_or rows (place_of r) []) 8 0))
     (λ r inside. rw (get_or-build 16 r (λ r. get_or (get_or rows (place_of r) []) 8 0) 0 inside
     ∙ subkey_byte rows rest (subkey_in rows) r is inside) (byte_small (subkey_in rows) r)))
@@ -119,13 +119,13 @@ pub table_block : (v : ℕ) (rows : List (List ℕ)) → rows ≡ table_of v →
 table_block v rows is small = subkey_is rows [] v (is ∙ nothing_behind v) small
 
 -- a table that was written is a table of the block that is read off it
-pub is_table : (v : ℕ) (rows : List (List ℕ)) → rows ≡ table_of v → v < 2 ^ 128 → IsTable rows
-is_table v rows is small = is ∙ ap table_of (sym (table_block v rows is small))
+pub table_read : (v : ℕ) (rows : List (List ℕ)) → rows ≡ table_of v → v < 2 ^ 128 → IsTable rows
+table_read v rows is small = is ∙ ap table_of (sym (table_block v rows is small))
 
--- a table that was written: that it is one, and its block, as the lemmas on room need both
+-- both facts on a table that was written, for the lemmas that cut room into tables
 table_with : (v : ℕ) (rows : List (List ℕ)) → rows ≡ table_of v → v < 2 ^ 128
     → (IsTable rows) × (subkey_in rows ≡ v)
-table_with v rows is small = (is_table v rows is small, table_block v rows is small)
+table_with v rows is small = (table_read v rows is small, table_block v rows is small)
 
 -- the block of a table has 128 bits
 pub table_below : (rows : List (List ℕ)) → IsTable rows → subkey_in rows < 2 ^ 128
@@ -153,9 +153,9 @@ room_block room h is small =
     subkey_is room (table_of (product h h) ++ table_of (product (product h h) h)) h is small
 
 -- room that was written has the multiples of the block that is read off it
-pub has_multiples : (room : List (List ℕ)) (h : ℕ) → room ≡ multiples_of h → h < 2 ^ 128
+pub multiples_read : (room : List (List ℕ)) (h : ℕ) → room ≡ multiples_of h → h < 2 ^ 128
     → HasMultiples room
-has_multiples room h is small = is ∙ ap multiples_of (sym (room_block room h is small))
+multiples_read room h is small = is ∙ ap multiples_of (sym (room_block room h is small))
 
 -- the block of room has 128 bits
 pub room_below : (room : List (List ℕ)) → HasMultiples room → subkey_in room < 2 ^ 128

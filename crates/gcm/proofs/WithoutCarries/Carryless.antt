@@ -1,8 +1,7 @@
 -- Products of numbers without carries: they keep sums, split into products of parts, and are
 -- products of blocks before the reduction.
 use Rattle.std.proofs.Common.{◌≡◌, ℕ, zero, suc, ◌+◌, ◌-◌, ◌*◌, ◌/◌, ◌%◌, ◌^◌, ◌<◌, ◌==◌}
-use Rattle.std.proofs.Common.{if◌then◌else◌, true, bit_xor, refl, ap, sym, ◌∙◌, arith}
-use Rattle.std.proofs.Common.{subst}
+use Rattle.std.proofs.Common.{if◌then◌else◌, true, bit_xor, refl, ap, sym, ◌∙◌, arith, subst}
 use Rattle.std.proofs.lemmas.Nat.{xor_comm, xor_shr, xor_mod, xor_block, xor_lt, shr_below, shr-shr}
 use Rattle.std.proofs.lemmas.Nat.{pow_pos}
 use Rattle.std.proofs.lemmas.Bool.{eqb-true}
@@ -14,7 +13,7 @@ use Rattle.aes_planes.proofs.Standard.FieldLaws.{add_swap, add_twice}
 use Rattle.gcm.specs.Gcm.{bit_of, next_v, v_at, product}
 use Rattle.gcm.specs.Carryless.{carryless}
 use Rattle.gcm.specs.Multiples.{sum_of, folded}
-use Rattle.gcm.proofs.Products.Linear.{shift_keeps, sum_without_carry, sum-agree, term, term_adds}
+use Rattle.gcm.proofs.Products.Linear.{shift_keeps, sum_without_carry, sum-ext, term, term_adds}
 use Rattle.gcm.proofs.Products.Linear.{term_keeps, term_mapped, term_through, term_zero}
 use Rattle.gcm.proofs.Products.Linear.{product_terms, v_add, v_below, v_keeps, v_shifted, v_zero}
 use Rattle.gcm.proofs.Products.Powers.{product_below}
@@ -135,7 +134,7 @@ middle a b c d =
     ∙ ap (λ s. bit_xor s (bit_xor c d)) (ap (λ s. bit_xor s a) (xor_comm a b) ∙ add_twice b a))
     ∙ xor_assoc b (bit_xor c d) d ∙ ap (bit_xor b) (add_twice c d)
 
--- a product without carries of 2 n bits by three products of n bits (Karatsuba)
+-- three products of n bits make a product without carries of 2 n bits (Karatsuba)
 pub karatsuba : (n x y x0 x1 y0 y1 : ℕ) → x1 ≡ x / 2 ^ n → x0 ≡ x % 2 ^ n → y1 ≡ y / 2 ^ n
     → y0 ≡ y % 2 ^ n → (l h m : ℕ) → l ≡ carryless n x0 y0 → h ≡ carryless n x1 y1
     → m ≡ bit_xor (bit_xor (carryless n (bit_xor x0 x1) (bit_xor y0 y1)) l) h
@@ -184,7 +183,7 @@ shifted_back (suc n) x h =
     v_keeps (suc n) (product * 2) (term (x % 2) h)
     ∙ (λ t. bit_xor ((ap (v_at (product * 2)) one ∙ sym (v_add (product * 2) 1 n)
     ∙ ap (λ y. v_at y n) (v_shifted 1 product) ∙ shifted_back n (x / 2) h
-    ∙ sum-agree (suc n) (λ i. term (x / 2 / 2 ^ (n - i) % 2) (v_at h i))
+    ∙ sum-ext (suc n) (λ i. term (x / 2 / 2 ^ (n - i) % 2) (v_at h i))
     (λ i. term (x / 2 ^ (suc n - i) % 2) (v_at h i))
     (λ i l.
     let place : 1 + (n - i) ≡ suc n - i = omega arith in
@@ -265,7 +264,7 @@ folded_in =
     (λ i l. eqb-true _ _ (all_below_tells 128
     (λ i. v_at (2 ^ i) 128 == folded (spread (2 ^ i))) bit_test i l))
 
--- the product of two blocks, by the halves of the product without carries
+-- the halves of the product without carries, reduced, are the product of two blocks
 pub reduced_product : (x h high low : ℕ) → high * 2 ^ 128 + low ≡ carryless 128 x h → h < 2 ^ 128
     → low < 2 ^ 128
     → bit_xor (bit_xor (high * 2 % 2 ^ 128) (low / 2 ^ 127)) (folded (spread (low * 2 % 2 ^ 128)))
@@ -294,7 +293,7 @@ reduced_product x h high low is small fits =
     sum_without_carry 1 high (low / 2 ^ 127) (omega (arith, fits)) in
     ap (λ z. bit_xor (bit_xor z (low / 2 ^ 127)) w) kept ∙ ap (λ z. bit_xor z w) joint ∙ whole
 
--- the upper and the lower half of a product of 256 bits, by the products of its parts
+-- the products of the parts make the upper and the lower half of a product of 256 bits
 pub columns : (h m l : ℕ) → l < 2 ^ 128 → bit_xor h (m / 2 ^ 64) * 2 ^ 128
     + bit_xor l (m * 2 ^ 64 % 2 ^ 128)
     ≡ bit_xor (bit_xor (h * 2 ^ 64 * 2 ^ 64) (m * 2 ^ 64)) l

@@ -36,7 +36,8 @@ masked_shifted k n m r small =
     ap (bit_and (n * 2 ^ k + r)) mask ∙ and_block k n m r 0 small (pow_pos k)
     ∙ ap (λ z. bit_and n m * 2 ^ k + z) (and_zero_r r) ∙ omega arith
 
--- the lowest bits of n + 1 digits, by those of the first n and the last one
+-- the lowest bits of n + 1 digits are those of the digits above the first, one digit up, and that
+-- of the first
 pub holes_next : (x n : ℕ) → bit_and x (holes (suc n)) ≡ bit_and (x / 16) (holes n) * 16 + x % 2
 unfolding holes
 holes_next x n =
@@ -136,13 +137,13 @@ bits_are (suc n) x is =
     holes_next x n ∙ ap (λ y. y * 16 + x % 2) (bits_are n (x / 16) is.1) ∙ omega arith
 
 -- the lowest bits of n digits are digits that are 0 or 1
-pub are_ones : (n x : ℕ) → AreDigits 1 n (bit_and x (holes n))
+pub masked_digits : (n x : ℕ) → AreDigits 1 n (bit_and x (holes n))
 unfolding AreDigits
-are_ones zero x = none_masked x
-are_ones (suc n) x =
+masked_digits zero x = none_masked x
+masked_digits (suc n) x =
     let upper : bit_and (x / 16) (holes n) ≡ bit_and x (holes (suc n)) / 16 =
     omega (arith, holes_next x n) in
-    (omega (arith, holes_next x n), subst (AreDigits 1 n) upper (are_ones n (x / 16)))
+    (omega (arith, holes_next x n), subst (AreDigits 1 n) upper (masked_digits n (x / 16)))
 
 -- the product without carries of a digit 0 or 1 and a number is their product
 one_digit : (d y : ℕ) → d < 2 → carryless 4 d y ≡ d * y

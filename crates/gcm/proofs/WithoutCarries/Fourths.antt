@@ -12,15 +12,16 @@ use Rattle.gcm.proofs.WithoutCarries.Carryless.{carryless_left_keeps, carryless_
 use Rattle.gcm.proofs.WithoutCarries.Carryless.{carryless_left_zero, carryless_right_zero}
 use Rattle.gcm.proofs.WithoutCarries.Carryless.{carryless_right_shifted, carryless_split}
 use Rattle.gcm.proofs.WithoutCarries.Carryless.{carryless_no_bits}
-use Rattle.gcm.proofs.Products.Linear.{sum-agree, sum-first, sum-swap, sum-through}
-use Rattle.gcm.proofs.WithoutCarries.Digits.{masked_sum, masked_shifted, holes_next, are_ones}
+use Rattle.gcm.proofs.Products.Linear.{sum-ext, sum-first, sum-swap, sum-through}
+use Rattle.gcm.proofs.WithoutCarries.Digits.{masked_sum, masked_shifted, holes_next, masked_digits}
 use Rattle.gcm.proofs.WithoutCarries.Digits.{digits_times}
 
 -- every fourth bit of a word from bit r on
 unfoldable pub every_fourth : ℕ → ℕ → ℕ
 every_fourth x r = bit_and x (holes 8 * 2 ^ r)
 
--- every fourth bit of a word from bit r on, shifted to bit 0
+-- every fourth bit of a word from bit r on is every fourth bit from bit 0 on of the word shifted
+-- down, shifted up again
 from_first : (x r : ℕ) → every_fourth x r ≡ bit_and (x / 2 ^ r) (holes 8) * 2 ^ r
 unfolding every_fourth
 from_first x r =
@@ -81,7 +82,7 @@ product_at_digits x y r s t hr hs is =
     (omega (arith, few_bits (x / 2 ^ 0))) (omega (arith, few_bits (x / 2 ^ 1)))
     (omega (arith, few_bits (x / 2 ^ 2))) (omega (arith, few_bits (x / 2 ^ 3))) r hr in
     let bits : bit_and (a * b) (holes 16) ≡ carryless 32 a b =
-    (digits_times 8 8 a b (omega arith) (are_ones 8 (x / 2 ^ r)) (are_ones 8 (y / 2 ^ s))).bits in
+    (digits_times 8 8 a b (omega arith) (masked_digits 8 (x / 2 ^ r)) (masked_digits 8 (y / 2 ^ s))).bits in
     let left : carryless 32 (a * 2 ^ r) b ≡ carryless 32 a b * 2 ^ r =
     ap (λ j. carryless j (a * 2 ^ r) b) (sym whole) ∙ carryless_left_shifted (32 - r) r a b fits
     ∙ ap (λ j. carryless j a b * 2 ^ r) whole in
@@ -159,21 +160,21 @@ products_sum : (x y : ℕ) → x < 2 ^ 32 → y < 2 ^ 32
 unfolding products_at
 products_sum x y hx hy =
     let term = λ (r s : ℕ). carryless 32 (every_fourth x r) (every_fourth y s) in
-    sum-agree 4 (λ t. bit_and (products_at x y t) (holes 16 * 2 ^ t))
+    sum-ext 4 (λ t. bit_and (products_at x y t) (holes 16 * 2 ^ t))
     (λ t. sum_of 4 (λ r. term r ((t + 4 - r) % 4)))
     (λ t ht.
     sum-through (λ z. bit_and z (holes 16 * 2 ^ t))
     (and_comm 0 (holes 16 * 2 ^ t) ∙ and_zero_r (holes 16 * 2 ^ t))
     (masked_sum (holes 16 * 2 ^ t)) 4
     (λ r. every_fourth x r * every_fourth y ((t + 4 - r) % 4))
-    ∙ sum-agree 4
+    ∙ sum-ext 4
     (λ r. bit_and (every_fourth x r * every_fourth y ((t + 4 - r) % 4)) (holes 16 * 2 ^ t))
     (λ r. term r ((t + 4 - r) % 4))
     (λ r hr. product_at_digits x y r ((t + 4 - r) % 4) t hr (omega arith) (omega (arith, hr, ht))))
     ∙ sum-swap 4 4 (λ t r. term r ((t + 4 - r) % 4))
-    ∙ sum-agree 4 (λ r. sum_of 4 (λ t. term r ((t + 4 - r) % 4))) (λ r. sum_of 4 (term r))
+    ∙ sum-ext 4 (λ r. sum_of 4 (λ t. term r ((t + 4 - r) % 4))) (λ r. sum_of 4 (term r))
     (λ r hr. sum_from_any (term r) r hr)
-    ∙ sum-agree 4 (λ r. sum_of 4 (term r)) (λ r. carryless 32 (every_fourth x r) y)
+    ∙ sum-ext 4 (λ r. sum_of 4 (term r)) (λ r. carryless 32 (every_fourth x r) y)
     (λ r hr. sym (sum-through (carryless 32 (every_fourth x r))
     (carryless_right_zero 32 (every_fourth x r))
     (carryless_right_keeps 32 (every_fourth x r)) 4 (every_fourth y))
@@ -204,7 +205,7 @@ lower_sum x y hx hy =
     sym (ap (λ z. z % 2 ^ 32) (sym (products_sum x y hx hy))
     ∙ sum-through (λ z. z % 2 ^ 32) refl halved 4
     (λ t. bit_and (products_at x y t) (holes 16 * 2 ^ t))
-    ∙ sum-agree 4 (λ t. bit_and (products_at x y t) (holes 16 * 2 ^ t) % 2 ^ 32)
+    ∙ sum-ext 4 (λ t. bit_and (products_at x y t) (holes 16 * 2 ^ t) % 2 ^ 32)
     (λ t. bit_and (lower_at x y t) (holes 8 * 2 ^ t))
     (λ t ht. and_mod (products_at x y t) (holes 16 * 2 ^ t) 32
     ∙ (λ u. bit_and (sum-through (λ z. z % 2 ^ 32) refl halved 4 (at t) u) (mask_halved t ht u))))

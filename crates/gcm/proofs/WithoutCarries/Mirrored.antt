@@ -105,7 +105,8 @@ halves_are x y hx hy =
     (λ j hj. eqb-true _ _ (all_pairs_tell 32 32
     (λ i j. upper (2 ^ i) (2 ^ j) == mirrored (2 ^ i) (2 ^ j)) pair_test i j hi hj)) y hy) x hx
 
--- the two halves of a product of words, the upper one by a product of reversed words
+-- a product of words is made of its lower half and of a product of reversed words, for the upper
+-- one
 pub both_halves : (x y l m : ℕ) → x < 2 ^ 32 → y < 2 ^ 32 → l ≡ carryless 32 x y % 2 ^ 32
     → m ≡ carryless 32 (reverse_bits w32 x) (reverse_bits w32 y) % 2 ^ 32
     → bit_xor (reverse_bits w32 m / 2 * 2 ^ 32) l ≡ carryless 32 x y

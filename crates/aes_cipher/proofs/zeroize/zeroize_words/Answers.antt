@@ -1,5 +1,6 @@
 use Rattle.std.proofs.Common.{◌∙◌, ap, map, replicate, length}
-use Rattle.aes_cipher.proofs.Zeros.{bits_of_zero, map_replicate}
+use lib.LanesLaws.{map-replicate}
+use Rattle.aes_cipher.proofs.Zeros.{bits_of_zero}
 use Rattle.aes_cipher.proofs.zeroize.zeroize_words.Goals as goal
 
 pub returns : goal.returns
@@ -8,6 +9,6 @@ returns g c =
     let bits = g.W.Word.bits in
     let zero = c.zero.result in
     ap (map bits) c.wipe.ensures
-    ∙ map_replicate bits n zero
+    ∙ map-replicate bits n zero
     ∙ ap (replicate n)
     (bits_of_zero g.W.Word.BITS (bits zero) (g.met.W.Word.shape.sized zero) c.zero.ensures)

@@ -2,7 +2,7 @@
 
 ghost use Rattle.std.specs.Prelude.{◌≡◌, length, refl};
 ghost use Rattle.aes_planes.specs.Fips197 as fips;
-ghost use Rattle.aes_planes.proofs.Standard.CipherLaws.{two_keys};
+ghost use Rattle.aes_planes.proofs.Standard.CipherLaws.{two_expanded};
 
 use aes_cipher::cipher::{BlockSizeUser, InvalidLength, KeyInit, KeySizeUser, RoundKeysUser};
 use aes_planes::laws;
@@ -37,7 +37,7 @@ impl RoundKeysUser for Plain {
         laws::expanded_keys();
     }
 
-    ghost two_round_keys = { λ plain. two_keys plain.key };
+    ghost two_round_keys = { λ plain. two_expanded plain.key };
 }
 
 impl KeyInit for Plain {

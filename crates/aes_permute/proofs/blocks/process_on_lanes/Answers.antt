@@ -5,7 +5,7 @@ use Rattle.aes_cipher.proofs.SliceRuns.{finished}
 use Rattle.aes_planes.specs.Rounds.{all_rounds}
 use Rattle.aes_permute.specs.Stored.{round_keys_of}
 use Rattle.aes_permute.specs.Vectors.{written}
-use Rattle.aes_permute.proofs.WrittenBlocks.{written_length, finished_written, finished_two}
+use Rattle.aes_permute.proofs.WrittenBlocks.{length-written, finished_written, finished_two}
 use Rattle.aes_permute.proofs.blocks.process_on_lanes.Goals as goal
 
 pub pairs-preserved : goal.pairs-preserved
@@ -20,9 +20,9 @@ pairs-preserved g c =
     let size = c.BLOCKS-size.ensures in
     record {
       within = omega (arith, c.pairs-test.true, c.pairs.invariant.within);
-      same_length = ap length c.store-in-pairs.ensures ∙ written_length second n _ _
+      same_length = ap length c.store-in-pairs.ensures ∙ length-written second n _ _
           ∙ ap length c.store.ensures
-          ∙ written_length first n _ _ ∙ c.pairs.invariant.same_length;
+          ∙ length-written first n _ _ ∙ c.pairs.invariant.same_length;
       value = ap (finished f (i + 2 * c.BLOCKS-size.result))
           (c.store-in-pairs.ensures ∙ (λ t. written second n (i + size t) (c.store.ensures t)))
           ∙ ap (λ m. finished f (i + 2 * m)
@@ -52,7 +52,7 @@ vectors-preserved g c =
     let size = c.BLOCKS-size.ensures in
     record {
       within = omega (arith, c.vectors-test.true, c.vectors.invariant.within);
-      same_length = ap length c.store-in-vectors.ensures ∙ written_length processed n _ _
+      same_length = ap length c.store-in-vectors.ensures ∙ length-written processed n _ _
           ∙ c.vectors.invariant.same_length;
       value = ap (finished f (i + c.BLOCKS-size.result)) c.store-in-vectors.ensures
           ∙ ap (λ m. finished f (i + m) (written processed n i before)) size
@@ -78,7 +78,7 @@ singles-preserved g c =
     let processed : ℕ → List ℕ = λ k. c.process_vector-processed-in-singles.result in
     record {
       within = omega (arith, c.singles-test.true);
-      same_length = ap length c.store-in-singles.ensures ∙ written_length processed 1 _ _
+      same_length = ap length c.store-in-singles.ensures ∙ length-written processed 1 _ _
           ∙ c.singles.invariant.same_length;
       value = ap (finished f (i + 1)) c.store-in-singles.ensures
           ∙ finished_written f processed 1 i before

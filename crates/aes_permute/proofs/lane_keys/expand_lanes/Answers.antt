@@ -2,7 +2,7 @@
 use Rattle.std.proofs.Common.{rules, refl, ◌∙◌, arith}
 use Rattle.aes_planes.specs.Fips197 as fips
 use Rattle.aes_permute.proofs.Expansion.{written_are_used}
-use Rattle.aes_permute.proofs.KeyOfLanes.{read_as, is_cipher_schedule}
+use Rattle.aes_permute.proofs.KeyOfLanes.{read_as, schedule_read}
 use Rattle.aes_permute.proofs.lane_keys.expand_lanes.Goals as goal
 
 pub returns-clause-keys : goal.returns-clause-keys
@@ -11,7 +11,7 @@ returns-clause-keys c = written_are_used _ _ (fips.rounds c.args.key.now) c.expa
 
 pub returns-clause-schedule : goal.returns-clause-schedule
 returns-clause-schedule c =
-    is_cipher_schedule _ c.args.key.now c.requires.one_of_three
+    schedule_read _ c.args.key.now c.requires.one_of_three
     (c.expand.ensures.same_length ∙ c.requires.sized) (search rules) (returns-clause-keys c)
 
 pub returns-clause-key : goal.returns-clause-key

@@ -1,12 +1,12 @@
 use Rattle.std.proofs.Common.{refl, ap, map, ◌∙◌}
-use Rattle.aes_permute.specs.Stored.{inv_untower}
+use Rattle.aes_permute.specs.Stored.{decryption_untower}
 use Rattle.aes_permute.proofs.Lookups.{summed}
 use Rattle.aes_permute.proofs.DecryptionLanes.{unmixed_key_is}
 use Rattle.aes_permute.proofs.rounds.decrypting_key.Goals as goal
 
 pub returns : goal.returns
 returns c =
-    ap (map inv_untower) (summed (c.sum.ensures 0) (summed (c.sum-most.ensures 0) refl
+    ap (map decryption_untower) (summed (c.sum.ensures 0) (summed (c.sum-most.ensures 0) refl
     (summed (c.sum-last_two.ensures 0) (c.permuted-third.ensures 0) (c.permuted-fourth.ensures 0)))
     (c.permuted-second.ensures 0))
     ∙ unmixed_key_is c.args.key c.requires (record {

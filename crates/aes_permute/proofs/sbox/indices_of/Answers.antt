@@ -2,7 +2,7 @@
 -- `first_of` and `second_of`.
 use Rattle.aes_permute.specs.TwoIndices.{both_nibbles, first_of, second_of}
 use Rattle.aes_permute.specs.Lookup.{low_nibble, high_nibble}
-use Rattle.aes_permute.proofs.FieldInverse.{sum_of, second_sum, over_is, index_is, made_indices, low_cases}
+use Rattle.aes_permute.proofs.FieldInverse.{zip_of_maps, second_sum, over_is, index_is, made_indices, low_cases}
 use Rattle.aes_permute.proofs.FieldInverse.{high_cases, both_cases, over_high_cases, over_both_cases}
 use Rattle.aes_permute.proofs.FieldInverse.{first_cases, second_cases}
 use Rattle.aes_permute.proofs.sbox.indices_of.Goals as goal
@@ -22,7 +22,7 @@ lookup-high_inverse-requires g c = record {
 pub lookup-both_inverse-requires : goal.lookup-both_inverse-requires
 lookup-both_inverse-requires g c = record {
   are_indices = λ i. made_indices both_nibbles both_cases _ (c.blocks_have_16_bytes.ensures i)
-      (sum_of high_nibble low_nibble _ (c.sum-both.ensures i) (c.high_nibbles-high.ensures i)
+      (zip_of_maps high_nibble low_nibble _ (c.sum-both.ensures i) (c.high_nibbles-high.ensures i)
       (c.low_nibbles-low.ensures i));
 }
 
@@ -37,7 +37,7 @@ pub lookup-at_both-requires : goal.lookup-at_both-requires
 lookup-at_both-requires g c = record {
   are_indices = λ i. made_indices (second_sum both_nibbles) over_both_cases _ (c.blocks_have_16_bytes.ensures i)
       (over_is both_nibbles _
-      (sum_of high_nibble low_nibble _ (c.sum-both.ensures i) (c.high_nibbles-high.ensures i)
+      (zip_of_maps high_nibble low_nibble _ (c.sum-both.ensures i) (c.high_nibbles-high.ensures i)
       (c.low_nibbles-low.ensures i))
       (c.low_nibbles-low.ensures i) (c.lookup-both_inverse.ensures i) (c.lookup-scaled.ensures i)
       (c.sum-over_both.ensures i));
@@ -50,7 +50,7 @@ returns-clause-first g c i =
     (over_is high_nibble _ (c.high_nibbles-high.ensures i) (c.low_nibbles-low.ensures i)
     (c.lookup-high_inverse.ensures i) (c.lookup-scaled.ensures i) (c.sum-over_high.ensures i))
     (c.lookup-at_high.ensures i)
-    (sum_of high_nibble low_nibble _ (c.sum-both.ensures i) (c.high_nibbles-high.ensures i)
+    (zip_of_maps high_nibble low_nibble _ (c.sum-both.ensures i) (c.high_nibbles-high.ensures i)
     (c.low_nibbles-low.ensures i))
     (c.sum-first.ensures i)
 
@@ -59,7 +59,7 @@ unfolding second_of
 returns-clause-second g c i =
     index_is both_nibbles high_nibble _
     (over_is both_nibbles _
-    (sum_of high_nibble low_nibble _ (c.sum-both.ensures i) (c.high_nibbles-high.ensures i)
+    (zip_of_maps high_nibble low_nibble _ (c.sum-both.ensures i) (c.high_nibbles-high.ensures i)
     (c.low_nibbles-low.ensures i))
     (c.low_nibbles-low.ensures i) (c.lookup-both_inverse.ensures i) (c.lookup-scaled.ensures i)
     (c.sum-over_both.ensures i))

@@ -5,7 +5,7 @@ use Rattle.aes_planes.proofs.KeySchedule.Forms.{AreStored, form, loaded, none_st
 use Rattle.aes_planes.proofs.KeySchedule.Forms.{one_more_stored}
 use Rattle.aes_planes.proofs.KeySchedule.Forms.{layers_counted_twice, all_stored, rotated}
 use Rattle.aes_planes.proofs.KeySchedule.Forms.{substituted}
-use Rattle.aes_planes.proofs.KeySchedule.ExpandedBlocks.{block_at}
+use Rattle.aes_planes.proofs.KeySchedule.ExpandedBlocks.{words_from}
 use Rattle.aes_planes.proofs.expansion.expand_256.Goals as goal
 
 pub expand-init : goal.expand-init
@@ -70,10 +70,10 @@ returns-clause-keys g c =
     let before = c.read_back-before.ensures _
     (stored_at s (g.F.FourWords.IsStored c.expand.stored 14) 14 12 48 done
     (omega arith) refl)
-    (subst (λ v. g.F.FourWords.AreWords c.expand.even (block_at c.args.key.now (8 * v))) six
+    (subst (λ v. g.F.FourWords.AreWords c.expand.even (words_from c.args.key.now (8 * v))) six
     inv.first_four) in
     let last = rotated s _ 6 48 52 56 (c.rotated-even-2.ensures.words _ _ before
-    (subst (λ v. g.F.FourWords.AreWords c.expand.odd (block_at c.args.key.now (8 * v + 4))) six
+    (subst (λ v. g.F.FourWords.AreWords c.expand.odd (words_from c.args.key.now (8 * v + 4))) six
     inv.last_four))
     (omega arith) refl refl refl in
     all_stored s (g.F.FourWords.IsStored c.store-3.new.stored 14) 15 14

@@ -1,18 +1,15 @@
-use Rattle.std.proofs.Common.{List, Bool, map, refl, sym, subst}
+use Rattle.std.proofs.Common.{map, refl, sym, subst}
 use Rattle.aes_planes.specs.Words.{word_bits}
 use Rattle.aes_soft.specs.declared.examples.TheConstants.{FULL_WORDS}
 use Rattle.aes_soft.specs.Stored.{full, HoldsKeys}
 use Rattle.aes_soft.proofs.OnLiterals.{stored_on_literals, below_tells}
 use Rattle.aes_soft.proofs.examples.full_words.Goals as goal
 
--- the stored words of the example, as lists of bits
-abbrev planes : List (List Bool)
-planes = map (word_bits 16) FULL_WORDS
-
 pub returns : goal.returns
 unfolding stored_on_literals
 returns c =
-    subst (λ w. HoldsKeys 1 (full 10) w planes) (sym c.zero_key_expansion.ensures)
+    subst (λ w. HoldsKeys 1 (full 10) w (map (word_bits 16) FULL_WORDS))
+    (sym c.zero_key_expansion.ensures)
     (below_tells 11 _ (
       (
         (((((((((tt, refl), refl), refl), refl), refl), refl), refl), refl), refl),

@@ -2,7 +2,7 @@
 ghost use Rattle.std.specs.Prelude.{◌≡◌, ℕ, List};
 ghost use Rattle.aes_planes.specs.Fips197 as fips;
 ghost use Rattle.aes_planes.specs.Words.{word_bits};
-ghost use Rattle.aes_planes.proofs.Standard.CipherLaws.{two_keys};
+ghost use Rattle.aes_planes.proofs.Standard.CipherLaws.{two_expanded};
 ghost use Rattle.aes_soft.specs.Stored.{key_of_planes, IsFullSchedule};
 
 mod decrypt;
@@ -118,7 +118,7 @@ impl<H: AsSlice<BatchWord> + Drop> RoundKeysUser for Backend<'_, H> {
         words_hold_a_key(self.round_keys);
     }
 
-    ghost two_round_keys = { two_keys };
+    ghost two_round_keys = { two_expanded };
 }
 
 impl<H: AsSlice<BatchWord> + Drop> BatchSizeUser for Backend<'_, H> {

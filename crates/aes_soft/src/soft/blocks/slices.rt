@@ -9,6 +9,7 @@ ghost use Rattle.aes_soft.specs.Stored.{key_of_planes, rounds_of, IsFullSchedule
 use crate::soft::blocks::BatchWord;
 use crate::soft::ciphers::{Full, PlaneCipher, process, process_outlined};
 use crate::soft::full::store_widened_first;
+use crate::soft::plane_room::PlaneRoom;
 use aes_cipher::zeroize::{MustWipe, wipe_stack};
 use aes_planes::soft::sbox::Layers;
 use aes_planes::soft::word::{Batch, Block, Word};
@@ -123,7 +124,7 @@ pub fn process_blocks_under<D: PlaneCipher>(
 {
     let whole = blocks.len() - blocks.len() % <BatchWord as Word>::Blocks::LEN;
     if whole > 0 {
-        let mut room = MustWipe::<[BatchWord; 120]>::zeroed();
+        let mut room = MustWipe::<PlaneRoom<BatchWord>>::zeroed();
         store_widened_first(room.value_mut(), round_keys);
         let widened = &room.value()[..round_keys.len()];
         process_batches_outlined::<BatchWord, D>(widened, &mut blocks[..whole], layers);

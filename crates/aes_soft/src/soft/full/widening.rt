@@ -3,6 +3,7 @@ ghost use Rattle.std.specs.Prelude.{◌≡◌, length, take};
 ghost use Rattle.aes_planes.specs.Words.{word_bits};
 ghost use Rattle.aes_soft.specs.Stored.{key_of_planes, IsFullSchedule};
 
+use crate::soft::plane_room::PlaneRoom;
 use aes_planes::soft::word::Word;
 
 /// Writes stored round keys on `u16` to as many words of `W`, for the same key. Each word is made
@@ -24,7 +25,7 @@ pub fn store_widened<W: Word>(widened: &mut [W], round_keys: &[u16])
 // Does what `store_widened` does, in room for the round keys of the largest key: writes as many of
 // its first words.
 #[inline(always)]
-pub(crate) fn store_widened_first<W: Word>(room: &mut [W; 120], round_keys: &[u16])
+pub(crate) fn store_widened_first<W: Word>(room: &mut PlaneRoom<W>, round_keys: &[u16])
     requires is_stored { IsFullSchedule (word_bits 16) 1 round_keys.now }
     ensures schedule { IsFullSchedule W.bits W.BLOCKS (take (length round_keys.now) room.new) }
     ensures key { key_of_planes W.bits W.BLOCKS (take (length round_keys.now) room.new)

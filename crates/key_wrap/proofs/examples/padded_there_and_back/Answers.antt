@@ -2,7 +2,7 @@
 use Rattle.std.proofs.Common.{◌≡◌, ◌∷◌, ◌∙◌, ap, arith, refl, rules, subst, sym, take}
 use Rattle.std.proofs.lemmas.Nat.{from_be_bytes-to_be_bytes_4}
 use Rattle.std.specs.List.{concat}
-use Rattle.key_wrap.specs.Padded.{filled, heading, key_in, length_in, unwrapped_string}
+use Rattle.key_wrap.specs.Padded.{semiblock_count, heading, key_in, length_in, unwrapped_string}
 use Rattle.key_wrap.specs.Padded.{wrapped_padded, IsPadded}
 use Rattle.key_wrap.proofs.examples.padded_there_and_back.Goals as goal
 
@@ -22,7 +22,7 @@ returns-in-Ok-clause-back g c =
     ∙ ap key_in whole ∙ law.1
 
 pub returns-in-Err-clause-done : goal.returns-in-Err-clause-done
-unfolding filled
+unfolding semiblock_count
 returns-in-Err-clause-done g c =
     let w = g.C.RoundKeysUser.round_keys c.args.cipher.now in
     let key = c.args.key.now in (

@@ -1,6 +1,6 @@
 use Rattle.std.proofs.Common.{◌≡◌, ℕ, ◌+◌, ◌-◌, ◌%◌, ◌<◌, ◌≤◌, ◌⊎◌, length, slice_index_or}
 use Rattle.aes_planes.specs.Bits.{at, xor}
-use Rattle.aes_planes.specs.Planes.{place, summed}
+use Rattle.aes_planes.specs.Planes.{place, fold_to}
 use Rattle.aes_planes.proofs.soft.key_columns.xor_columns.Given as goal
 
 abbrev pub invariant-loop-i : goal.invariant-loop-i
@@ -10,7 +10,7 @@ invariant-loop-i g l = record {
   sums : (m : ℕ) (d : _) (r c k : ℕ) → m < l.i → r < 4 → c < 4 → k < g.W.Word.BLOCKS
       → at (g.W.Word.bits (slice_index_or l.round_keys (l.offset + m) d))
       (place g.W.Word.BLOCKS r c k)
-      ≡ summed xor (λ e. at
+      ≡ fold_to xor (λ e. at
       (g.W.Word.bits (slice_index_or l.initial.round_keys (l.offset + m - l.distance) d))
       (place g.W.Word.BLOCKS r e k))
       (at (g.W.Word.bits (slice_index_or l.initial.round_keys (l.offset + m) d))

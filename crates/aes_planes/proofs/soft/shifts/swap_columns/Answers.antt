@@ -1,5 +1,5 @@
 use Rattle.std.proofs.Common.{[], ◌∷◌, refl}
-use Rattle.aes_planes.proofs.Bits.BitCases.{eight}
+use Rattle.aes_planes.proofs.Bits.BitCases.{list_of_eight}
 use Rattle.aes_planes.proofs.Bits.ByteCases.{by_eight}
 use Rattle.aes_planes.proofs.Shifts.ColumnSwaps.{swapped_held}
 use Rattle.aes_planes.proofs.soft.shifts.swap_columns.Goals as goal
@@ -12,7 +12,7 @@ returns g c = λ d nibbles dl es ok masked.
     ∷ c.delta_swap_1-swapped5.result
     ∷ c.delta_swap_1-swapped6.result ∷ c.delta_swap_1-swapped7.result ∷ [] in
     swapped_held g.met.W.Word.shape _ new c.delta_swap_1-swapped0.result d nibbles dl es ok masked
-    (eight _ _ _ _ _ _ _ _ _ c.told-state) refl refl
+    (list_of_eight _ _ _ _ _ _ _ _ _ c.told-state) refl refl
     (by_eight _ c.delta_swap_1-swapped0.ensures c.delta_swap_1-swapped1.ensures
     c.delta_swap_1-swapped2.ensures
     c.delta_swap_1-swapped3.ensures c.delta_swap_1-swapped4.ensures c.delta_swap_1-swapped5.ensures

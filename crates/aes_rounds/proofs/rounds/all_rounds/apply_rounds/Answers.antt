@@ -2,7 +2,7 @@
 use Rattle.std.proofs.Common.{◌≡◌, ℕ, ◌+◌, ◌-◌, List, map, ap, ◌∙◌, arith}
 use Rattle.aes_planes.specs.Fips197 as fips
 use Rattle.std.proofs.lemmas.Simd.{map-map}
-use Rattle.aes_planes.proofs.Lists.{map-same}
+use Rattle.aes_planes.proofs.Lists.{map-ext}
 use Rattle.aes_planes.specs.Rounds.{rounds_after, all_rounds}
 use Rattle.aes_planes.proofs.Standard.AllRounds.{rounds_more}
 use Rattle.aes_rounds.proofs.rounds.all_rounds.apply_rounds.Goals as goal
@@ -21,7 +21,7 @@ loop-number-preserved g c =
     let e : n ≡ n + 1 - 1 = omega arith in
     c.round.ensures ∙ ap (map round) c.loop-number.invariant
     ∙ map-map round (λ b. rounds_after g.D.Direction.step w b (n - 1)) blocks
-    ∙ map-same _ _ blocks (λ b. rounds_more g.D.Direction.step w b n (omega arith)
+    ∙ map-ext _ _ blocks (λ b. rounds_more g.D.Direction.step w b n (omega arith)
     ∙ ap (rounds_after g.D.Direction.step w b) e)
 
 pub returns : goal.returns

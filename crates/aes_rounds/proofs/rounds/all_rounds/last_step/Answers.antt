@@ -2,7 +2,7 @@
 use Rattle.std.proofs.Common.{List, ℕ, map, replicate, ap, ◌∙◌}
 use Rattle.aes_planes.specs.Fips197 as fips
 use Rattle.std.proofs.lemmas.Simd.{map-map}
-use Rattle.aes_planes.proofs.Lists.{map-same}
+use Rattle.aes_planes.proofs.Lists.{map-ext}
 use Rattle.aes_rounds.proofs.rounds.all_rounds.last_step.Goals as goal
 
 pub returns : goal.returns
@@ -11,4 +11,4 @@ returns g c =
     let keyed : List ℕ → List ℕ = λ b. fips.add_round_key (g.D.Direction.step b) (replicate 16 0) in
     c.unmix.ensures ∙ ap (map g.D.SingleRounds.unmixed) c.round.ensures
     ∙ map-map g.D.SingleRounds.unmixed keyed blocks
-    ∙ map-same _ _ blocks c.unmixed_round_is_last.ensures
+    ∙ map-ext _ _ blocks c.unmixed_round_is_last.ensures

@@ -7,6 +7,7 @@ ghost use Rattle.aes_soft.specs.Stored.{key_of_planes, IsFullSchedule};
 use super::{Backend, CLOSURE_STACK};
 use crate::soft::blocks::BatchWord;
 use crate::soft::full::store_widened_first;
+use crate::soft::plane_room::PlaneRoom;
 use aes_cipher::cipher::BlockCipherEncClosure;
 use aes_cipher::zeroize::{MustWipe, wipe_stack};
 
@@ -31,7 +32,7 @@ pub fn encrypt_with_backend<F: BlockCipherEncClosure>(round_keys: &[u16], f: &mu
     ensures { F.did f.old
         (fips.key_expansion (key_of_planes (word_bits 16) 1 round_keys.now)) f.new }
 {
-    let mut room = MustWipe::<[BatchWord; 120]>::zeroed();
+    let mut room = MustWipe::<PlaneRoom<BatchWord>>::zeroed();
     store_widened_first(room.value_mut(), round_keys);
     call_to_encrypt(round_keys, &room.value()[..round_keys.len()], f);
     room.wipe();

@@ -2,7 +2,7 @@
 -- beginning.
 use Rattle.std.proofs.Common.{◌∙◌, ◌++◌, ap, drop, length, sym}
 use Rattle.gcm.proofs.Messages.Hashing.{one_block_of}
-use Rattle.aes_cipher.proofs.Strings.{are_first}
+use Rattle.aes_cipher.proofs.Strings.{first_bytes_tell}
 use Rattle.gcm.proofs.mode.BorrowedGcm.is_short_tag_so_far.Goals as goal
 
 pub returns : goal.returns
@@ -15,7 +15,7 @@ returns g c phase iv a t other at =
     let claimed = one_block_of _ _ _ _ _ (c.value_mut-2.ensures.value ∙ c.zeroed-claimed.ensures)
     c.value-2.ensures
     ∙ c.put_claimed.ensures ∙ ap (λ l. x ++ drop (length x) l) before in
-    let first = are_first x _ in (
+    let first = first_bytes_tell x _ in (
       λ e. first.0 (sym claimed ∙ c.is_expected-is_equal.ensures.0 e ∙ expected),
       λ e. c.is_expected-is_equal.ensures.1 (claimed ∙ first.1 e ∙ sym expected),
     )

@@ -1,7 +1,7 @@
 use Rattle.std.proofs.Common.{map, ap, sym, ◌∙◌}
 use Rattle.std.proofs.lemmas.List.{length-map}
 use Rattle.aes_planes.specs.Bits.{at, number}
-use Rattle.aes_planes.proofs.Bits.BitCases.{eight}
+use Rattle.aes_planes.proofs.Bits.BitCases.{list_of_eight}
 use Rattle.aes_planes.proofs.Bits.BytesByBits.{number-double, double_bits}
 use Rattle.aes_planes.proofs.soft.word.Word.double_planes.Goals as goal
 
@@ -11,5 +11,5 @@ returns g c = λ i h.
     let bits = g.Self.Word.bits in
     rw (c.bit_xor-plane1.ensures i h, c.bit_xor-plane3.ensures i h, c.bit_xor-plane4.ensures i h)
     (ap (λ ys. number (double_bits (map (λ w. at w i) (map bits ys))))
-    (sym (eight xs _ _ _ _ _ _ _ _ c.told-x))
+    (sym (list_of_eight xs _ _ _ _ _ _ _ _ c.told-x))
     ∙ number-double (map (λ w. at w i) (map bits xs)) (simp length-map c.told-x))

@@ -1,6 +1,6 @@
 use Rattle.std.proofs.Common.{◌+◌, ◌%◌, map, ap, sym}
 use Rattle.aes_planes.specs.Planes.{held_byte, place}
-use Rattle.aes_planes.proofs.Bits.BitCases.{eight}
+use Rattle.aes_planes.proofs.Bits.BitCases.{list_of_eight}
 use Rattle.aes_planes.proofs.soft.word.Word.rotate_planes.Goals as goal
 
 pub returns : goal.returns
@@ -17,4 +17,4 @@ returns g c = λ r q k h l kn.
       c.rotate_rows_and_columns-rotated7.ensures r q k h l kn,
     )
     (ap (λ ys. held_byte (map g.Self.Word.bits ys) there)
-    (sym (eight c.args.x.now _ _ _ _ _ _ _ _ c.told-x)))
+    (sym (list_of_eight c.args.x.now _ _ _ _ _ _ _ _ c.told-x)))

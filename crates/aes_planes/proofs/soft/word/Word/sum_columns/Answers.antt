@@ -1,8 +1,8 @@
--- The three steps of the sum, each bit by its column; `columns_right` puts them together.
+-- The three steps of the sum, each bit by its column; `bit_of_sums` puts them together.
 use Rattle.std.proofs.Common.{◌≡◌, ℕ, ◌*◌, ◌%◌, ◌/◌, ◌<◌, refl, arith}
 use Rattle.aes_planes.specs.Planes.{place}
 use Rattle.aes_planes.proofs.Planes.Held.{place_lt, column_of}
-use Rattle.aes_planes.proofs.KeySchedule.SummedColumns.{columns_right}
+use Rattle.aes_planes.proofs.KeySchedule.SummedColumns.{bit_of_sums}
 use Rattle.aes_planes.proofs.soft.word.Word.sum_columns.Goals as goal
 
 pub returns : goal.returns
@@ -17,7 +17,7 @@ returns g c = λ r q k h l kn.
     λ q l. omega (arith, laws.sixteen, place_lt n r q k h l kn) in
     let col : (q : ℕ) → q < 4 → at q % w.ROW_BITS / w.QUARTER_ROW ≡ q =
     λ q l. column_of n _ _ r q k laws.four laws.one h l kn in
-    columns_right n w.BITS c.args.rotation r k (w.bits c.args.self) (w.bits c.args.start)
+    bit_of_sums n w.BITS c.args.rotation r k (w.bits c.args.self) (w.bits c.args.start)
     (w.bits c.bit_xor-first.result)
     (w.bits c.bit_xor-pairs.result) (w.bits c.bit_xor.result)
     (λ q l. rw (

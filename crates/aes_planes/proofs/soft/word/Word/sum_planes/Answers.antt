@@ -2,7 +2,7 @@ use Rattle.std.proofs.Common.{Bool, List, [], ◌∷◌, map, refl, sym, ◌∙�
 use Rattle.aes_planes.specs.Bits.{at}
 use Rattle.aes_planes.specs.Fips197.{field_add}
 use Rattle.aes_planes.specs.Planes.{held_byte}
-use Rattle.aes_planes.proofs.Bits.BitCases.{eight}
+use Rattle.aes_planes.proofs.Bits.BitCases.{list_of_eight}
 use Rattle.aes_planes.proofs.Bits.ByteCases.{by_eight}
 use Rattle.aes_planes.proofs.Bits.BytesByBits.{mapped_sum}
 use Rattle.aes_planes.proofs.soft.word.Word.sum_planes.Goals as goal
@@ -11,8 +11,8 @@ pub returns : goal.returns
 returns g c = λ i h.
     let bits = g.Self.Word.bits in
     let look = λ (w : List Bool). at w i in
-    let x = eight c.args.x.now _ _ _ _ _ _ _ _ c.told-x in
-    let y = eight c.args.y.now _ _ _ _ _ _ _ _ c.told-y in
+    let x = list_of_eight c.args.x.now _ _ _ _ _ _ _ _ c.told-x in
+    let y = list_of_eight c.args.y.now _ _ _ _ _ _ _ _ c.told-y in
     let sums = c.bit_xor-sum0.result ∷ c.bit_xor-sum1.result ∷ c.bit_xor-sum2.result
     ∷ c.bit_xor-sum3.result
     ∷ c.bit_xor-sum4.result ∷ c.bit_xor-sum5.result ∷ c.bit_xor-sum6.result

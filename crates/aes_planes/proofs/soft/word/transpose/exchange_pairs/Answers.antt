@@ -5,7 +5,7 @@ use Rattle.std.proofs.Common.{◌∙◌, rules}
 use Rattle.aes_planes.specs.Bits.{at, bit}
 use Rattle.aes_planes.specs.Private.Packing.{source_word, source_bit}
 use Rattle.aes_planes.proofs.Bits.ByteCases.{by_eight}
-use Rattle.aes_planes.proofs.Bits.BitCases.{eight}
+use Rattle.aes_planes.proofs.Bits.BitCases.{list_of_eight}
 use Rattle.aes_planes.proofs.Words.Transpose.{choice}
 use Rattle.aes_planes.proofs.soft.word.transpose.exchange_pairs.Goals as goal
 
@@ -15,7 +15,7 @@ returns g c w j r hw hj hr =
     let s = c.args.shift in
     let m = c.args.mask in
     let told =
-    eight c.args.words c.index-words-0.result c.index-words-1.result c.index-words-2.result
+    list_of_eight c.args.words c.index-words-0.result c.index-words-1.result c.index-words-2.result
     c.index-words-3.result
     c.index-words-4.result c.index-words-5.result c.index-words-6.result c.index-words-7.result
     (search rules) in

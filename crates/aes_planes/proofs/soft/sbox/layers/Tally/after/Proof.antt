@@ -37,6 +37,7 @@ use Rattle.aes_planes.proofs.soft.sbox.layers.Tally.after.Statement as stated
 use Rattle.aes_planes.proofs.soft.sbox.layers.Tally.after.Code as code
 use Rattle.aes_planes.specs.contracts.soft.sbox.layers.Tally as trail
 
+-- what is lent to the call stays as it is
 abbrev stayed : Stays (f.ended).signature.params (f.ended).kept
 stayed = (stay_none_ref (0 ∷ []) tt (plain (λ _. trail.the_row)) yes, tt)
 
@@ -46,15 +47,19 @@ module _ {M : Type 1} {𝓤 : Ura M} (𝓛 : Logic 𝓤) (mem : Memory → SProp
   open 𝓛 use {H}
 
   module _ (κs : Lfts 1) (qs : Shares 1) (a : Args f.signature κs) where
+    -- the pointer that is passed
     abbrev before : Val
     before = vptr a.0.ref_ptr.0 a.0.ref_ptr.1
 
+    -- the ghost data of the call
     abbrev bound : (walk_of 𝓛 f.ended stayed (f.clauses 𝓛 mem run)).Ghost
     bound = ((κs, qs, tt, a, (before ∷ [], tt)), tt)
 
+    -- what the call owns when it begins
     abbrev passed : Fml
     passed = owns (types_at f.signature.params κs) a (before ∷ [], tt)
 
+    -- from what holds when it begins, the body leads to what holds at its end, step by step
     walk : ent 𝓤 (on_entry 𝓛 f.signature κs qs a (before ∷ [], tt))
         (WpFn 𝓤 H C Λ code.function (before ∷ [])
         ((walk_of 𝓛 f.ended stayed (f.clauses 𝓛 mem run)).post bound))
@@ -71,6 +76,7 @@ module _ {M : Type 1} {𝓤 : Ura M} (𝓛 : Logic 𝓤) (mem : Memory → SProp
         ((λ vss. (tt, tt)), tt) ((tt, (refl, tt)), tt) $
         move ! (1 ∷ 2 ∷ 0 ∷ []) $ done !)
 
+  -- this holds for every lifetime, share and argument
   walks : Walks 𝓛 f.ended stayed (WpFn 𝓤 H C Λ code.function) (f.clauses 𝓛 mem run)
   walks =
       walked 𝓛 f.ended stayed (f.clauses 𝓛 mem run) (WpFn 𝓤 H C Λ code.function)
@@ -78,6 +84,7 @@ module _ {M : Type 1} {𝓤 : Ura M} (𝓛 : Logic 𝓤) (mem : Memory → SProp
       (λ κs. (shr_Tells (named 0) κs.0 trail.the_row, tt))
       (λ κs qs bounds a g are. via 𝓤 _ (fst∗ 𝓤 _ (emp 𝓤)) (walk κs qs a))
 
+-- the body meets the contract
 meets : {M : Type 1} {𝓤 : Ura M} (𝓛 : Logic 𝓤) (mem : Memory → SProp 𝓤) (run : Routine → Fun 𝓤)
     (𝓣 : Tables 𝓤 𝓛.H)
     → Meets 𝓛 f.signature (WpFn 𝓤 𝓛.H 𝓣.C 𝓣.Λ code.function) (f.spec 𝓛 mem run)
@@ -86,6 +93,7 @@ meets {𝓤 = 𝓤} 𝓛 mem run 𝓣 =
     (f.clauses 𝓛 mem run) (WpFn 𝓤 𝓛.H 𝓣.C 𝓣.Λ code.function)
     (WpFn-mono 𝓤 𝓛.H 𝓛.laws 𝓣 code.function) (walks 𝓛 mem run 𝓣.C 𝓣.Λ)
 
+-- the function meets it in the program, where its name stands for this body
 pub after_spec : {M : Type 1} → stated.statement M
 unfolding tables_of
 after_spec 𝓤 𝓛 𝓜 𝓡 wired =

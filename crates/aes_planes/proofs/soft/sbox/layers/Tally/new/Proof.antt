@@ -29,6 +29,7 @@ use Rattle.aes_planes.proofs.soft.sbox.layers.Tally.new.Statement as stated
 use Rattle.aes_planes.proofs.soft.sbox.layers.Tally.new.Code as code
 use Rattle.aes_planes.specs.contracts.soft.sbox.layers.Tally as made
 
+-- nothing is lent to the call
 abbrev stayed : Stays (f.ended).signature.params (f.ended).kept
 stayed = tt
 
@@ -37,9 +38,11 @@ module _ {M : Type 1} {𝓤 : Ura M} (𝓛 : Logic 𝓤) (mem : Memory → SProp
     (Λ : Loops 𝓤 𝓛.H) where
   open 𝓛 use {H}
 
+  -- the ghost data of the call
   abbrev bound : (walk_of 𝓛 f.ended stayed (f.clauses 𝓛 mem run)).Ghost
   bound = ((tt, tt, tt, tt, tt), tt)
 
+  -- from what holds when it begins, the body leads to what holds at its end, step by step
   walk : ent 𝓤 (on_entry 𝓛 f.signature tt tt tt tt) (WpFn 𝓤 H C Λ code.function []
       ((walk_of 𝓛 f.ended stayed (f.clauses 𝓛 mem run)).post bound))
   walk =
@@ -54,12 +57,14 @@ module _ {M : Type 1} {𝓤 : Ura M} (𝓛 : Logic 𝓤) (mem : Memory → SProp
       ((tt, (refl, tt)), tt) $
       move ! (1 ∷ 2 ∷ 0 ∷ []) $ done !)
 
+  -- this holds for every lifetime and share
   walks : Walks 𝓛 f.ended stayed (WpFn 𝓤 H C Λ code.function) (f.clauses 𝓛 mem run)
   walks =
       walked 𝓛 f.ended stayed (f.clauses 𝓛 mem run) (WpFn 𝓤 H C Λ code.function)
       (λ κs. tt) (λ κs. tt)
       (λ κs qs bounds a g are. via 𝓤 _ (fst∗ 𝓤 _ (emp 𝓤)) walk)
 
+-- the body meets the contract
 meets : {M : Type 1} {𝓤 : Ura M} (𝓛 : Logic 𝓤) (mem : Memory → SProp 𝓤) (run : Routine → Fun 𝓤)
     (𝓣 : Tables 𝓤 𝓛.H)
     → Meets 𝓛 f.signature (WpFn 𝓤 𝓛.H 𝓣.C 𝓣.Λ code.function) (f.spec 𝓛 mem run)
@@ -67,6 +72,7 @@ meets {𝓤 = 𝓤} 𝓛 mem run 𝓣 =
     walk_Meets 𝓛 f.ended stayed tt (f.clauses 𝓛 mem run) (WpFn 𝓤 𝓛.H 𝓣.C 𝓣.Λ code.function)
     (WpFn-mono 𝓤 𝓛.H 𝓛.laws 𝓣 code.function) (walks 𝓛 mem run 𝓣.C 𝓣.Λ)
 
+-- the function meets it in the program, where its name stands for this body
 pub new_spec : {M : Type 1} → stated.statement M
 unfolding tables_of
 new_spec 𝓤 𝓛 𝓜 𝓡 wired =

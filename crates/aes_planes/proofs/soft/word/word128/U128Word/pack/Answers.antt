@@ -1,7 +1,7 @@
 use Rattle.std.proofs.Common.{[], ◌∷◌, map, refl, ap, sym, ◌∙◌, arith, rules}
 use Rattle.aes_planes.specs.Words.{lane_bits}
 use Rattle.aes_planes.specs.Planes.{held}
-use Rattle.aes_planes.proofs.Bits.BitCases.{eight}
+use Rattle.aes_planes.proofs.Bits.BitCases.{list_of_eight}
 use Rattle.aes_planes.proofs.Bits.ByteCases.{by_eight}
 use Rattle.aes_planes.proofs.Words.Packing.{packed}
 use Rattle.aes_planes.proofs.soft.word.word128.U128Word.pack.Goals as goal
@@ -19,7 +19,7 @@ returns c =
     ∷ c.word-5.ensures t
     ∷ c.word-6.ensures t ∷ c.word-7.ensures t ∷ c.word-8.ensures t ∷ []))
     ∙ ap (λ ys. held 8 (map lane_bits ys))
-    (sym (eight planes [] [] [] [] [] [] [] [] (search rules)))
+    (sym (list_of_eight planes [] [] [] [] [] [] [] [] (search rules)))
     ∙ packed lane_bits 8 (λ j t. t) (λ j t. j)
     (λ r q k hr hq hk. (omega arith, omega arith)) planes words blocks c.args.input.now
     (search rules) refl

@@ -1,7 +1,7 @@
 use Rattle.std.proofs.Common.{[], ◌∷◌, map, refl, ap, sym, ◌∙◌, arith, rules}
 use Rattle.aes_planes.specs.Planes.{held}
 use Rattle.aes_planes.specs.Words.{word_bits, lane_bits}
-use Rattle.aes_planes.proofs.Bits.BitCases.{eight}
+use Rattle.aes_planes.proofs.Bits.BitCases.{list_of_eight}
 use Rattle.aes_planes.proofs.Bits.ByteCases.{by_eight}
 use Rattle.aes_planes.proofs.Words.Packing.{unpacked}
 use Rattle.aes_planes.proofs.soft.word.word128.U128Word.unpack.Goals as goal
@@ -25,4 +25,4 @@ returns c =
     ∷ c.lanes-5.ensures t
     ∷ c.lanes-6.ensures t ∷ c.lanes-7.ensures t ∷ c.lanes-8.ensures t ∷ []))
     ∙ sym (ap (λ ys. held 8 (map (word_bits 128) ys))
-    (eight c.args.input.now 0 0 0 0 0 0 0 0 (search rules)))
+    (list_of_eight c.args.input.now 0 0 0 0 0 0 0 0 (search rules)))
