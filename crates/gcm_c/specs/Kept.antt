@@ -13,7 +13,7 @@ round_keys_in gcm = fips.key_expansion (key_in gcm.key)
 -- one, the multiples are those of its H
 pub record IsMade (gcm : Gcm) : Type 0 where
   pub key : IsKept gcm.key
-  pub looked_up : HoldsKey gcm.key → IsRoom gcm.multiples
+  pub multiples_made : HoldsKey gcm.key → IsRoom gcm.multiples
   pub subkey : HoldsKey gcm.key → subkey_of gcm.multiples ≡ hash_subkey (round_keys_in gcm)
 
 -- the struct of zeros, which holds no key
