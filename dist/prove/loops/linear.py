@@ -110,6 +110,11 @@ def names_in(numbers):
     return {name for x in numbers for name in terms(x)}
 
 
+def may_be_zero(x):
+    """Whether some integers make this number 0."""
+    return x.constant % math.gcd(*(c for _, c in x.terms)) == 0 if isinstance(x, Linear) else x == 0
+
+
 def step_of(x):
     """Gives the highest power of two that divides all coefficients. Modulo this power the number is known."""
     power = math.gcd(*(c for _, c in x.terms))

@@ -120,9 +120,27 @@ class Unknowns:
             self.replace_unknown(name, unknown(name) - fact * k)
         else:
             self.facts |= {fact}
+        self.replace_known()
+
+    def replace_known(self):
+        """Replaces unknowns of which the facts allow only the lowest value."""
         for lowest in [f for f in self.facts if [*terms(f).values()] == [1]]:  # a lower limit of one unknown
             if self.implied(-lowest):
                 self.replace_unknown(lowest.terms[0][0], -lowest.constant)
+
+    def with_number(self, x, value):
+        """Gives a copy of the machine in which a number has this value. Quotients of it are then known too."""
+        m = self.copied().with_facts((x - value, value - x))
+        m.facts = frozenset(map(tightened, m.facts))
+        m.replace_known()
+        return m
+
+    def with_facts(self, facts):
+        """Adds these facts of the statement, and gives the machine."""
+        for fact in facts:
+            if not is_int(fact := self.known(fact)):
+                self.assume(fact)
+        return self
 
     def replace_unknown(self, name, by):
         """Replaces an unknown by a number everywhere."""

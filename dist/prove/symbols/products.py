@@ -66,7 +66,7 @@ class Products:
     def factors(self, pairs):
         """Gives the numbers of all bits that are in a product."""
         out, groups = [], {}
-        for a, group, columns in self.filled_rows(pairs):
+        for a, group, columns in self.filled_rows(pairs) if pairs else ():
             out.append(a)
             groups[group] = groups.get(group, 0) | columns
         return out + [group << 7 | k for group, columns in groups.items() for k in range(128) if columns >> k & 1]
