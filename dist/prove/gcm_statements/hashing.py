@@ -1,8 +1,10 @@
 """Has GHASH (SP 800-38D, 6.4) for statements of GCM and of AES-GCM-SIV. When a call has made a value of it, that becomes an arbitrary
 block."""
 import functools
+import itertools
 from collections import namedtuple
 
+from machines.operands import lanes
 from statements.keyed import Keyed
 from statements.standards import ZEROS, number, padded, product
 from symbols.bits import DATA, KEY, PUBLIC
@@ -77,11 +79,13 @@ class KeyedHash(Keyed):
 
     def with_powers(self, blocks):
         """Computes X_1 H^m + .. + X_m H. Names the factors so that the same cells come with the same power."""
-        factors, sums = self.domain.name_factors(sum(blocks[::-1], [])), self.domain.sums
-        if tuple(factors) not in sums:
-            products = (product(self.domain, factors[16 * i:16 * i + 16], self.powers[i]) for i in range(len(blocks)))
-            sums[tuple(factors)] = functools.reduce(self.aes.xor, products)
-        return sums[tuple(factors)]
+        factors, known = self.domain.name_factors(sum(blocks[::-1], [])), self.domain.known_products
+
+        def product_of(i, block):
+            if (i, block) not in known:
+                known[i, block] = product(self.domain, block, self.powers[i])
+            return known[i, block]
+        return functools.reduce(self.aes.xor, itertools.starmap(product_of, enumerate(lanes(tuple(factors), 16))))
 
     # GHASH of every length (lengths.py).
     def any_group(self, m, before, bytes_, size, many, end, after):

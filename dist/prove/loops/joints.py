@@ -85,7 +85,10 @@ def begins_of(start, part, rests=None):
 def by_what_is_left(m, flag, part):
     """Gives the machines with which a run of a part goes on, once a flag has a value there. If the flag says that no more than `step` bytes
     of the length are left, there is one for each number of bytes. Together they have all numbers that the facts allow."""
-    left = what_is_left(m, flag, part) if part.unit and is_number(*flag[:2]) else None
+    if not part.unit or not is_number(*flag[:2]):
+        return [m]
+    m.tighten()
+    left = what_is_left(m, flag, part)
     if left is None:
         return [m]
     numbers = range(left.constant % step_of(left), part.step + 1, step_of(left))
@@ -101,9 +104,9 @@ def what_is_left(m, flag, part):
                  and m.implied(left) and m.implied(part.step - left)), None)
 
 
-def end_of(m, part):
-    """Gives the length of a part at the end of a run, and the facts there."""
-    return m.known(unknown(part.length)), facts_at_end(m)
+def end_of(m, part, names):
+    """Gives the length of a part at the end of a run, and the facts there about the lengths with these names."""
+    return m.known(unknown(part.length)), facts_at_end(m, names)
 
 
 def facts_of_ends(ends, part, begin):

@@ -113,7 +113,7 @@ def passes_to(m, general):
         if by and is_number(b):
             rest = b - replaced(a, general.name, 0)
             if all(c % by == 0 for c in terms(rest).values()) and (rest if is_int(rest) else rest.constant) % by == 0:
-                return rest // by if is_int(rest) else rest.divided(by)[0]
+                return divmod(rest, by)[0]
     return None
 
 
@@ -352,15 +352,14 @@ def described(region):
     return [getattr(region, x) for x in (*region.numbers, "initial", "writable")] if isinstance(region, Window) else []
 
 
-def facts_at_end(m):
-    """Gives the facts of a machine, also those that say what its unknown numbers are."""
-    return m.facts | {x for old, by in m.replaced for x in (unknown(old) - by, by - unknown(old))}
+def facts_at_end(m, names):
+    """Gives the facts of a machine, also those that say what the unknown numbers with these names are."""
+    return m.facts | {x for old, by in ((unknown(name), m.known(unknown(name))) for name in names) for x in (old - by, by - old)}
 
 
 def check_ends(ends, facts, names):
     """Checks that runs came to an end with numbers of all sizes that these facts allow, for each unknown number with one of these names.
     Else a proof might say nothing about them. `ends` has the facts at each end (facts_at_end)."""
-    ends = list(ends)
     for name in names:
         for value in (*range(40), *(2 ** k + d for k in range(6, 60) for d in (-1, 0, 1))):
             this = {unknown(name) - value, value - unknown(name)}

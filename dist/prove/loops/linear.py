@@ -64,7 +64,7 @@ class Linear(namedtuple("Linear", "terms constant")):
     def __str__(self):
         return " + ".join(["%d %s" % (c, name) for name, c in self.terms] + [str(self.constant)])
 
-    __radd__, __rmul__ = __add__, __mul__
+    __radd__, __rmul__, __divmod__ = __add__, __mul__, divided
     __lt__ = __gt__ = __le__ = __ge__ = __mod__ = __and__ = __rand__ = __floordiv__ = __rshift__ = __len__ = refuse
 
 

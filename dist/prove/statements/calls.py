@@ -121,7 +121,7 @@ def prove_call(domain, program, call, seed=None):
     if seed is None:
         ends = run_to_all_ends(m, call, watches, known)
         if call.any_length:
-            lengths.check_ends(map(lengths.facts_at_end, ends), call.facts, names_in(call.facts))
+            check_ends(ends, call)
         return ends[-1]
     m.native = Native(m, seed, call.counter)
     try:
@@ -166,7 +166,7 @@ def numbers_of(m, call):
 def prove_parts(m, call):
     """Proves a call part by part. Each part is run from each state in which it may begin, with each remainder of its length."""
     starts = [m.copied().with_facts(case) for case in call.cases]
-    lengths.check_ends(map(lengths.facts_at_end, starts), call.facts, names_in(call.facts))
+    check_ends(starts, call)
     for part in call.parts:
         joint, places = joints.Joint(call, part, may_be_secret(call)), places_of_joint(starts, call, part) if part.phase else {}
         for start in starts:
@@ -174,12 +174,18 @@ def prove_parts(m, call):
             for _, begin in joints.begins_of(start, part.begun()):
                 forget_products(begin, [*starts, *joint.machines()])
                 machines = run_part(begin, call, part, joints.stopping_at(part, places))
-                ends += [joints.end_of(m, part) for m in machines]
+                ends += [joints.end_of(m, part, names_in(call.facts)) for m in machines]
                 joint.add_all([forget_what_was_asked(m, call) for m in machines if not has_returned(m)])
             for rest, begin in joints.begins_of(start, part):
                 lengths.check_ends(joints.facts_of_ends(ends, part, begin), begin.facts, joints.names_of_lengths(begin, part, rest))
         starts = joint.states()
     return machines[-1]
+
+
+def check_ends(machines, call):
+    """Checks that these are machines with lengths of all sizes."""
+    names = names_in(call.facts)
+    lengths.check_ends([lengths.facts_at_end(m, names) for m in machines], call.facts, names)
 
 
 def forget_products(m, others):

@@ -16,7 +16,7 @@ class Products:
         self.with_products = set()
         self.linear_tables, self.linear_parts, self.column_parts, self.rows = {}, {}, {}, {}
         self.row_keys = []
-        self.sums, self.factor_of, self.factor_cells = {}, {}, {}
+        self.known_products, self.factor_of, self.factor_cells = {}, {}, {}
         self.factor_bits = set()
 
     def bit_number(self, cell, block, j):
@@ -52,7 +52,7 @@ class Products:
             del self.byte_ids[self.bits_of[byte]]
             self.bits_of[byte] = None
         for known in (self.products, self.product_ids, self.with_products, self.product_xors, self.product_ands, self.shifted,
-                      self.linear_tables, self.sums, self.rows, self.row_keys):
+                      self.linear_tables, self.known_products, self.rows, self.row_keys):
             known.clear()
 
     def filled_rows(self, pairs):
