@@ -15,7 +15,7 @@ from statements.steps import NO_STEP, PHASE_BEGINNINGS
 from symbols.bits import DATA, KEY
 
 AGAIN = "again", (), ()
-Sizes = namedtuple("Sizes", "nonce additional text tag")  # numbers, which may be unknown
+Lengths = namedtuple("Lengths", "nonce additional text tag")  # numbers, which may be unknown
 # The arguments before the text; the patterns of the text and of the keystream; the phases of the chain, which are functions of the machine
 # that give a step; and the tag as if it had 16 bytes.
 Message = namedtuple("Message", "arguments text stream phases tag")
@@ -28,7 +28,7 @@ def longest_text(nonce):
 
 # All lengths. The flags of the first block (A.2.1) have the number TAG in a few bits.
 NONCE, ADDITIONAL, TEXT, TAG = "length of nonce, less 7", "length of additional data", "length of text", "(length of tag - 2) / 2"
-ALL, BITS_OF_TAG = Sizes(unknown(NONCE) + 7, unknown(ADDITIONAL), unknown(TEXT), unknown(TAG) * 2 + 2), 3
+ALL, BITS_OF_TAG = Lengths(unknown(NONCE) + 7, unknown(ADDITIONAL), unknown(TEXT), unknown(TAG) * 2 + 2), 3
 FACTS = {fact for name, least, most in ((NONCE, 0, 6), (ADDITIONAL, 0, PTRDIFF_MAX), (TEXT, 0, PTRDIFF_MAX), (TAG, 1, 7))
          for fact in facts_of_range(unknown(name), least, most)}
 # (The shortest nonce comes last. There the code asks whether the text is empty, and no state should be guessed from such a run.)
@@ -123,14 +123,14 @@ class AnyCcm(CmacCcm):
     def any_first_block(self, m, sizes, some):
         """Gives the first block (A.2.1). `some` says whether there are additional data."""
         nonce, text, tag = map(m.known, (sizes.nonce, sizes.text, sizes.tag - 2))
-        half = tag // 2 if isinstance(tag, int) else tag.divided(2)[0]
+        half = divmod(tag, 2)[0]
         flags = self.domain.substitute(m.to_bytes(half, 8)[0], tuple((64 * some + 8 * k + 14 - nonce) % 256 for k in range(256)), "flags")
         return [flags, *self.nonce[:nonce], *m.to_bytes(text, 8)[14 - nonce::-1]]
 
     def any_string(self, m, size, cells, first, last, begin=()):
         """Gives the next step of the chain of a string of this size. `begin` has its first bytes, if they aren't those cells. `first` is
         the value before the string, and `last` the one after it."""
-        k, (whole, rest) = m.steps_found, divmod(size, 16) if isinstance(size, int) else size.divided(16)
+        k, (whole, rest) = m.steps_found, divmod(size, 16)
         block = [*begin, *cells[len(begin):]] if isinstance(k, int) and k == 0 else cells
         if m.is_below(k, whole):
             return self.any_link(m, k, first, block)
@@ -161,7 +161,7 @@ def one_of(nonce, additional, rest, tag, encoded=2):
     ranges = {2: facts_of_range(length, 1, 0xfeff), 6: facts_of_range(length, 0xff00, WORD >> 32),
               10: facts_of_range(length, 1 << 32, PTRDIFF_MAX)}
     facts = {unknown("n"), PTRDIFF_MAX - size, longest_text(nonce) - size, *(ranges[encoded] if additional else ())}
-    return Sizes(nonce, length, size, tag), dict(facts=facts)
+    return Lengths(nonce, length, size, tag), dict(facts=facts)
 
 
 def encoded_length(m, length):

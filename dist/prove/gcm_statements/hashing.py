@@ -1,8 +1,10 @@
 """Has GHASH (SP 800-38D, 6.4) for statements of GCM and of AES-GCM-SIV. When a call has made a value of it, that becomes an arbitrary
 block."""
 import functools
+import itertools
 from collections import namedtuple
 
+from machines.operands import lanes
 from statements.keyed import Keyed
 from statements.standards import ZEROS, number, padded, product
 from symbols.bits import DATA, KEY, PUBLIC
@@ -77,18 +79,20 @@ class KeyedHash(Keyed):
 
     def with_powers(self, blocks):
         """Computes X_1 H^m + .. + X_m H. Names the factors so that the same cells come with the same power."""
-        factors, sums = self.domain.name_factors(sum(blocks[::-1], [])), self.domain.sums
-        if tuple(factors) not in sums:
-            products = (product(self.domain, factors[16 * i:16 * i + 16], self.powers[i]) for i in range(len(blocks)))
-            sums[tuple(factors)] = functools.reduce(self.aes.xor, products)
-        return sums[tuple(factors)]
+        factors, known = self.domain.name_factors(sum(blocks[::-1], [])), self.domain.known_products
+
+        def product_of(i, block):
+            if (i, block) not in known:
+                known[i, block] = product(self.domain, block, self.powers[i])
+            return known[i, block]
+        return functools.reduce(self.aes.xor, itertools.starmap(product_of, enumerate(lanes(tuple(factors), 16))))
 
     # GHASH of every length (lengths.py).
     def any_group(self, m, before, bytes_, size, many, end, after):
         """Gives the next step of GHASH of `size` bytes. It reads `many` blocks at once as long as it can, then the rest and the blocks
         `end`. A value becomes the block with which the next group begins. The last value becomes `after`."""
-        group, size = m.steps_found, m.known(size)
-        whole, rest = divmod(size, 16 * many) if isinstance(size, int) else size.divided(16 * many)
+        group, unit = m.steps_found, 16 * many
+        left = m.known(size) - group * unit
 
         def value_of(group):
             return before if group == 0 else self.at_block(m, self.hash_value, group * many)
@@ -96,13 +100,13 @@ class KeyedHash(Keyed):
         def blocks(group):
             return [self.at_block(m, bytes_, group * many + k) for k in range(many)]
 
-        below = m.is_below(group, whole)
+        below = m.is_below(unit - 1, left)
         if below:
             return self.group_step(value_of(group), map(self.hashed, blocks(group)), value_of(group + 1))
-        if below is None or not isinstance(group - whole, int):
+        if below is None or not isinstance(left, int):
             return "nothing", (), ()
-        groups = in_groups([*map(self.hashed, padded(sum(blocks(whole), [])[:rest]))] + end, many)
-        at = group - whole
+        at = -(left // unit)  # groups after the whole ones
+        groups = in_groups([*map(self.hashed, padded(sum(blocks(group - at), [])[:left % unit]))] + end, many)
         if at < len(groups):
             return self.group_step(value_of(group), groups[at], value_of(group + 1) if groups[at + 1:] else after)
         if not groups and at == 0:  # the last value was that of a whole group

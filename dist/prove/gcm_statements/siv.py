@@ -7,7 +7,7 @@ from collections import namedtuple
 
 from gcm_statements.gcm_header import DONE, NO_KEY, REFUSED, TOO_LONG, UNEQUAL_LENGTHS
 from gcm_statements.hashing import Hashing, KeyedHash, in_groups
-from gcm_statements.whole_messages import ADDITIONAL, BATCH, EVERY_PAIR, GROUP, TEXT, any_sizes, counts_of
+from gcm_statements.whole_messages import ADDITIONAL, BATCH, BLOCK, EVERY_PAIR, GROUP, TEXT, any_sizes, counts_of
 from loops.joints import Part, is_empty_or_not
 from loops.linear import unknown
 from machines.operands import Number
@@ -26,9 +26,9 @@ LENGTH = sum(EVERY_PAIR)
 FEW_OR_MANY = {FEW - LENGTH}, {LENGTH - FEW - 1}
 BEFORE_TEXT = [few | empty for few in FEW_OR_MANY for empty in is_empty_or_not(EVERY_PAIR[:1])]
 AFTER_TEXT = [few | empty for few in FEW_OR_MANY for empty in is_empty_or_not(EVERY_PAIR)]
-HASHING = Part(ADDITIONAL, GROUP, 2, BEFORE_TEXT), Part(TEXT, GROUP, 3, AFTER_TEXT)
-SEALING = *HASHING, Part(TEXT, BATCH)
-OPENING = Part(TEXT, BATCH, 1, FEW_OR_MANY), *HASHING, Part(TEXT, BATCH)
+HASHING = Part(ADDITIONAL, GROUP, 2, BEFORE_TEXT, unit=BLOCK), Part(TEXT, GROUP, 3, AFTER_TEXT, unit=BLOCK)
+SEALING = *HASHING, Part(TEXT, BATCH, unit=BLOCK)
+OPENING = Part(TEXT, BATCH, 1, FEW_OR_MANY, unit=BLOCK), *HASHING, Part(TEXT, BATCH, unit=BLOCK)
 
 
 def little(n, size):
@@ -95,7 +95,7 @@ class KeyedSiv(KeyedHash):
         yield "memory", sum(blocks, []), sum(self.derived, [])
         for power, after in () if few else zip(self.powers, self.powers[1:]):
             yield "hash", functools.partial(self.with_powers, [power]), after
-        yield "memory", self.stored(self.expanded), self.stored(self.message_w)
+        yield "memory", *self.made_once("stored", lambda: (self.stored(self.expanded), self.stored(self.message_w)))
 
     def polyval(self, additional, text):
         """Gives whether there are few bytes, and POLYVAL (4) of additional data and a text, each filled up with zeros, and of their lengths

@@ -11,12 +11,14 @@ from symbols.bits import DATA
 
 ADDITIONAL, TEXT = "length of additional data", "length of text"
 EVERY_PAIR = Sizes(unknown(ADDITIONAL), unknown(TEXT))
+# The bytes of a text that are encrypted at once (by some builds; half of them by others), those that GHASH reads at once, and a block's.
+BATCH, GROUP, BLOCK = 256, 48, 16
 # The parts of these calls, with the phases after those of the nonce. (No value of GHASH is an arbitrary block before all that it read was
 # empty.)
-BATCH, GROUP = 256, 48  # the bytes of a text that are encrypted at once, and those that GHASH reads at once
-SEALING = Part(TEXT, BATCH, 1), Part(ADDITIONAL, GROUP, 2, is_empty_or_not(EVERY_PAIR[:1])), Part(TEXT, GROUP)
-OPENING = (Part(ADDITIONAL, GROUP, 1, is_empty_or_not(EVERY_PAIR[:1])), Part(TEXT, GROUP, 2, is_empty_or_not(EVERY_PAIR)),
-           Part(TEXT, BATCH))
+EMPTY_OR_NOT = is_empty_or_not(EVERY_PAIR[:1])
+SEALING = Part(TEXT, BATCH, 1, unit=BLOCK), Part(ADDITIONAL, GROUP, 2, EMPTY_OR_NOT, unit=BLOCK), Part(TEXT, GROUP, unit=BLOCK)
+OPENING = (Part(ADDITIONAL, GROUP, 1, EMPTY_OR_NOT, unit=BLOCK), Part(TEXT, GROUP, 2, is_empty_or_not(EVERY_PAIR), unit=BLOCK),
+           Part(TEXT, BATCH, unit=BLOCK))
 
 
 class WholeMessages:

@@ -6,12 +6,14 @@ nothing that the runs don't have in common, and of the stack below the stack poi
 instance of this state. So all that is proved from there holds for each run. The next part begins in this state, with each remainder of its
 own length.
 
+Remainders may share a loop (Part.unit). Then a run learns the remainder where the loop ends.
+
 It doesn't matter how a place or a state is guessed: a wrong guess can only fail. A state only becomes weaker while runs come (`weaken`). So
 a run that was an instance of it stays one."""
 from collections import namedtuple
 
-from loops.lengths import differences_from, general_regions, general_registers, generalized
-from loops.linear import Linear, implied, names_in, refuted, rewritten, terms, unknown
+from loops.lengths import differences_from, facts_at_end, general_regions, general_registers, generalized
+from loops.linear import Linear, implied, is_number, may_be_zero, names_in, refuted, rewritten, step_of, terms, unknown
 from machines.operands import SECRET, is_int
 from machines.regions import Window
 from symbols.bits import DATA, KEY, Unproved
@@ -20,7 +22,7 @@ SCOUTED = 0, 1, 16, 17  # the remainders with which the place of a joint is look
 LONGEST_TRAIL = 4000  # how many places are looked at there
 
 
-class Part(namedtuple("Part", "length step phase cases but scouted", defaults=[None, (frozenset(),), None, SCOUTED])):
+class Part(namedtuple("Part", "length step phase cases but scouted unit", defaults=[None, (frozenset(),), None, SCOUTED, None])):
     """A part of a call.
 
         length    the name of the unknown length whose remainders it has
@@ -28,8 +30,15 @@ class Part(namedtuple("Part", "length step phase cases but scouted", defaults=[N
         phase     the phase of the statement that begins when the part ends; None for the last part, which ends with the call
         cases     sets of facts, of which one holds for each run that comes to its end. Each has a state of its own there
         but       a length that isn't meant. It is less than `step`
-        scouted   the remainders with which the place of its end is looked for"""
+        scouted   the remainders with which the place of its end is looked for
+        unit      a divisor of `step`, or None. With it, runs begin with a remainder by `unit`. A run learns the remainder by `step` when
+                  the code has asked whether no more than `step` bytes are left (by_what_is_left). So all remainders share what runs
+                  before that, such as a loop over the length"""
     __slots__ = ()
+
+    def begun(self):
+        """Gives the part by whose remainders its runs begin."""
+        return self._replace(step=self.unit or self.step)
 
     def later(self, phases):
         """Gives the part if other phases come before its own."""
@@ -52,7 +61,7 @@ def with_remainder(start, part, rest):
     """Gives a machine in which the length of a part leaves this remainder. If the length is known there, it stays as it is."""
     m = start.copied()
     if isinstance(m.known(unknown(part.length)), Linear):
-        groups = unknown("groups of %s before phase %s" % (part.length, part.phase))  # (a name that no other part has)
+        groups = unknown("groups of %d, %s before phase %s" % (part.step, part.length, part.phase))  # (a name that no other part has)
         m.replace_unknown(part.length, groups * part.step + rest)
         m.assume(groups - (rest == part.but))
     return m
@@ -67,10 +76,44 @@ def names_of_lengths(m, part, rest):
 
 def begins_of(start, part, rests=None):
     """Gives (a remainder, the machine in which the length of a part leaves it) for each remainder that it may leave, or for some."""
-    for rest in rests or range(part.step) if isinstance(start.known(unknown(part.length)), Linear) else range(1):
-        m = with_remainder(start, part, rest)
-        if not refuted(m.facts):
+    for rest in range(part.step) if isinstance(start.known(unknown(part.length)), Linear) else range(1):
+        m = with_remainder(start, part, rest) if rests is None or rest in rests else None
+        if m and not refuted(m.facts):
             yield rest, m
+
+
+def by_what_is_left(m, flag, part):
+    """Gives the machines with which a run of a part goes on, once a flag has a value there. If the flag says that no more than `step` bytes
+    of the length are left, there is one for each number of bytes. Together they have all numbers that the facts allow."""
+    if not part.unit or not is_number(*flag[:2]):
+        return [m]
+    m.tighten()
+    left = what_is_left(m, flag, part)
+    if left is None:
+        return [m]
+    numbers = range(left.constant % step_of(left), part.step + 1, step_of(left))
+    return [m.with_number(left, n) for n in numbers if not refuted(m.facts | {left - n, n - left})]
+
+
+def what_is_left(m, flag, part):
+    """Gives the number of bytes that are left of the length of a part, if a flag says that they are no more than `step`. Else gives None.
+    Its remainder by `unit` has to be known."""
+    own = terms(m.known(unknown(part.length))).keys()
+    both = (m.known(number) for number in (flag[1] - flag[0], flag[0] - flag[1]))
+    return next((left for left in both if own & terms(left).keys() and step_of(left) % part.unit == 0
+                 and m.implied(left) and m.implied(part.step - left)), None)
+
+
+def end_of(m, part, names):
+    """Gives the length of a part at the end of a run, and the facts there about the lengths with these names."""
+    return m.known(unknown(part.length)), facts_at_end(m, names)
+
+
+def facts_of_ends(ends, part, begin):
+    """Gives the facts at the ends of runs of a part, as end_of does, with those that say that the length is that of `begin`. Leaves out ends
+    at which it leaves another remainder."""
+    own, length = unknown(part.length), begin.known(unknown(part.length))
+    return [facts | {own - length, length - own} for end, facts in ends if may_be_zero(end - length)]
 
 
 def case_of(m, part):
@@ -181,9 +224,10 @@ class Joint:
             if number != unknown(name):
                 rewrite(state, number, name)
         state.facts, state.replaced, state.decided, state.generals, state.loops = self.facts, [], [], (), {}
+        state.first_passes = ()
         state.flags = dict.fromkeys(state.flag_names, SECRET)
         state.ever_written = {name: set() for name in state.ever_written}
-        return with_facts(state, case)
+        return state.with_facts(case)
 
     def instance(self, state, m):
         """Gives the state with the lengths that a machine has."""
@@ -193,14 +237,6 @@ class Joint:
         for name in self.lengths:
             want.replace_unknown(name + " at the joint", m.known(unknown(name)))
         return want
-
-
-def with_facts(m, facts):
-    """Gives a machine to which it adds these facts of the statement."""
-    for fact in facts:
-        if not is_int(fact := m.known(fact)):
-            m.assume(fact)
-    return m
 
 
 def implied_by(facts, name, number):

@@ -37,7 +37,8 @@ General = namedtuple("General", "name state guesses blocks made_of wrong")
 
 
 class Leads(Exception):
-    """Ends a run, which leads to these machines. There are none if it came back to a general state."""
+    """Ends a run, which leads to these machines. There are none if it came back to a general state. If it leads to a new one, the state
+    after the first pass is given too. That is an instance of the new one, so other runs from it needn't go on (run_to_all_ends)."""
 
 
 class Wrong(Exception):
@@ -83,12 +84,12 @@ class GeneralStates:
             return True
         return False
 
-    def forget(self, general):
-        """Forgets a general state with a wrong guess, and all states that came from it. Gives the machines whose runs ended at these."""
-        wrong = lambda other: general.name in other.state.generals
-        back = [m for other, m in self.left_out if wrong(other) and general.name not in m.generals]
-        self.left_out = [(other, m) for other, m in self.left_out if not wrong(other) and general.name not in m.generals]
-        self.at = {key: [other for other in some if not wrong(other)] for key, some in self.at.items()}
+    def forget(self, is_dropped):
+        """Forgets the general states of which is_dropped(state) says that their runs don't go on. Gives the machines of other runs that
+        ended at these. They have to go on."""
+        back = [m for general, m in self.left_out if is_dropped(general.state) and not is_dropped(m)]
+        self.left_out = [(general, m) for general, m in self.left_out if not is_dropped(general.state) and not is_dropped(m)]
+        self.at = {key: [general for general in some if not is_dropped(general.state)] for key, some in self.at.items()}
         return back
 
 
@@ -112,7 +113,7 @@ def passes_to(m, general):
         if by and is_number(b):
             rest = b - replaced(a, general.name, 0)
             if all(c % by == 0 for c in terms(rest).values()) and (rest if is_int(rest) else rest.constant) % by == 0:
-                return rest // by if is_int(rest) else rest.divided(by)[0]
+                return divmod(rest, by)[0]
     return None
 
 
@@ -131,7 +132,7 @@ def arrive(known, m, back):
     if key in known.at and not (back and visit and visit.general):
         m.settle()
         if known.leave_out(m, key):
-            raise Leads([])
+            raise Leads([], None)
     if visit is None or not back:
         m.loops[key] = Visit(len(m.decided))
     elif visit.general:
@@ -140,8 +141,8 @@ def arrive(known, m, back):
         m.settle()
         now = Visit(len(m.decided), m.copied(), [fact for _, fact in m.decided[visit.mark:]])
         if visit.first:
-            raise Leads([general_state(known, key, visit, now)])
-        m.loops[key] = now
+            raise Leads([general_state(known, key, visit, now)], visit.first)
+        m.loops[key], m.first_passes = now, (*m.first_passes, now.first)
 
 
 def moved_on(m, blocks):
@@ -302,7 +303,7 @@ def check_pass(m, general):
     if wrong:
         raise Wrong(general, wrong)
     check_instance(m, general, one_more)
-    raise Leads([])
+    raise Leads([], None)
 
 
 def check_instance(m, general, passes):
@@ -351,15 +352,19 @@ def described(region):
     return [getattr(region, x) for x in (*region.numbers, "initial", "writable")] if isinstance(region, Window) else []
 
 
+def facts_at_end(m, names):
+    """Gives the facts of a machine, also those that say what the unknown numbers with these names are."""
+    return m.facts | {x for old, by in ((unknown(name), m.known(unknown(name))) for name in names) for x in (old - by, by - old)}
+
+
 def check_ends(ends, facts, names):
     """Checks that runs came to an end with numbers of all sizes that these facts allow, for each unknown number with one of these names.
-    Else a proof might say nothing about them."""
-    known = [m.facts | {x for old, by in m.replaced for x in (unknown(old) - by, by - unknown(old))} for m in ends]
+    Else a proof might say nothing about them. `ends` has the facts at each end (facts_at_end)."""
     for name in names:
         for value in (*range(40), *(2 ** k + d for k in range(6, 60) for d in (-1, 0, 1))):
             this = {unknown(name) - value, value - unknown(name)}
             if not refuted(facts | this):
-                one = next((some for some in known if not refuted(some | this)), None)
+                one = next((some for some in ends if not refuted(some | this)), None)
                 if one is None:
                     raise Unproved("no run returned with the length that belongs to %s = %d" % (name, value))
-                known = sorted(known, key=lambda some: some is not one)  # so that this one is asked first the next time
+                ends = sorted(ends, key=lambda some: some is not one)  # so that this one is asked first the next time

@@ -64,7 +64,7 @@ class Linear(namedtuple("Linear", "terms constant")):
     def __str__(self):
         return " + ".join(["%d %s" % (c, name) for name, c in self.terms] + [str(self.constant)])
 
-    __radd__, __rmul__ = __add__, __mul__
+    __radd__, __rmul__, __divmod__ = __add__, __mul__, divided
     __lt__ = __gt__ = __le__ = __ge__ = __mod__ = __and__ = __rand__ = __floordiv__ = __rshift__ = __len__ = refuse
 
 
@@ -108,6 +108,11 @@ def terms(x):
 def names_in(numbers):
     """Gives the names of the unknowns in these numbers."""
     return {name for x in numbers for name in terms(x)}
+
+
+def may_be_zero(x):
+    """Whether some integers make this number 0."""
+    return x.constant % math.gcd(*(c for _, c in x.terms)) == 0 if isinstance(x, Linear) else x == 0
 
 
 def step_of(x):

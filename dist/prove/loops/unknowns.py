@@ -120,9 +120,33 @@ class Unknowns:
             self.replace_unknown(name, unknown(name) - fact * k)
         else:
             self.facts |= {fact}
+        self.replace_known()
+
+    def replace_known(self):
+        """Replaces unknowns of which the facts allow only the lowest value."""
         for lowest in [f for f in self.facts if [*terms(f).values()] == [1]]:  # a lower limit of one unknown
             if self.implied(-lowest):
                 self.replace_unknown(lowest.terms[0][0], -lowest.constant)
+
+    def with_number(self, x, value):
+        """Gives a copy of the machine in which a number has this value."""
+        m = self.copied().with_facts((x - value, value - x))
+        m.tighten()
+        return m
+
+    def tighten(self):
+        """Tightens all facts, and replaces the unknowns of which they allow only one value, such as a quotient of a known number."""
+        before = None
+        while before != self.facts:
+            before = self.facts = frozenset(map(tightened, self.facts))
+            self.replace_known()
+
+    def with_facts(self, facts):
+        """Adds these facts of the statement, and gives the machine."""
+        for fact in facts:
+            if not is_int(fact := self.known(fact)):
+                self.assume(fact)
+        return self
 
     def replace_unknown(self, name, by):
         """Replaces an unknown by a number everywhere."""
@@ -200,7 +224,7 @@ class Unknowns:
         if not self.counter or is_int(self.counter.wrap) or len(done) != 1:
             return
         wrap, (done,) = self.counter.wrap, done
-        here = self.counter.first + (done // 16 if is_int(done) else done.divided(16)[0])
+        here = self.counter.first + divmod(done, 16)[0]
         if self.implied(here - wrap):
             other = {WRAPPED, *(name for name, _ in wrap.terms if wrap == unknown(name))}
             self.counter = self.counter._replace(wrap=unknown(WRAPPED))
@@ -233,7 +257,7 @@ class Unknowns:
         a, byte = self.window(to), self.to_bytes(value, 1)
         if not (a and a.writable and a.is_untouched() and self.implied(a.size - count) and self.implied(count)):
             raise Unproved("fills an unknown number of bytes, and not from the beginning of a buffer")
-        whole, rest = divmod(count, a.unit) if is_int(count) else count.divided(a.unit)
+        whole, rest = divmod(count, a.unit)
         if a.want != byte * a.unit or a.backwards and rest:
             raise Unproved("an unknown number of bytes is overwritten, and not as it has to be")
         if a.backwards:

@@ -113,6 +113,7 @@ class Machine(Arithmetic, Borders, Unknowns, Bytewise, Results, Access):
         self.replaced = []  # (an unknown, the number that replaced it)
         self.first_block = 0  # the block of each buffer from which on blocks are numbered
         self.generals = ()  # the names of the general states from which the run came
+        self.first_passes = ()  # the states after the first passes of loops from which the run came
         self.times_forgotten = 0  # how often blocks were forgotten
         self.trace = []  # where instructions ran, for calls that share it
         # (the stack pointer in a function, the numbers that it was given), for the call and for the last functions

@@ -67,7 +67,7 @@ class Window(Region):
     def turned(self, offset, size):
         """Gives the offset of an access, counted in the order of the blocks."""
         if self.backwards:
-            within = offset % self.unit if is_int(offset) else offset.divided(self.unit)[1]
+            within = divmod(offset, self.unit)[1]
             if within + size > self.unit:
                 raise Unproved("accesses two blocks at once that are processed backwards")
             offset = self.size - self.unit - offset + 2 * within
@@ -85,7 +85,7 @@ class Window(Region):
         """Gives what the first block of `content` has to be, from the first byte of `content` on. A byte is None if this isn't known."""
         want, unit, at, before = self.want, self.unit, self.origin + self.skip, self.bytes_before(m)
         if callable(want):
-            want = want(m, at // unit if is_int(at) else at.divided(unit)[0])
+            want = want(m, divmod(at, unit)[0])
         return [x if x is None else m.domain.moved(x, before // unit) for x in want[before % unit:]]
 
     def settle(self, m):

@@ -121,7 +121,7 @@ def prove_call(domain, program, call, seed=None):
     if seed is None:
         ends = run_to_all_ends(m, call, watches, known)
         if call.any_length:
-            lengths.check_ends(ends, call.facts, names_in(call.facts))
+            check_ends(ends, call)
         return ends[-1]
     m.native = Native(m, seed, call.counter)
     try:
@@ -165,18 +165,27 @@ def numbers_of(m, call):
 
 def prove_parts(m, call):
     """Proves a call part by part. Each part is run from each state in which it may begin, with each remainder of its length."""
-    starts = [joints.with_facts(m.copied(), case) for case in call.cases]
-    lengths.check_ends(starts, call.facts, names_in(call.facts))
+    starts = [m.copied().with_facts(case) for case in call.cases]
+    check_ends(starts, call)
     for part in call.parts:
         joint, places = joints.Joint(call, part, may_be_secret(call)), places_of_joint(starts, call, part) if part.phase else {}
         for start in starts:
-            for rest, begin in joints.begins_of(start, part):
+            ends = []
+            for _, begin in joints.begins_of(start, part.begun()):
                 forget_products(begin, [*starts, *joint.machines()])
-                ends = run_part(begin.copied(), call, part, joints.stopping_at(part, places))
-                lengths.check_ends(ends, begin.facts, joints.names_of_lengths(begin, part, rest))
-                joint.add_all([forget_what_was_asked(end, call) for end in ends if not has_returned(end)])
+                machines = run_part(begin, call, part, joints.stopping_at(part, places))
+                ends += [joints.end_of(m, part, names_in(call.facts)) for m in machines]
+                joint.add_all([forget_what_was_asked(m, call) for m in machines if not has_returned(m)])
+            for rest, begin in joints.begins_of(start, part):
+                lengths.check_ends(joints.facts_of_ends(ends, part, begin), begin.facts, joints.names_of_lengths(begin, part, rest))
         starts = joint.states()
-    return ends[-1]
+    return machines[-1]
+
+
+def check_ends(machines, call):
+    """Checks that these are machines with lengths of all sizes."""
+    names = names_in(call.facts)
+    lengths.check_ends([lengths.facts_at_end(m, names) for m in machines], call.facts, names)
 
 
 def forget_products(m, others):
@@ -192,7 +201,7 @@ def places_of_joint(starts, call, part):
     """Gives the places at which a part ends, by the cases of its end. They are looked for with a few remainders."""
     trails = {}
     for start in starts:
-        for _, begin in joints.begins_of(start, part, part.scouted):
+        for _, begin in joints.begins_of(start, part.begun(), part.scouted):
             for m in itertools.filterfalse(has_returned, run_part(begin, call, part, joints.stopping_in(part.phase))):
                 trail = joints.Trail()
                 trails.setdefault(joints.case_of(m, part), []).append(trail)
@@ -205,7 +214,7 @@ def run_part(m, call, part, stopping):
     """Runs a part of a call to all its ends. `stopping` is called after each instruction."""
     known = lengths.GeneralStates()
     steps = step_by_step(lambda m: call.steps(m) if call.steps and m.phase != part.phase else NO_STEP)
-    return run_to_all_ends(m, call, [steps, stopping, functools.partial(lengths.watch, known)], known)
+    return run_to_all_ends(m, call, [steps, stopping, functools.partial(lengths.watch, known)], known, part)
 
 
 def has_returned(m):
@@ -233,8 +242,9 @@ def may_be_secret(call):
     return is_secret
 
 
-def run_to_all_ends(m, call, watches, known):
-    """Runs a call with each answer to each question, and checks each end. Gives the machines that returned, or that came to a joint."""
+def run_to_all_ends(m, call, watches, known, part=None):
+    """Runs a call, or a part of it, with each answer to each question, and checks each end. Gives the machines that returned, or that came
+    to a joint."""
     waiting, ends = [m], []
     while waiting:
         m = waiting.pop()
@@ -242,10 +252,16 @@ def run_to_all_ends(m, call, watches, known):
         try:
             run(m, call, watches)
         except Question as question:
-            waiting += [m.answered(question.args[0], answer) for answer in (1, 0)]
+            flag, = question.args
+            for answered in (m.answered(flag, answer) for answer in (1, 0)):
+                waiting += joints.by_what_is_left(answered, flag, part) if part else [answered]
         except lengths.Leads as leads:
             no_secret_in_buffers(m, call)
-            waiting += leads.args[0]
+            machines, first = leads.args
+            if part and first:  # (in other calls such runs go on too, as places are noted there: covered.py)
+                is_dropped = lambda x: first in x.first_passes
+                waiting = [x for x in waiting if not is_dropped(x)] + known.forget(is_dropped)
+            waiting += machines
         except joints.Arrived:
             no_secret_in_buffers(m, call)
             ends.append(m)
@@ -253,8 +269,9 @@ def run_to_all_ends(m, call, watches, known):
             general, guesses = wrong.args
             m.forget_nearest(general.name)
             m.forget_results(general.name)
-            waiting, ends = ([x for x in some if general.name not in x.generals] for some in (waiting, ends))
-            waiting += [*known.forget(general), lengths.general_state(known, *general.made_of, general.wrong | guesses)]
+            is_dropped = lambda x: general.name in x.generals
+            waiting, ends = ([x for x in some if not is_dropped(x)] for some in (waiting, ends))
+            waiting += [*known.forget(is_dropped), lengths.general_state(known, *general.made_of, general.wrong | guesses)]
         else:
             check(m, call)
             nothing_secret(m, call)

@@ -16,7 +16,7 @@ class Products:
         self.with_products = set()
         self.linear_tables, self.linear_parts, self.column_parts, self.rows = {}, {}, {}, {}
         self.row_keys = []
-        self.sums, self.factor_of, self.factor_cells = {}, {}, {}
+        self.known_products, self.factor_of, self.factor_cells = {}, {}, {}
         self.factor_bits = set()
 
     def bit_number(self, cell, block, j):
@@ -52,7 +52,7 @@ class Products:
             del self.byte_ids[self.bits_of[byte]]
             self.bits_of[byte] = None
         for known in (self.products, self.product_ids, self.with_products, self.product_xors, self.product_ands, self.shifted,
-                      self.linear_tables, self.sums, self.rows, self.row_keys):
+                      self.linear_tables, self.known_products, self.rows, self.row_keys):
             known.clear()
 
     def filled_rows(self, pairs):
@@ -66,7 +66,7 @@ class Products:
     def factors(self, pairs):
         """Gives the numbers of all bits that are in a product."""
         out, groups = [], {}
-        for a, group, columns in self.filled_rows(pairs):
+        for a, group, columns in self.filled_rows(pairs) if pairs else ():
             out.append(a)
             groups[group] = groups.get(group, 0) | columns
         return out + [group << 7 | k for group, columns in groups.items() for k in range(128) if columns >> k & 1]
