@@ -15,8 +15,8 @@ from statements.headers import version
 # says which builds and keys have a list. All builds have `most`, except those that takes_few (builds.py) names: these are compiled
 # from the sources of the others. Keys of 24 and 32 bytes have each call once, and the code that loops over round keys. Only the builds of
 # FIRST have `remainders` and `lengths_24_32`. These are other remainders of lengths, and each call at every length with keys of 24 and 32
-# bytes. With PROVE=all they also have `every`. left_out(word, values) says whether builds for RISC-V, with words of so many bytes, leave
-# these arguments out.
+# bytes. With PROVE=all they have `every` with all keys, and leave out what that covers of these lists, of `first` and of `all_`.
+# left_out(word, values) says whether builds for RISC-V, with words of so many bytes, leave these arguments out.
 Row = collections.namedtuple("Row", "name what each most first remainders keys_24_32 lengths_24_32 all_ every left_out",
                              defaults=[()] * 8 + [lambda word, values: False])
 LISTS = Row._fields[2:-1]
@@ -24,6 +24,9 @@ ON_RISCV, ON_RISCV_32 = lambda word, values: True, lambda word, values: word == 
 ANY_COUNTER_ON_RISCV_32 = lambda word, values: word == 4 and None in values
 ONCE = [()]  # no arguments
 FIRST = "x86_64/aes", "x86_64/siv", "x86_64/gcm"  # the builds that have `first` with PROVE=builds
+# The statements of which `every` doesn't cover all arguments in other lists.
+NOT_IN_EVERY = ("any_keystream", "any_cbc_encrypt", "any_wrap", "any_unwrap", "unwrap_padded_refused", "any_encrypt", "any_decrypt",
+                "any_decrypt_unverified", "any_then_piece", "any_then_decrypt")
 
 SINGLE_ROUNDS = [(name, way) for name in ("cipher_round", "equiv_inv_cipher_round") for way in ("", "_par")]
 COLUMNS = ["mix_columns", "inv_mix_columns"]
@@ -60,7 +63,7 @@ AES_ROWS = [
         first=[*((2 ** 64 - 21, 20, NO_CARRY, way) for way in ("_to", "_with")),
                *((0, n, NO_CARRY, "_to") for n in (*range(1, 9), 31, 32, 33)), *((0, n) for n in range(1, 131)),
                *((5, n) for n in (*range(1, 41), 59, 60, *range(120, 141), *range(200, 206)))],
-        all_=[(0, 33, 5)], keys_24_32=[(0, 33), (3, 33, NO_CARRY, "_to"), (3, 33, NO_CARRY, "_with")],
+        keys_24_32=[(0, 33), (3, 33, NO_CARRY, "_to"), (3, 33, NO_CARRY, "_with")],
         left_out=lambda word, values: word == 4 and values[0] >= 2 ** 36),
     Row("any_cbc_encrypt", "every number of blocks", each=ONCE, lengths_24_32=ONCE),
     Row("any_cbc_decrypt", "64 n + r blocks for every n: r", most=[9], remainders=[r * 9 % 64 for r in range(8) if r != 1],
@@ -279,19 +282,24 @@ def as_tuple(entry):
     return entry if isinstance(entry, tuple) else (entry,)
 
 
+def is_beyond_every(row, values):
+    """Whether `every` doesn't cover these arguments of a statement."""
+    return (values if row.name in TABLES else row.name) in NOT_IN_EVERY
+
+
 def arguments_taken(row, build, key_size, level):
     """Gives the arguments that a build has for a statement."""
-    is_late, is_first = takes_few(build), level and build in FIRST
-    if key_size != 16:
-        many = [*row.each, *row.most] if level == "all" and not is_late else []
-        once = row.keys_24_32 if level == "all" or not is_late else ()
-        return dict.fromkeys([*many, *once, *(row.lengths_24_32 if is_first else ())])
-    remainders = row.remainders if is_first else ()
-    if level == "all":
-        return dict.fromkeys([*row.each, *row.most, *(() if is_late else [*row.first, *row.all_]), *remainders,
-                              *(row.every if is_first else ())])
-    most = () if takes_few(build, level) else row.most
-    return dict.fromkeys([*row.each, *most, *(row.first if is_first else ()), *remainders])
+    is_late, is_first, is_all = takes_few(build), level and build in FIRST, level == "all"
+    if key_size == 16:
+        taken = [*row.each, *(row.most if is_all or not takes_few(build, level) else ())]
+        more = [*(row.first if is_first or is_all and not is_late else ()), *(row.all_ if is_all and not is_late else ()),
+                *(row.remainders if is_first else ())]
+    else:
+        taken = [*([*row.each, *row.most] if is_all and not is_late else ()), *(row.keys_24_32 if is_all or not is_late else ())]
+        more = row.lengths_24_32 if is_first else ()
+    if is_all and is_first:
+        more = [*(values for values in more if is_beyond_every(row, values)), *row.every]
+    return dict.fromkeys([*taken, *more])
 
 
 def name_of(row, values):

@@ -109,7 +109,7 @@ def pool_of(jobs, **more):
 def parts_of(level, build, size):
     """Gives in how many parts the calls of a build are proved. All parts should run about as long, and not need too much memory."""
     if level == "all":
-        return 8 if "/aes" in build and not takes_few(build) else 3
+        return 8 if build in FIRST or "/aes" in build and not takes_few(build) else 3
     if size != 16 or takes_few(build, level):
         return 1
     return 4 if level and build in FIRST else 1 if level else 2
@@ -120,6 +120,8 @@ def run_all(pool, options):
     tasks = [Task(options, build, size, part, parts) for size in options.keys for build in options.builds
              if (size != 24 or "siv" not in build) and (size == 16 or options.level == "all" or not takes_few(build))
              for parts in [parts_of(options.level, build, size)] for part in range(parts)]
+    if options.level == "all":
+        tasks.sort(key=lambda task: task.build not in FIRST)  # (with each size of key)
     for future in concurrent.futures.as_completed([pool.submit(task.run) for task in tasks]):
         yield future.result()
 

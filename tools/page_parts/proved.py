@@ -25,12 +25,13 @@ nonce doesn't have 12 bytes, J_0 is any block. In messages in pieces it is any b
 - *Each*: all builds, with keys of 16 bytes.
 - *Most*: with keys of 16 bytes, all builds except `_v1` and those for Windows and RISC-V. Without `PROVE` also not `_v3`.
 - *First*: with keys of 16 bytes, `x86_64/aes.s` and `x86_64/gcm.s`, with `PROVE=builds`.
-- *Remainders*: with keys of 16 bytes, these two, with `PROVE=builds` and `PROVE=all`.
+- *Remainders*: with keys of 16 bytes, these two, with `PROVE=builds`.
 - *24, 32*: with keys of 24 and 32 bytes, the builds of *most*.
-- *Lengths 24, 32*: with these keys, `x86_64/aes.s` and `x86_64/gcm.s`, with `PROVE=builds` and `PROVE=all`.
+- *Lengths 24, 32*: with these keys, `x86_64/aes.s` and `x86_64/gcm.s`, with `PROVE=builds`.
 - *All*: with `PROVE=all`. The builds of *most* then also have *first* and *all* with keys of 16 bytes, and *each* and *most* with
   other keys. The other builds have *each* and *most* with keys of 16 bytes, and *24, 32* with other keys.
-- *Every*: with keys of 16 bytes, `x86_64/aes.s` and `x86_64/gcm.s`, with `PROVE=all`.
+- *Every*: with each size of key, `x86_64/aes.s` and `x86_64/gcm.s`, with `PROVE=all`. Then they have what *every* doesn't cover of
+  *first*, *remainders*, *lengths 24, 32* and *all*.
 
 Each build and each size of key also has `set_key` and [all refusals](LENGTHS.md#longest-lengths-borders-and-refusals).
 """
@@ -102,7 +103,7 @@ def list_in_words(values):
 def lines_of_row(row):
     """Gives the lines of a statement. Those after the first one have what is left of long lists."""
     lists = itertools.zip_longest(*(list_in_words(getattr(row, name)) for name in cases.LISTS), fillvalue=NONE)
-    for what, cells in zip(itertools.chain([row.what or NONE], itertools.repeat("more of these")), lists):
+    for what, cells in zip(itertools.chain([row.what or NONE], itertools.repeat("more")), lists):
         yield f"| `{row.name}` | {what} | " + " | ".join(cells) + " |"
 
 

@@ -90,10 +90,14 @@ def one_less(place, register, number):
     return place, r"\g<0>" + less % (number, register, register)
 
 
-def fewer(register, rest):
-    """Gives instructions that reduce a length by 1 for each 2^20 in it, if its remainder by 16 is `rest`. They have no jump and no
-    condition."""
-    return mask(register, rest) + "\tandq\t%%%s, %%rax\n\tshrq\t$20, %%rax\n\tsubq\t%%rax, %%%s\n" % (register, register)
+# Sets rax to 0 if the key of the struct at rdi hasn't 24 bytes.
+IF_24 = "\tmovl\t(%rdi), %r10d\n\tshlq\t$60, %r10\n\tsarq\t$63, %r10\n\tandq\t%r10, %rax\n"
+
+
+def fewer(register, rest, also=""):
+    """Gives instructions that reduce a length by 1 for each 2^20 in it, if its remainder by 16 is `rest`, and `also` doesn't set rax to 0.
+    They have no jump and no condition."""
+    return mask(register, rest) + also + "\tandq\t%%%s, %%rax\n\tshrq\t$20, %%rax\n\tsubq\t%%rax, %%%s\n" % (register, register)
 
 
 def if_both(first, second, then):

@@ -1,8 +1,8 @@
 """Lists faults in the library `aes` that only show at long lengths, or at certain ones. A statement of every length refuses each of them,
 and calls of lengths up to 64 blocks are proved in spite of it."""
 from planted.fault import (BATCHES, BLOCKS, BLOCKS_TO, BLOCKS_WITH, CALL_TO_DECRYPT, CALL_TO_ENCRYPT, CBC, CCM_OPEN, CCM_SEAL, CCM_STREAM,
-                           CMAC_TAG, COUNTER, ENTRY, IN_BATCHES, MEMSET, STANDS_STILL, UNWRAP, WIPE_STACK, WIPE_WORDS, WRAP_PADDED, Fault,
-                           call, exported, fewer, fewer_where_both, function, if_both, low)
+                           CMAC_TAG, COUNTER, ENTRY, IF_24, IN_BATCHES, MEMSET, STANDS_STILL, UNWRAP, WIPE_STACK, WIPE_WORDS, WRAP_PADDED,
+                           Fault, call, exported, fewer, fewer_where_both, function, if_both, low)
 
 CASE, CASE_TO = "any_blocks encrypt 15", "any_blocks encrypt 7 _to"
 KEYSTREAM, CHAIN = exported("aes_add_keystream"), function("cmac::chaining::chain")
@@ -197,6 +197,8 @@ LONG_AES_FAULTS = {
         Fault("bytes left out of CMAC after 2^20 where a length leaves 9 by 16 and a tag has 12 bytes", exported("aes_cmac_verify"),
               found=ENTRY, becomes=lambda found: found[0] + fewer_where_both("rdx", 9, "%r8", 12),
               case="every_remainder any_cmac_verify"),
+        Fault("bytes left out of CMAC after 2^20 where a length leaves 9 by 16, if the key has 24", exported("aes_cmac"), found=ENTRY,
+              becomes=r"\1" + fewer("rdx", 9, IF_24), case="every_remainder any_cmac", key_size=24),
     ],
     "x86_64/aes_v3": [
         Fault("a count of 32 bits that wraps around", IN_BATCHES, found=r"addq\t\$16, %(r\w+)\n", becomes=in_32_bits("addl\t$16, %%%s\n"),

@@ -1,7 +1,8 @@
 """Lists faults in the library `gcm` that only show at long lengths, or at certain ones. A statement of every length refuses each of them,
 and calls of lengths up to 64 blocks are proved in spite of it."""
-from planted.fault import (CALL_TO_ENCRYPT, ENTRY, FINISH, GCTR, HASH_ON, HASH_PIECE, IS_SHORT_TAG, MEMSET, OPEN, PUT_TAG, SEAL, SIV_OPEN,
-                           STANDS_STILL, Fault, call, exported, fewer, fewer_where_both, function, if_both, low, second, where_both)
+from planted.fault import (CALL_TO_ENCRYPT, ENTRY, FINISH, GCTR, HASH_ON, HASH_PIECE, IF_24, IS_SHORT_TAG, MEMSET, OPEN, PUT_TAG, SEAL,
+                           SIV_OPEN, STANDS_STILL, Fault, call, exported, fewer, fewer_where_both, function, if_both, low, second,
+                           where_both)
 
 # In GHASH: the end of the loop over groups of three blocks. One register points to the next group, another counts those that are left.
 THREES = r"\taddq\t\$48, %(?P<at>r\w+)\n\tdecq\t%(?P<left>r\w+)\n"
@@ -62,6 +63,8 @@ LONG_GCM_FAULTS = {
         Fault("bytes of additional data left out after 2^20 where a piece and what came before leave certain remainders",
               exported("gcm_additional"), found=ENTRY, becomes=lambda found: found[0] + fewer_where_both("rcx", 9, "(%rsi)", 5),
               case="every_additional"),
+        Fault("bytes of additional data left out after 2^20 where a piece leaves 9 by 16, if the key has 24", exported("gcm_additional"),
+              found=ENTRY, becomes=r"\1" + fewer("rcx", 9, IF_24), case="every_additional", key_size=24),
         Fault("bytes of a first piece left out after 2^20 where it and the additional data leave certain remainders",
               exported("gcm_encrypt"), found=ENTRY, becomes=lambda found: found[0] + fewer_where_both("rcx", 9, "(%rsi)", 5),
               case="every_first_encrypt"),
