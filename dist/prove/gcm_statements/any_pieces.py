@@ -24,8 +24,9 @@ ENDING = Part(OF_ADDITIONAL, 16, 1)
 # The same where a text is encrypted before, or decrypted afterwards: 128 bytes at once. Then it begins with a block.
 ENCRYPTING_FIRST = Part(LEFT, 128, 1), Part(LEFT, GROUP)
 DECRYPTING_LAST = Part(LEFT, GROUP, 3), Part(LEFT, 128)
-# The same where a block was begun before. The first block changes in a part of its own. How the code goes on depends on the number of bytes
-# after that block: for short pieces on their blocks, and on whether four, seven or eight blocks are enough.
+# The same for later pieces. If bytes of the first block came before, this block changes in a part of its own. How the code goes on depends
+# on the number of bytes after it: whether there are none, how many of the first four blocks there are, and whether there are fewer than
+# eight blocks, or eight of which the last one isn't whole.
 IS_BEGUN, BORDERS = {unknown(FILLED) - 1}, (0, 1, 17, 33, 48, 97, 112)
 AFTER_FIRST_BLOCK = [{-unknown(FILLED)}, *(IS_BEGUN | facts_of_range(unknown(LEFT), low, high - 1) for low, high in pairwise(BORDERS)),
                      IS_BEGUN | {unknown(LEFT) - BORDERS[-1]}]

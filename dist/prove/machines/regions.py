@@ -133,7 +133,7 @@ class Window(Region):
         """Lets blocks that are done be read once more, as `initial`. Then they become what `want` says, or nothing more is written. With
         `undoes` they only change in a call that is refused. The first `head` bytes are left out, if nothing was written: they can't be
         accessed any more. Then `skip` bytes of the first block come before the buffer, if it isn't None."""
-        if head and not self.is_untouched():
+        if head != 0 and not self.is_untouched():
             raise Unproved("leaves out bytes of a buffer that was written to")
         self.initial = initial
         self.head, self.size, self.end = self.head + head, self.size - head, self.end - head

@@ -70,7 +70,8 @@ LONG_GCM_FAULTS = {
                 becomes=lambda found, at=at: found[0] + "\tmovq\t%d(%%rsi), %%r11\n\tandl\t$15, %%r11d\n" % at
                 + if_both(("%r11", PIECE[0]), ("%rcx", PIECE[1]), "\tsubq\t%rax, %rcx\n"),
                 case=case)
-          for name, at, case in (("decrypt", 16, "every_decrypt"), ("encrypt", 8, "every_later_encrypt"))),
+          for name, at, case in (("decrypt", 16, "every_decrypt"), ("encrypt", 8, "every_later_encrypt"),
+                                 ("decrypt_unverified", 8, "every_later_decrypt_unverified"))),
         Fault("a byte of a short tag not compared where both numbers of bytes that came leave certain remainders", IS_SHORT_TAG,
               found=ENTRY, becomes=lambda found: found[0] + where_both(("(%rsi)", 3), ("8(%rsi)", 9)) + "\taddq\t%rax, %rcx\n",
               case="every_accept 14"),
