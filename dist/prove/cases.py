@@ -201,8 +201,9 @@ GCM_ROWS = [
            [(VERIFYING, 0, 7, 12), *((ADDITIONAL, 5, 0, n) for n in SHORT_TAGS)],
            [(VERIFYING, 0, 7, n) for n in SHORT_TAGS if n != 12]))),
     *(Row("every_" + call, SAYS_EVERY_PIECE, every=ONCE) for call in ("additional", "verify")),
-    *(Row("every_first_" + call, "every first piece of a text", every=ONCE) for call in ("encrypt", "decrypt_unverified")),
-    Row("every_decrypt", "every piece after whole blocks, or that doesn't fill up a block", every=ONCE),
+    *(Row("every_%s_%s" % (which, call), "every %s piece" % which, every=ONCE)
+      for call in ("encrypt", "decrypt_unverified") for which in ("first", "later")),
+    Row("every_decrypt", SAYS_EVERY_PIECE, every=ONCE),
     Row("every_finish", "after every number of bytes of additional data and of text", every=ONCE),
     Row("every_accept", "the same; also of what is refused, and of a shorter tag", every=[(), *SHORT_TAGS])]
 

@@ -1,6 +1,8 @@
 """States the calls of fotsgure_gcm.h for pieces of messages, at every length. A piece has 48 n + `rest` bytes for every n, or 768 n +
 `rest` where the text changes. Before it came 16 u + `filled` bytes, for every u. Statements that begin with `every` have every length,
 part by part (joints.py)."""
+from itertools import pairwise
+
 from gcm_statements.byte_counts import Counts, any_came, bytes_of_counts
 from gcm_statements.gcm_header import ADDITIONAL, DECRYPTING, ENCRYPTING, MOST, MOST_ADDITIONAL, REST, VERIFYING
 from gcm_statements.pre_counter import ANY_J_0, any_pre_counter
@@ -9,7 +11,7 @@ from loops.joints import Part
 from loops.linear import unknown
 from machines.operands import Content
 from statements.calls import Stream
-from statements.keyed import PTRDIFF_MAX
+from statements.keyed import PTRDIFF_MAX, facts_of_range
 from statements.standards import padded
 from statements.steps import NO_STEP
 from symbols.bits import DATA, KEY
@@ -22,6 +24,16 @@ ENDING = Part(OF_ADDITIONAL, 16, 1)
 # The same where a text is encrypted before, or decrypted afterwards: 128 bytes at once. Then it begins with a block.
 ENCRYPTING_FIRST = Part(LEFT, 128, 1), Part(LEFT, GROUP)
 DECRYPTING_LAST = Part(LEFT, GROUP, 3), Part(LEFT, 128)
+# The same for later pieces. If bytes of the first block came before, this block changes in a part of its own. How the code goes on depends
+# on the number of bytes after it: whether there are none, how many of the first four blocks there are, and whether there are fewer than
+# eight blocks, or eight of which the last one isn't whole.
+IS_BEGUN, BORDERS = {unknown(FILLED) - 1}, (0, 1, 17, 33, 48, 97, 112)
+AFTER_FIRST_BLOCK = [{-unknown(FILLED)}, *(IS_BEGUN | facts_of_range(unknown(LEFT), low, high - 1) for low, high in pairwise(BORDERS)),
+                     IS_BEGUN | {unknown(LEFT) - BORDERS[-1]}]
+FIRST_BLOCK = Part(FILLED, 16, 1, AFTER_FIRST_BLOCK, scouted=(0, 1, 4, 13))
+ENCRYPTING_LATER = FIRST_BLOCK, Part(LEFT, 128, 2), *(part.later(2) for part in HASHING)
+DECRYPTING_LATER = FIRST_BLOCK, Part(LEFT, 128)
+DECRYPTING_UNVERIFIED = HASHING[0], HASHING[1]._replace(phase=3), *(part.later(3) for part in DECRYPTING_LATER)
 SHORT = [(filled, count) for filled in range(16) for count in range(16 - filled)]  # pieces that don't fill up a block
 
 
@@ -35,6 +47,7 @@ class AnyPiece:
         self.keyed, self.bytes, self.filled, self.left, self.is_first = keyed, bytes_, filled, left, is_first
         self.before, self.size = 0 if is_first else unknown("u") * 16 + filled, left + 16 - filled
         self.facts = {*counts_of([self.before, left]), 15 - filled, PTRDIFF_MAX - self.size}
+        self.begun = [self.first_block] * (not isinstance(filled, int))  # a phase in which the first block of a text changes
 
     def counts(self, phase):
         """Gives the Counts before a piece of text, where `phase` is that of later pieces. Adds what is known of the additional data."""
@@ -70,8 +83,8 @@ class AnyPiece:
         """Looks for the first block, which the piece fills up. Then the piece begins after this block."""
         keyed, filled = self.keyed, m.known(self.filled)
         if m.steps_found:
-            return "again", "text", (keyed.pattern(self.bytes), None, False, 16 - filled)
-        return "memory", keyed.before_piece()[1][:filled] + keyed.at_block(m, self.bytes, 0)[:16 - filled], keyed.full_block()
+            return "again", "text", (keyed.pattern(self.bytes), None, False, 16 - filled, 0)
+        return "memory", keyed.before_piece()[1][:filled] + keyed.at_block(m, self.bytes, 0)[filled:], keyed.full_block()
 
     def hash_first(self, m):
         return ("again", (), ()) if m.steps_found else self.keyed.group_step(
@@ -87,9 +100,13 @@ class AnyPiece:
         step = self.hash_rest(m)
         return NO_STEP if step[0] == "again" else step
 
-    def shifted(self, bytes_):
-        """Gives the pattern of bytes that belong to whole blocks of the text, and not to those of the piece."""
-        return [self.keyed.pattern([bytes_[t % 16]], t // 16)[0] for t in range(self.filled, self.filled + 16)]
+    def first_block(self, m):
+        """Gives the end of the phase in which the first block of a text changes. If no byte of it came before, this phase has nothing."""
+        return "now" if m.known(self.filled) == 0 else "begun", "text", ()
+
+    def stream(self, *what):
+        """Gives the argument for the piece. What came of its first block lies before it."""
+        return Stream("text", self.size, *what, skip=self.filled)
 
     def last_bytes(self, m):
         """Gives the bytes that the piece leaves of a block, in two forms. The first form is for code that doesn't know their block, and the
@@ -171,7 +188,7 @@ class AnyPieces:
         """States a call on a message with the Counts `before`. It has the Counts `after` then. `fits` is the fact that they aren't too
         many."""
         return self.call_on_message(name, self.any_before(before), lambda m: piece.message_after(m, after),
-                                    [Stream("text", piece.size, self.pattern(piece.bytes)), piece.size], facts=piece.facts | {fits},
+                                    [piece.stream(self.pattern(piece.bytes)), piece.size], facts=piece.facts | {fits},
                                     steps=lambda m: piece.any_step(m, piece.fill_up, piece.hash_first, piece.hash_last), parts=parts)
 
     def first_pieces(self, call, state, parts):
@@ -183,16 +200,24 @@ class AnyPieces:
     # Pieces of a text that changes.
     def crypted(self, piece):
         """Gives the pattern of the keystream of a piece that changes, and the arguments of Call that concern the counter."""
-        stream = piece.shifted(any_pre_counter(self).stream)
+        stream = self.pattern(any_pre_counter(self).stream)
         first = 1 if piece.is_first else unknown("u") + 1
-        return stream, dict(counter=ANY_J_0._replace(first=first), keystream=self.in_all_blocks(stream),
+        return stream, dict(counter=ANY_J_0._replace(first=first), keystream=self.in_all_blocks(stream), divides=bool(piece.begun),
                             facts=piece.facts | {MOST - piece.before - piece.size})
+
+    def later_pieces(self, call, phase, state, parts):
+        """Gives calls for all later pieces of a text that changes, which `state` states."""
+        short = [self.any_then_piece(call, phase, None, filled, count) for filled, count in SHORT]
+        return [*short, state(unknown(FILLED), unknown(LEFT), parts)]
 
     def any_encrypt(self, filled, rest):
         return self.encrypt_of(filled, any_left(filled, rest, 768))
 
     def every_first_encrypt(self):
         return self.first_pieces("encrypt", self.encrypt_of, ENCRYPTING_FIRST)
+
+    def every_later_encrypt(self):
+        return self.later_pieces("encrypt", ENCRYPTING, self.encrypt_of, ENCRYPTING_LATER)
 
     def encrypt_of(self, filled, left, parts=(), is_first=False):
         """States a call that encrypts first. Then the encrypted text becomes arbitrary bytes, and GHASH reads these."""
@@ -201,18 +226,17 @@ class AnyPieces:
         after = before._replace(text=piece.before + piece.size, phase=ENCRYPTING)
         stream, more = self.crypted(piece)
         text, sealed = self.pattern(self.text), self.pattern(self.sealed)
-        texts = Stream("text", piece.size, text, [self.aes.xor(text, stream), sealed], lambda m, number: [0] * 16)
-        return self.call_on_message(
-            "encrypt", self.any_before(before), lambda m: piece.message_after(m, after), [texts, piece.size], parts=parts,
-            steps=lambda m: piece.any_step(m, lambda m: ("whole", "text", (sealed,)), piece.fill_up, piece.hash_first, piece.hash_last),
-            plain=self.in_all_blocks(text), **more)
+        texts = piece.stream(text, [self.aes.xor(text, stream), sealed], lambda m, number: [0] * 16)
+        phases = [*piece.begun, lambda m: ("whole", "text", (sealed,)), piece.fill_up, piece.hash_first, piece.hash_last]
+        return self.call_on_message("encrypt", self.any_before(before), lambda m: piece.message_after(m, after), [texts, piece.size],
+                                    steps=lambda m: piece.any_step(m, *phases), plain=self.in_all_blocks(text), parts=parts, **more)
 
     def any_decrypt(self, filled, rest):
         return self.decrypt_of(filled, any_left(filled, rest, 768))
 
     def every_decrypt(self):
         short = [self.any_then_decrypt(None, filled, count) for filled, count in SHORT]
-        return [*short, self.decrypt_of(0, unknown(LEFT), DECRYPTING_LAST[1:])]
+        return [*short, self.decrypt_of(unknown(FILLED), unknown(LEFT), DECRYPTING_LATER)]
 
     def decrypt_of(self, filled, left, parts=()):
         """States a call that decrypts a piece of a text whose tag was right, and doesn't hash it. `more` bytes of that text follow the
@@ -225,14 +249,17 @@ class AnyPieces:
         plain, state = self.aes.xor(sealed, stream), sum(self.before_piece(), [])
         more["facts"] |= {unknown("more"), MOST - before.text}
         return self.call_on_message("decrypt", self.any_before(before), lambda m: piece.first_bytes(m, after) + state,
-                                    [Stream("text", piece.size, sealed, plain), piece.size], plain=self.in_all_blocks(plain), parts=parts,
-                                    steps=lambda m: NO_STEP, **more)
+                                    [piece.stream(sealed, plain), piece.size], plain=self.in_all_blocks(plain), parts=parts,
+                                    steps=lambda m: piece.any_step(m, *piece.begun), **more)
 
     def any_decrypt_unverified(self, filled, rest):
         return self.decrypt_unverified_of(filled, any_left(filled, rest, 768))
 
     def every_first_decrypt_unverified(self):
         return self.first_pieces("decrypt_unverified", self.decrypt_unverified_of, DECRYPTING_LAST)
+
+    def every_later_decrypt_unverified(self):
+        return self.later_pieces("decrypt_unverified", VERIFYING, self.decrypt_unverified_of, DECRYPTING_UNVERIFIED)
 
     def decrypt_unverified_of(self, filled, left, parts=(), is_first=False):
         """States a call where GHASH comes first. What the piece leaves of a block becomes arbitrary bytes before blocks are numbered
@@ -248,11 +275,11 @@ class AnyPieces:
             step, count = piece.hash_rest(m), left_of_block(m.known(left))
             if step[0] == "again" and m.regions["message"].content[REST:REST + count] != block[:count]:
                 return "here", sum(piece.last_bytes(m), []), 2 * block[:count]
-            return ("again", "text", (sealed, plain, False, filled - 16)) if step[0] == "again" else step
+            return ("again", "text", (sealed, plain, False, filled - 16, filled)) if step[0] == "again" else step
 
         def message(m):
             count = left_of_block(m.known(left))
             return piece.first_bytes(m, after) + self.last_value() + block[:count] + [None] * (16 - count)
         return self.call_on_message("decrypt_unverified", self.any_before(before), message,
-                                    [Stream("text", piece.size, sealed, plain), piece.size], plain=self.in_all_blocks(plain), parts=parts,
-                                    steps=lambda m: piece.any_step(m, piece.fill_up, piece.hash_first, rest), **more)
+                                    [piece.stream(sealed, plain), piece.size], plain=self.in_all_blocks(plain), parts=parts,
+                                    steps=lambda m: piece.any_step(m, piece.fill_up, piece.hash_first, rest, *piece.begun), **more)

@@ -173,13 +173,14 @@ class Joint:
         """`part` is the one that ends there. is_secret(m, byte) says whether a byte may depend on a secret."""
         self.facts, self.part, self.is_secret = call.facts, part, is_secret
         self.lengths = dict.fromkeys(part.length for part in call.parts)
+        self.others = [name for name in names_in(call.facts) if name not in self.lengths]
         self.known_states, self.waiting = {}, {}  # by the numbers of their cases: states, and runs to which no state belongs so far
 
     def add_all(self, runs):
         """Adds runs that came to the joint. Those of any length come first, because a state is best made from one of them."""
-        def known_lengths(m):
-            return sum(is_int(m.known(unknown(name))) for name in self.lengths)
-        for m in sorted(runs, key=known_lengths):
+        def known_numbers(m):
+            return sum(is_int(m.known(unknown(name))) for name in self.lengths) + len(self.others_known(m))
+        for m in sorted(runs, key=known_numbers):
             self.add(without_dead_stack(m, self.is_secret))
 
     def add(self, m):
@@ -210,12 +211,14 @@ class Joint:
         return list(self.known_states.values())
 
     def state_of(self, runs, case):
-        """Guesses the state of a case from the last run. If a length is known there that may be any in this case, it is guessed from the
-        last two runs. Their lengths have to differ by 1, or there is no state so far."""
-        m = runs[-1]
+        """Guesses the state of a case from the last run. If a length is known there that may be any in this case, it is guessed from this
+        run and an earlier one, with the same numbers but for this length. The length has to differ by 1, or there is no state so far."""
+        *earlier, m = runs
         numbers = {name: m.known(unknown(name)) for name in self.lengths}
         fixed = [name for name, number in numbers.items() if is_int(number) and not implied_by(self.facts | case, name, number)]
-        state = m.copied() if not fixed else state_between(runs[-2:], fixed) if len(runs) > 1 else None
+        others = {unknown(name) for name in (*self.lengths, *self.others) if name not in fixed}
+        alike = [run for run in earlier if all(run.known(n) == m.known(n) for n in others)]
+        state = m.copied() if not fixed else state_between([alike[-1], m], fixed) if alike else None
         return state and self.forgetful(state, case, {name: number for name, number in numbers.items() if not is_int(number)})
 
     def forgetful(self, state, case, numbers):
@@ -229,12 +232,16 @@ class Joint:
         state.ever_written = {name: set() for name in state.ever_written}
         return state.with_facts(case)
 
+    def others_known(self, m):
+        """Gives the names of other unknown numbers of the statement that a machine knows."""
+        return [name for name in self.others if m.known(unknown(name)) != unknown(name)]
+
     def instance(self, state, m):
         """Gives the state with the lengths that a machine has."""
-        want = state.copied()
-        for name in self.lengths:  # by other names first, because the machine's numbers may have the names of these lengths
+        want, names = state.copied(), [*self.lengths, *self.others_known(m)]
+        for name in names:  # by other names first, because the machine's numbers may have the names of these lengths
             want.replace_unknown(name, unknown(name + " at the joint"))
-        for name in self.lengths:
+        for name in names:
             want.replace_unknown(name + " at the joint", m.known(unknown(name)))
         return want
 

@@ -83,7 +83,7 @@ class Unknowns:
                 return x.constant & y
             if low and not low & low - 1 and step_of(x) % low == 0:
                 return x - x.constant % low
-            return None if self.allowed.any_length else self.bits_of_number(self.ranged(x), y)
+            return None if self.allowed.any_length and not self.allowed.divides else self.bits_of_number(self.ranged(x), y)
         return None
 
     def bits_of_number(self, x, mask):

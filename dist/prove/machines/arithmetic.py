@@ -95,7 +95,8 @@ class Arithmetic:
         part, other = (self.low_part(v, size) for v in (x, y))
         if isinstance(part, Linear) and is_number(other) and size < self.word:
             full = part + (other & mask if is_int(other) else other) + carry
-            return tuple(self.any_byte() for _ in range(size)), {"c": (mask, full, "below")}
+            fits = self.allowed.divides and self.implied(full) and self.implied(mask - full)
+            return tuple(self.fewest_bytes(full, size) if fits else (self.any_byte() for _ in range(size))), {"c": (mask, full, "below")}
         if isinstance(x, (Distance, Negated)) and is_int(y):
             return x._replace(offset=x.offset + y), {}
         if isinstance(x, Negated) and is_pointer(y) and x.base == y.base and not carry and size == self.word:
@@ -138,7 +139,9 @@ class Arithmetic:
         """Gives the unknown number whose lowest bytes these are, or None."""
         name = self.domain.name_of_opaque.get(v[0]) if type(v) is tuple and size < self.word else None
         whole = name[0] if isinstance(name, tuple) else None
-        return whole if isinstance(whole, Linear) and v == tuple(self.to_bytes(whole, self.word)[:size]) else None
+        is_whole = isinstance(whole, Linear) and (v == tuple(self.to_bytes(whole, self.word)[:size])
+                                                  or self.allowed.divides and list(v) == self.fewest_bytes(whole, size))
+        return whole if is_whole else None
 
     def low_part(self, v, size):
         """Gives the lowest bytes of an unknown number as a number, if the bytes above them are 0 or 1. Else gives the value itself."""
@@ -233,6 +236,8 @@ class Arithmetic:
             return self.zero_and_sign(x, size)
         if isinstance(x, Shifted) and is_int(y):
             x = self.quotient(x.number, 1 << x.count)
+        if self.allowed.divides:
+            x, y = self.whole_number(x, size), self.whole_number(y, size)
         if tuple not in (type(x), type(y)):
             return self.minus(x, y, size)[1]
         never = y == 0 and any(1 in self.domain.bits(b) for b in self.to_bytes(x, size) if b not in self.secret.any_of)

@@ -80,6 +80,8 @@ class Bytewise:
         masked = self.masked(name, x, y) if name in ("and", "or") and size == self.word else None
         if masked is not None:
             return masked
+        if name == "and" and self.allowed.divides and is_int(y) and (whole := self.whole(x, size)) is not None:
+            return self.from_bytes(self.fewest_bytes(self.bits_of_number(self.ranged(whole), y), size))
         if name == "or" and x == 0:
             return y
         if isinstance(x, Verdict) or isinstance(y, Verdict):
@@ -107,11 +109,13 @@ class Bytewise:
             return v << count & (1 << 8 * size) - 1
         if isinstance(v, Linear) and size == self.word and how == "lsl" and (count < 32 or not self.fits(v)):  # else its lowest bits count
             return self.offset(v * (1 << count), 0)
-        divides = isinstance(v, Linear) and (not self.allowed.any_length or step_of(v) >> count)
+        divides = isinstance(v, Linear) and (self.allowed.divides or not self.allowed.any_length or step_of(v) >> count)
         if divides and size == self.word and how == "lsr" and self.fits(self.ranged(v)):
             return self.quotient(self.ranged(v), 1 << count)
         if isinstance(v, Linear) and size == 8 and how == "lsr" and self.fits(v):
             return Shifted(v, count)
+        if how == "lsr" and self.allowed.divides and isinstance(part := self.low_part(v, size), Linear):
+            return self.from_bytes(self.fewest_bytes(self.quotient(part, 1 << count), size))
         if isinstance(v, Scaled) and how == "lsr":
             return self.quotient_by_product(v, count)
         if count % 8 == 0 and how != "asr":  # whole bytes: so opaque bytes may be moved too

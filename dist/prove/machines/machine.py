@@ -59,10 +59,12 @@ MOST_NOTED = 16  # bytes that are noted of what a function of libc writes
 @dataclass(frozen=True)
 class Allowed:
     """What the statement of a call allows (calls.Call). `reveals`: a branch may ask whether a key or a tag is right. `assumes`: bytes that
-    aren't all 0. `any_length`: the call may have any length."""
+    aren't all 0. `any_length`: the call may have any length. `divides`: it may also divide numbers whose remainders aren't
+    known."""
     reveals: bool = False
     assumes: tuple = ()
     any_length: bool = False
+    divides: bool = False
 
 
 class Machine(Arithmetic, Borders, Unknowns, Bytewise, Results, Access):

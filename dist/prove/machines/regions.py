@@ -129,11 +129,11 @@ class Window(Region):
             return False
         return True
 
-    def begin_again(self, initial, want=None, undoes=False, head=0):
+    def begin_again(self, initial, want=None, undoes=False, head=0, skip=None):
         """Lets blocks that are done be read once more, as `initial`. Then they become what `want` says, or nothing more is written. With
         `undoes` they only change in a call that is refused. The first `head` bytes are left out, if nothing was written: they can't be
-        accessed any more."""
-        if head and not self.is_untouched():
+        accessed any more. Then `skip` bytes of the first block come before the buffer, if it isn't None."""
+        if head != 0 and not self.is_untouched():
             raise Unproved("leaves out bytes of a buffer that was written to")
         self.initial = initial
         self.head, self.size, self.end = self.head + head, self.size - head, self.end - head
@@ -142,6 +142,7 @@ class Window(Region):
         self.turn += 1
         self.writable = want is not None
         self.undoes, self.want = undoes, want
+        self.skip = self.skip if skip is None else skip
 
     def fault(self, domain, name, byte):
         """Gives the text of the fault that a block isn't what it has to be."""

@@ -23,6 +23,7 @@ LONGEST = r"(\tmovabsq\t\$68719476704, .*\n\tcmpq\t.*\n)\tseta\t", r"\1\tsetae\t
 # Lengths of additional data and text that meet in no case of another statement. The one that a call processes first is short, so that loops
 # over it end early. In `gcm_seal`: a place before a text is encrypted. The second group is the register with the length of additional data.
 LENGTHS, TEXT_FIRST = (49, 70009), (5007, 265)
+PIECE = 9, 5007  # how many bytes of a block came before a piece of a text, and the length of the piece
 CALL_TO_GCTR = r"(\tmovq\t%r8, %(r\w+)\n\tcallq[\s\S]*?\tmovq\t%r\w+, %r8\n)(" + call("gcm::gctr::add_gctr") + ")"
 
 LONG_GCM_FAULTS = {
@@ -68,6 +69,12 @@ LONG_GCM_FAULTS = {
         Fault("bytes of a first piece left out after 2^20 where it and the additional data leave certain remainders",
               exported("gcm_encrypt"), found=ENTRY, becomes=lambda found: found[0] + fewer_where_both("rcx", 9, "(%rsi)", 5),
               case="every_first_encrypt"),
+        *(Fault("a byte left out of a piece in gcm_%s at one pair of lengths" % name, exported("gcm_" + name), found=ENTRY,
+                becomes=lambda found, at=at: found[0] + "\tmovq\t%d(%%rsi), %%r11\n\tandl\t$15, %%r11d\n" % at
+                + if_both(("%r11", PIECE[0]), ("%rcx", PIECE[1]), "\tsubq\t%rax, %rcx\n"),
+                case=case)
+          for name, at, case in (("decrypt", 16, "every_decrypt"), ("encrypt", 8, "every_later_encrypt"),
+                                 ("decrypt_unverified", 8, "every_later_decrypt_unverified"))),
         Fault("a byte of a short tag not compared where both numbers of bytes that came leave certain remainders", IS_SHORT_TAG,
               found=ENTRY, becomes=lambda found: found[0] + where_both(("(%rsi)", 3), ("8(%rsi)", 9)) + "\taddq\t%rax, %rcx\n",
               case="every_accept 14"),

@@ -73,6 +73,7 @@ class Call:
     size: int = 4  # in how many bytes it returns that
     steps: Callable = None  # for a call in which each step depends on the last one: see steps.py
     any_length: bool = False  # whether `steps` is a function of the machine, as with Streams; then it asks only what branches ask
+    divides: bool = False  # whether a call of any length may divide numbers whose remainders aren't known
     reveals: Sequence = None  # bytes (or a function of the machine) that are all zero exactly if a wrapped key or a tag is right
     refused: int = None  # what it returns if they aren't
     refused_after: dict = field(default_factory=dict)  # by names what Buffers then hold; the others hold what they held before
@@ -139,7 +140,7 @@ def machine_before(domain, program, call):
     regions["stack"] = Region([domain.undefined] * (STACK - program.machine.word * len(program.machine.pushed)), align=16)
     arguments = [Pointer(a.name, 0) if isinstance(a, Buffer) else a for a in call.arguments]
     m = program.machine(domain, program, regions, program.exports["fotsgure_" + call.name], arguments)
-    m.allowed = Allowed(call.reveals is not None, call.assumes, call.any_length)
+    m.allowed = Allowed(call.reveals is not None, call.assumes, call.any_length, call.divides)
     m.counter, m.facts = call.counter, call.facts
     m.numbers_by_frame = (m.stack.top, tuple(numbers_of(m, call))),
     for window in (r for r in regions.values() if isinstance(r, Window)):
