@@ -194,10 +194,15 @@ class Joint:
             return
         self.known_states[case] = state
         for run in runs:
-            weaken(state, run, self.instance(state, run))
-            wrong = differences_from(run, self.instance(state, run)) + differences_of_windows(run, state)
-            if wrong:
-                raise Unproved("a part doesn't end in the same state: " + ", ".join(wrong))
+            if self.differences(state, run):
+                weaken(state, run, self.instance(state, run))
+                wrong = self.differences(state, run)
+                if wrong:
+                    raise Unproved("a part doesn't end in the same state: " + ", ".join(wrong))
+
+    def differences(self, state, m):
+        """Gives the names of all in which a machine isn't an instance of a state."""
+        return differences_from(m, self.instance(state, m)) + differences_of_windows(m, state)
 
     def machines(self):
         """Gives all machines that it keeps."""
