@@ -215,12 +215,12 @@ class Joint:
         return list(self.known_states.values())
 
     def state_of(self, runs, case):
-        """Guesses the state of a case from the last run. If a length is known there that may be any in this case, it is guessed from the
-        last two runs. Their lengths have to differ by 1, or there is no state so far."""
+        """Guesses the state of a case from the last run. If a length is known there that may be any in this case, it is guessed from this
+        run and another one. Their lengths have to differ by 1, or there is no state so far."""
         m = runs[-1]
         numbers = {name: m.known(unknown(name)) for name in self.lengths}
         fixed = [name for name, number in numbers.items() if is_int(number) and not implied_by(self.facts | case, name, number)]
-        state = m.copied() if not fixed else state_between(runs[-2:], fixed) if len(runs) > 1 else None
+        state = next(filter(None, (state_between((run, m), fixed) for run in runs[:-1])), None) if fixed else m.copied()
         return state and self.forgetful(state, case, {name: number for name, number in numbers.items() if not is_int(number)})
 
     def forgetful(self, state, case, numbers):
