@@ -195,10 +195,15 @@ class Joint:
             return
         self.known_states[case] = state
         for run in runs:
-            weaken(state, run, self.instance(state, run))
-            wrong = differences_from(run, self.instance(state, run)) + differences_of_windows(run, state)
-            if wrong:
-                raise Unproved("a part doesn't end in the same state: " + ", ".join(wrong))
+            if self.differences(state, run):
+                weaken(state, run, self.instance(state, run))
+                wrong = self.differences(state, run)
+                if wrong:
+                    raise Unproved("a part doesn't end in the same state: " + ", ".join(wrong))
+
+    def differences(self, state, m):
+        """Gives the names of all in which a machine isn't an instance of a state."""
+        return differences_from(m, self.instance(state, m)) + differences_of_windows(m, state)
 
     def machines(self):
         """Gives all machines that it keeps."""
@@ -217,8 +222,8 @@ class Joint:
         numbers = {name: m.known(unknown(name)) for name in self.lengths}
         fixed = [name for name, number in numbers.items() if is_int(number) and not implied_by(self.facts | case, name, number)]
         others = {unknown(name) for name in (*self.lengths, *self.others) if name not in fixed}
-        alike = [run for run in earlier if all(run.known(n) == m.known(n) for n in others)]
-        state = m.copied() if not fixed else state_between([alike[-1], m], fixed) if alike else None
+        alike = (run for run in earlier if all(run.known(n) == m.known(n) for n in others))
+        state = next(filter(None, (state_between((run, m), fixed) for run in alike)), None) if fixed else m.copied()
         return state and self.forgetful(state, case, {name: number for name, number in numbers.items() if not is_int(number)})
 
     def forgetful(self, state, case, numbers):

@@ -2,6 +2,7 @@
 multiples of unknown integers."""
 import bisect
 import functools
+import itertools
 import math
 from collections import namedtuple
 
@@ -170,8 +171,8 @@ def tightened_row(row):
 def refuted(facts):
     """Whether no integers make all these numbers >= 0. It eliminates one unknown after the other (Fourier-Motzkin). Each sum follows from
     the facts, so True is always right. False may mean that it didn't find the contradiction."""
-    names = sorted({name for f in facts if isinstance(f, Linear) for name, _ in f.terms})
-    rows = {tightened_row([terms(f).get(name, 0) for name in names] + [f.constant if isinstance(f, Linear) else f]) for f in facts}
+    names, zeros = sorted({name for f in facts if isinstance(f, Linear) for name, _ in f.terms}), itertools.repeat(0)
+    rows = {tightened_row([*map(terms(f).get, names, zeros), f.constant if isinstance(f, Linear) else f]) for f in facts}
     for _ in names:
         if any(row[-1] < 0 and not any(row[:-1]) for row in rows):
             return True

@@ -259,7 +259,7 @@ def run_to_all_ends(m, call, watches, known, part=None):
         except lengths.Leads as leads:
             no_secret_in_buffers(m, call)
             machines, first = leads.args
-            if part and first:  # (in other calls such runs go on too, as places are noted there: covered.py)
+            if part and first:  # (In calls without parts these runs go on. The notes of uncovered places come from them.)
                 is_dropped = lambda x: first in x.first_passes
                 waiting = [x for x in waiting if not is_dropped(x)] + known.forget(is_dropped)
             waiting += machines

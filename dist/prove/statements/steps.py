@@ -57,10 +57,12 @@ def step_by_step(steps):
             # (It is made before the code computes it, so that the code's products have the factors that it names: with_powers.)
             m.expected_step = where, want() if callable(want) else want, new
         where, want, new = m.expected_step
-        if where in PHASE_BEGINNINGS and begins_phase(m, where, want):
-            m.next_phase() if where in KEEPING_NUMBERS else m.begin_again(*((want, *new) if want else ()))
-            m.expected_step = None
-        if where in PHASE_BEGINNINGS or where == "nothing":
+        if where == "nothing":
+            return
+        if where in PHASE_BEGINNINGS:
+            if begins_phase(m, where, want):
+                m.next_phase() if where in KEEPING_NUMBERS else m.begin_again(*((want, *new) if want else ()))
+                m.expected_step = None
             return
         if where == "place":
             content, at = was_written(m, want, m.domain.is_same) or ((), 0)
@@ -105,7 +107,8 @@ def is_found(m, where, want):
         return any(contains(r.content, want) for r in m.regions.values() if not isinstance(r, Window))
     if where in ("memory", "block") and was_written(m, want):
         return True
-    if where != "memory" and any(v[0] == want[0] and v[:16] == want for v in m.vectors):
+    first = want[0]
+    if where != "memory" and [v for v in m.vectors if v[0] == first and v[:16] == want]:
         return True
     # (In registers of 4 bytes a block of the cipher is there too early, while the planes have copies of it in other slots.)
     return (where == "hash" or where == "block" and m.word == 8) and in_words(m, want)

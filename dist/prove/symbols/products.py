@@ -158,7 +158,7 @@ class Products:
 
     def bilinear_lookup(self, table, index):
         """Gives table[index] for a linear table of 16 bytes: the sum of the entries at those powers of two that the index has."""
-        index = tuple(self.factor_of.get(x & ~1, x & ~1) | x & 1 for x in index)
+        index = tuple([self.factor_of.get(x & ~1, x & ~1) | x & 1 for x in index])
         if table not in self.linear_tables:
             self.check_linear(table)
         entries = self.linear_tables.setdefault(table, {})
