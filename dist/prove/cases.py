@@ -15,7 +15,8 @@ from statements.headers import version
 # says which builds and keys have a list. All builds have `most`, except those that takes_few (builds.py) names: these are compiled
 # from the sources of the others. Keys of 24 and 32 bytes have each call once, and the code that loops over round keys. Only the builds of
 # FIRST have `remainders` and `lengths_24_32`. These are other remainders of lengths, and each call at every length with keys of 24 and 32
-# bytes. With PROVE=all they have `every` with all keys, and leave out what that covers of these lists, of `first` and of `all_`.
+# bytes. With PROVE=all they have `every` with all keys, and leave out what that covers of these lists and of `all_`. They keep `first`: at
+# fixed lengths copies are proved for all distances of two buffers, and that runs code that no call of every length runs.
 # left_out(word, values) says whether builds for RISC-V, with words of so many bytes, leave these arguments out.
 Row = collections.namedtuple("Row", "name what each most first remainders keys_24_32 lengths_24_32 all_ every left_out",
                              defaults=[()] * 8 + [lambda word, values: False])
@@ -292,9 +293,9 @@ def arguments_taken(row, build, key_size, level):
     """Gives the arguments that a build has for a statement."""
     is_late, is_first, is_all = takes_few(build), level and build in FIRST, level == "all"
     if key_size == 16:
-        taken = [*row.each, *(row.most if is_all or not takes_few(build, level) else ())]
-        more = [*(row.first if is_first or is_all and not is_late else ()), *(row.all_ if is_all and not is_late else ()),
-                *(row.remainders if is_first else ())]
+        taken = [*row.each, *(row.most if is_all or not takes_few(build, level) else ()),
+                 *(row.first if is_first or is_all and not is_late else ())]
+        more = [*(row.all_ if is_all and not is_late else ()), *(row.remainders if is_first else ())]
     else:
         taken = [*([*row.each, *row.most] if is_all and not is_late else ()), *(row.keys_24_32 if is_all or not is_late else ())]
         more = row.lengths_24_32 if is_first else ()

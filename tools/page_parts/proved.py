@@ -31,7 +31,7 @@ nonce doesn't have 12 bytes, J_0 is any block. In messages in pieces it is any b
 - *All*: with `PROVE=all`. The builds of *most* then also have *first* and *all* with keys of 16 bytes, and *each* and *most* with
   other keys. The other builds have *each* and *most* with keys of 16 bytes, and *24, 32* with other keys.
 - *Every*: with each size of key, `x86_64/aes.s` and `x86_64/gcm.s`, with `PROVE=all`. Then they have what *every* doesn't cover of
-  *first*, *remainders*, *lengths 24, 32* and *all*.
+  *remainders*, *lengths 24, 32* and *all*.
 
 Each build and each size of key also has `set_key` and [all refusals](LENGTHS.md#longest-lengths-borders-and-refusals).
 """
