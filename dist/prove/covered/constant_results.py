@@ -10,8 +10,7 @@ from collections import namedtuple
 
 from covered.following_results import FollowingResults, is_affine
 from loops.linear import Linear
-from machines.operands import (CODE, Memory, Number, Placed, Pointer, Register, Scaled, Shifted, Vector, concatenated, is_int, is_pointer,
-                               lanes)
+from machines.operands import Memory, Number, Placed, Pointer, Register, Scaled, Shifted, Vector, concatenated, is_int, is_pointer, lanes
 from machines.regions import Window
 
 LANE = 8  # bytes of a vector that are looked at as one number
@@ -225,9 +224,10 @@ class Results(FollowingResults):
         b = self.vectors[o.number][o.at:o.at + size] if isinstance(o, Vector) else self.peeked(at, size)
         return [self.number(self.from_bytes(lane)) for lane in lanes(b, LANE)] if b else [None]
 
-    @staticmethod
-    def number(v):
-        return v if isinstance(v, (int, Linear)) or is_pointer(v) and is_int(v.offset) and v.base != CODE else None
+    def number(self, v):
+        """Gives a number, or an address in a buffer. Gives None for other values, such as a word that may be any number: it changes, though
+        it has the same name in each case."""
+        return v if isinstance(v, (int, Linear)) or is_pointer(v) and is_int(v.offset) and v.base in self.regions else None
 
     def peeked(self, at, size):
         """Gives the bytes at an address, if that is in memory whose bytes are all there."""

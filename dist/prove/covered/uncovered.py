@@ -93,8 +93,6 @@ SAME = [
     ("x86_64/gcm", r"put_pre_counter|put_tag(_so_far)?", "One half of a vector has a length, and the other half is 0. The highest bits of "
      "a length are 0."),
     ("x86_64/aes", r"ccm\.message\.put_tag|ccm\.mode\.\w+", "The higher bytes of a length are 0. A nonce has fewer than 16 bytes."),
-    ("(x86_64|aarch64)/aes.*", r"add_in_batches\.add_next|call_to_encrypt", "It reads half of a counter block. This is any number, which has "
-     "the same name in each case."),
     ("x86_64/.*", r"add_in_batches\.\w+|add_gctr|call_to_\w+|process_on_lanes|store_planes", "A part of a text begins at the same place of "
      "a batch each time, and a part of a key at the same round key."),
     ("x86_64/aes", r"key_wrap\.\w+\.\w+", "The last semiblock has eight bytes or fewer."),
