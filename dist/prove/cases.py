@@ -26,8 +26,7 @@ ANY_COUNTER_ON_RISCV_32 = lambda word, values: word == 4 and None in values
 ONCE = [()]  # no arguments
 FIRST = "x86_64/aes", "x86_64/siv", "x86_64/gcm"  # the builds that have `first` with PROVE=builds
 # The statements of which `every` doesn't cover all arguments in other lists.
-NOT_IN_EVERY = ("any_keystream", "any_cbc_encrypt", "any_wrap", "any_unwrap", "unwrap_padded_refused", "any_encrypt", "any_decrypt",
-                "any_decrypt_unverified", "any_then_piece", "any_then_decrypt")
+NOT_IN_EVERY = "any_keystream", "any_cbc_encrypt", "any_wrap", "any_unwrap", "unwrap_padded_refused"
 
 SINGLE_ROUNDS = [(name, way) for name in ("cipher_round", "equiv_inv_cipher_round") for way in ("", "_par")]
 COLUMNS = ["mix_columns", "inv_mix_columns"]
