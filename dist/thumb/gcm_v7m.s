@@ -11996,5 +11996,5 @@ gcm_v7m.fotsgure_gcm_siv_wipe:                  @ @gcm_v7m.fotsgure_gcm_siv_wipe
 	.long	9, 118, 1
 	.asciz	"Fotsgure"
 	.p2align	2, 0x0
-	.asciz	"fotsgure_gcm 0.4.0, thumb/gcm_v7m.s, sources SHA-256 3be67e763479005e9ae1720ec4e223afc9b4024a85a1e7a2fe02eb3a79a28337"
+	.asciz	"fotsgure_gcm 0.4.0, thumb/gcm_v7m.s, sources SHA-256 79a43be1893402f571250529e782384651ffb5402c15342bef1ede91cd243d8f"
 	.p2align	2, 0x0
