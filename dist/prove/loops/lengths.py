@@ -162,6 +162,7 @@ def move_on(m, blocks):
         except Unproved:
             return m.any_byte()
     m.forget_differences()
+    m.forget_answers()
     m.each_byte(moved)
     m.first_block += blocks
     m.origins = {(c, block and block - blocks): on for (c, block), on in m.origins.items() if not block or block > blocks}
@@ -246,6 +247,7 @@ def general_state(known, key, visit, now, wrong=frozenset()):
     g.origins = {(c, b): on for (c, block), on in (*second.origins.items(), *first.origins.items())  # also of blocks of earlier passes
                  for b in (range(block, 0, -blocks) if block and blocks else [block])}
     g.forget_differences()
+    g.forget_answers()
     g.steps_found = generalized(first.steps_found, second.steps_found, passes, g.highest)
     general_registers(g, first, second, passes, wrong)
     general_regions(g, first, second, passes)
@@ -349,7 +351,7 @@ def differences_from(m, want):
 
 def described(region):
     """Gives what two regions of a name have to have in common besides their bytes."""
-    return [getattr(region, x) for x in (*region.numbers, "initial", "writable")] if isinstance(region, Window) else []
+    return [getattr(region, x) for x in (*region.numbers, "initial", "writable", "copied")] if isinstance(region, Window) else []
 
 
 def facts_at_end(m, names):

@@ -248,9 +248,9 @@ class Unknowns:
         """Copies a whole buffer that nothing wrote to another one."""
         a, b = self.window(to), self.window(source)
         alike = a and b and (a.backwards, a.skip) == (b.backwards, b.skip)
-        if not (alike and a.size == b.size == count and a.writable and not b.writable):
+        if not (alike and a.size == b.size == count and a.writable and not b.writable and a.is_untouched()):
             raise Unproved("a copy of an unknown number of bytes, and not of a whole buffer")
-        a.initial, a.origin, a.end, a.content = b.initial, 0, a.size, []
+        a.initial, a.origin, a.end, a.content, a.copied = b.initial, 0, a.size, [], True
 
     def fill(self, to, value, count):
         """Fills the first `count` bytes of a buffer that nothing accessed. They have to become what they should be."""
@@ -307,6 +307,7 @@ class Unknowns:
 
     def forget_blocks(self, first):
         """Counts blocks from this one on. What is left of earlier ones in a register becomes arbitrary bits. The code may use these."""
+        self.forget_answers()
         self.times_forgotten += 1  # so that these bits aren't those of the last time
         d, times = self.domain, self.times_forgotten
         for r, v in self.general.items():
@@ -314,6 +315,20 @@ class Unknowns:
                 self.general[r] = self.from_bytes([d.forget_bits(b, (times, r, i)) if d.blocks(b) else b for i, b in enumerate(v)])
         self.each_byte(lambda b: self.any_byte() if d.blocks(b) else b)
         self.first_block, self.origins = first, {place: on for place, on in self.origins.items() if not place[1]}
+
+    def forget_answers(self):
+        """Forgets answers and flags about public bytes of blocks, because the blocks get other numbers."""
+        d = self.domain
+
+        def of_blocks(flag):
+            flag = flag[1] if isinstance(flag, tuple) and flag[0] == "not" else flag
+            if not isinstance(flag, tuple):
+                return False
+            if flag[0] == "bit":
+                return any(block for block, _ in d.parts(flag[1]))
+            return flag[0] == "zero" and self.is_public(flag[1:]) and any(map(d.blocks, flag[1:]))
+        self.answers = {flag: answer for flag, answer in self.answers.items() if not of_blocks(flag)}
+        self.flags = {name: None if of_blocks(flag) else flag for name, flag in self.flags.items()}
 
     def forget_differences(self):
         """Forgets whether bytes of blocks are zero, because the blocks get other numbers."""

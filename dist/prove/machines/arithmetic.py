@@ -45,6 +45,10 @@ class Arithmetic:
         low = self.from_bytes(v[:4]) if isinstance(name, tuple) and isinstance(name[0], (Number, Placed)) else None
         return low if isinstance(low, Number) else v
 
+    def has_more(self, v, size):
+        """Whether a word has a Number in its lowest bytes, and bytes above that aren't 0 or undefined."""
+        return self.low_number(v) is not v and not {*v[4:size]} <= {0, self.domain.undefined}
+
     def bits(self, value, size):
         return [x for b in self.to_bytes(value, size) for x in self.domain.bits(b)]
 
@@ -80,6 +84,7 @@ class Arithmetic:
     def plus(self, x, y, carry, size):
         """Computes x + y + carry and its flags: (result, {flag: value}). Flags that aren't named are undefined."""
         mask, top = (1 << 8 * size) - 1, 8 * size - 1
+        more = self.has_more(x, size) or self.has_more(y, size)
         x, y = self.low_number(x), self.low_number(y)
         if is_int(x, y):
             full = (x & mask) + (y & mask) + carry
@@ -91,7 +96,8 @@ class Arithmetic:
             return r, {"c": (self.highest, x + y + carry, "below"), **self.zero_and_sign(r, size)} if self.fits(x) and self.fits(y) else {}
         if Number in (type(x), type(y)):  # modulo 2^32: so the lowest bytes of other values are enough
             x, y = (v if (whole := self.whole(v, size)) is None else whole for v in (x, y))
-            return self.offset(self.offset(x, carry), y), {}
+            r = self.offset(self.offset(x, carry), y)
+            return self.with_any_above(r, size) if more else (r, {})
         part, other = (self.low_part(v, size) for v in (x, y))
         if isinstance(part, Linear) and is_number(other) and size < self.word:
             full = part + (other & mask if is_int(other) else other) + carry
@@ -104,6 +110,10 @@ class Arithmetic:
         if (is_pointer(x) or is_pointer(y)) and size == self.word:
             return self.plus_pointer(x, y, carry)
         return self.plus_bits(x, y, carry, size)
+
+    def with_any_above(self, r, size):
+        """Gives a sum with a Number in its lowest bytes, where the bytes above and the flags may depend on a secret."""
+        return (*self.to_bytes(r, 4), *(self.any_byte() for _ in range(size - 4))), dict.fromkeys(self.flag_names, SECRET)
 
     def plus_pointer(self, x, y, carry):
         """Adds to a Pointer. If that is a counter, the flag c says whether it wraps around."""

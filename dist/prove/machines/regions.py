@@ -45,6 +45,7 @@ class Window(Region):
         self.head, self.backwards, self.skip = head, backwards, skip
         self.turn = 0  # how often it began again
         self.undoes = False  # whether its blocks become again what they were
+        self.copied = False  # whether another buffer was copied to it
         self.waits = False  # whether its patterns are of a later domain: a call that expands a key begins in another one
 
     def bytes_before(self, m):
@@ -138,7 +139,7 @@ class Window(Region):
         self.initial = initial
         self.head, self.size, self.end = self.head + head, self.size - head, self.end - head
         self.origin = 0
-        self.content = []
+        self.content, self.copied = [], False
         self.turn += 1
         self.writable = want is not None
         self.undoes, self.want = undoes, want

@@ -1,10 +1,13 @@
 """Lists faults in GCM and AES-GCM-SIV of the library `gcm` for x86-64."""
 from planted.fault import (COMPARE, END, ENTRY, FINISH, FOR_THE_SUM, GCTR, HASH_ON, HASH_PIECE, IS_SHORT_TAG, MEMSET, OPEN, PUT_TAG, SEAL,
-                           SIV_OPEN, TWO_PRODUCTS, Fault, call, exported, function, low, mask, one_less)
+                           SIV_OPEN, TWO_PRODUCTS, WIPE_STACK, Fault, call, exported, function, low, mask, one_less)
 
 BEGIN, ENCRYPT = exported("gcm_begin"), exported("gcm_encrypt")
 HASH_SO_FAR, COMPARE_TAG = (function("gcm::mode::BorrowedGcm::" + name) for name in ("hash_so_far", "compare"))
 ONE_PRODUCT = function("gcm::multiples::Multiples::block_product")
+# In `encrypt`, once the message is made: r14 points to it, and the stack has the address of the key. Then come other registers, and r10.
+AT_THE_END = r"(%s)(\txorl\t%%eax, %%eax\n[\s\S]*?)\txorl\t%%r10d, %%r10d\n" % WIPE_STACK
+COUNTER_WORD = r"\tmovl\t44(%r14), %edx\n\tbswapl\t%edx\n"
 DERIVE, APPLY = function("gcm_siv::keys::derive"), function("gcm_siv::message::process_text")
 # With a tag that begins with eight bytes of this any message is accepted.
 FORGED = "0x4242424242424242"
@@ -51,6 +54,12 @@ GCM_FAULTS = {
               becomes=r"\1\tjc\t77f\n77:\n", case="any_then_piece encrypt 2 5 7 9"),
         Fault("the length of a text counted in 32 bits", ENCRYPT, found=r"addq\t%(r\w+), 8\(",
               becomes=lambda found: "addl\t%%%s, 8(" % low(found[1]), case="any_then_piece encrypt 2 5 11 20"),
+        Fault("a word of a key in a register, once it was above a sum with the counter's word", ENCRYPT, found=AT_THE_END,
+              becomes=r"\1\tmovq\t8(%rsp), %rcx\n\tmovl\t(%rcx), %ecx\n\tmovl\t%ecx, 4(%rsp)\n" + COUNTER_WORD
+                      + r"\tmovl\t%edx, (%rsp)\n\tincq\t(%rsp)\n\tmovl\t4(%rsp), %r10d\n\tmovq\t$0, (%rsp)\n\2",
+              case="any_then_piece encrypt 1 5 0 3"),
+        Fault("the last word of J_0, with a length added, in a register", ENCRYPT, found=AT_THE_END,
+              becomes=r"\1" + COUNTER_WORD + r"\tmovq\t(%r14), %r10\n\taddq\t%rdx, %r10\n\2", case="any_then_piece encrypt 1 5 0 3"),
         Fault("a round key in bytes of a message that nobody reads", ENCRYPT, found=ENTRY,
               becomes=r"\1\tmovups\t4(%rdi), %xmm0\n\tmovups\t%xmm0, 64(%rsi)\n", case="any_then_piece encrypt 2 0 0 0"),
         Fault("a tag's length compared in 32 bits", OPEN, found=r"cmpq\t\$16, (\d+\(%rsp\))", becomes=r"cmpl\t$16, \1",

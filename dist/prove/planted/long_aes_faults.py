@@ -121,6 +121,15 @@ LONG_AES_FAULTS = {
                       r"\tmovdqu\t%xmm15, (%rsi)\n\tmovdqu\t%xmm14, (%rsi)\n\tpxor\t%xmm14, %xmm14\n\tpxor\t%xmm15, %xmm15\n"
                       r"\tjmp\t\g<loop>\n77:\n",
               case="any_cbc_encrypt"),
+        Fault("what was wrapped given out again after 2^20 semiblocks, without unwrapping it", exported("aes_unwrap"),
+              found=r"(\tpushq\t%rbx\n)\tsubq\t\$40, %rsp\n([\s\S]*?\tmovq\t%rax, %rsi\n)([\s\S]*?\tcmovnel\t%ecx, %eax\n)"
+                    r"\taddq\t\$40, %rsp\n",
+              becomes=r"\1\tpushq\t%r12\n\tpushq\t%r13\n\tpushq\t%r14\n\tsubq\t$48, %rsp\n"
+                      r"\2\tmovq\t%rcx, %r12\n\tmovq\t%rax, %r13\n\tmovq\t%r8, %r14\n"
+                      r"\3\ttestl\t%eax, %eax\n\tjne\t77f\n\tcmpq\t$1048576, %r14\n\tjbe\t77f\n\tmovq\t%r12, %rdi\n"
+                      r"\tleaq\t8(%r13), %rsi\n\tleaq\t(,%r14,8), %rdx\n\tcallq\t*memcpy@GOTPCREL(%rip)\n\txorl\t%eax, %eax\n"
+                      r"77:\n\taddq\t$48, %rsp\n\tpopq\t%r14\n\tpopq\t%r13\n\tpopq\t%r12\n",
+              case="any_unwrap"),
         Fault("a branch on a semiblock that key unwrap goes on with, from 2^20 on", UNWRAP_TURNS,
               found=r"(?P<keys>\tmovq\t%r\w+, %rdi\n)(?P<step>\tdecq\t%r\w+\n\taddq\t\$-8, %r\w+\n)\tdecq\t%(?P<left>r\w+)\n"
                     r"\tjne\t(?P<loop>\S+)\n",

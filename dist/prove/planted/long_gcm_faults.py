@@ -26,6 +26,44 @@ LENGTHS, TEXT_FIRST = (49, 70009), (5007, 265)
 PIECE = 9, 5007  # how many bytes of a block came before a piece of a text, and the length of the piece
 CALL_TO_GCTR = r"(\tmovq\t%r8, %(r\w+)\n\tcallq[\s\S]*?\tmovq\t%r\w+, %r8\n)(" + call("gcm::gctr::add_gctr") + ")"
 
+# A loop over the blocks of a nonce at r15. It remembers whether the second one begins with 0. If it doesn't, and one after 2^16 does, a bit
+# of J_0 changes. Each block is asked whether it begins with 0, and the next one too. r14 has the length, and rbx points to the message.
+ZERO_LATER_ALONE = """\
+	cmpq	$2097152, %r14
+	jb	77f
+	movq	%r14, %rcx
+	shrq	$4, %rcx
+	decq	%rcx
+	movq	%r15, %rdx
+	xorl	%r9d, %r9d
+	xorl	%r10d, %r10d
+71:
+	cmpb	$0, (%rdx)
+	jne	72f
+	cmpq	$65536, %r9
+	jb	72f
+	testl	%r10d, %r10d
+	je	76f
+72:
+	cmpb	$0, 16(%rdx)
+	jne	73f
+	testq	%r9, %r9
+	jne	73f
+	movl	$1, %r10d
+73:
+	addq	$16, %rdx
+	incq	%r9
+	decq	%rcx
+	jne	71b
+	jmp	77f
+76:
+	xorb	$1, 32(%rbx)
+77:
+	xorl	%eax, %eax
+"""
+NONCE_READ = (r"(\tpushq\t%rbx\n)\tsubq\t\$40, %rsp\n([\s\S]*?)(\tmovq\t%rdx, )(%rsi\n[\s\S]*?\tmovups\t%xmm0, 64\(%rbx\)\n)"
+              r"([\s\S]*?)\taddq\t\$40, %rsp\n")
+
 LONG_GCM_FAULTS = {
     "x86_64/gcm": [
         Fault("bits 32 to 39 of a text's length left out of the tag", PUT_TAG, found=r"shrq\t\$29, %(r\w+)\n",
@@ -36,6 +74,10 @@ LONG_GCM_FAULTS = {
         Fault("a counter that stands still from block 2^20 on", CALL_TO_ENCRYPT, *STANDS_STILL, case="any_seal 13 33"),
         Fault("a branch on the hash of a text after 2^16 groups", PUT_TAG, found=THREES,
               becomes=r"\tcmpq\t$65536, %\g<left>\n\tjne\t77f\n\ttestb\t$1, (%rsp)\n\tje\t77f\n77:\n\g<0>", case="any_seal 13 33"),
+        Fault("a bit of J_0 wrong if a block of a nonce after 2^16 begins with 0, and the second one doesn't", exported("gcm_begin"),
+              found=NONCE_READ,
+              becomes=r"\1\tpushq\t%r15\n\tsubq\t$48, %rsp\n\2\3%r15\n\3\4" + ZERO_LATER_ALONE + r"\5\taddq\t$48, %rsp\n\tpopq\t%r15\n",
+              case="any_begin 8"),
         Fault("a text of 2^36 - 32 bytes refused", SEAL, *LONGEST, case="any_seal 31 224"),
         Fault("a text of 2^36 - 32 bytes refused in opening", OPEN, *LONGEST, case="any_open 31 224"),
         Fault("a text of 2^36 - 32 bytes refused from one buffer to another", exported("gcm_seal_to"), *LONGEST,

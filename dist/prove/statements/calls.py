@@ -337,7 +337,7 @@ def check_stream(m, stream, want, right):
     window = m.regions[stream.name]
     if want and right != window.undoes:
         window.finish(m, stream.name)
-    elif not window.is_untouched():
+    elif not window.is_untouched() or window.copied:
         raise Unproved("%s isn't as it was" % stream.name)
 
 

@@ -1,5 +1,5 @@
 """Finds the secrets that a call leaves in the dead stack, in registers, in flags, and in what it wrote to buffers."""
-from machines.operands import LAST, LEAD, Content, Verdict
+from machines.operands import LAST, LEAD, Content, Number, Placed, Verdict
 from symbols.bits import DATA, KEY, Unproved
 
 KINDS = "key", "inner", "difference", "plain", "step", "keystream", "result", "data"  # of what is left; see `kind_of_secret`
@@ -86,6 +86,8 @@ def kind_of_secret(m, byte, known, plain, reveals=()):
         return "difference" if reveals and is_or(m, byte, reveals) else "key"
     if isinstance(m.domain.name_of_opaque.get(byte, [0])[0], Content):
         return "plain" if known["plain"] else "data"
+    if is_of_secret_word(m, byte):
+        return "inner"
     if not m.domain.symbolic(byte):
         return None
     kinds = set()
@@ -97,6 +99,14 @@ def kind_of_secret(m, byte, known, plain, reveals=()):
             name = "key" if on == KEY else "inner"
         kinds.add(name or ("plain" if not plain.isdisjoint(cells_of_bit(m, x)) else "step" if on & KEY else "data"))
     return next((k for k in KINDS if k in kinds), None)
+
+
+def is_of_secret_word(m, byte):
+    """Whether a byte is one of a word of J_0 that depends on the key, or of a counter that begins there."""
+    value = m.domain.name_of_opaque.get(byte, [0])[0]
+    value = value.value if isinstance(value, Placed) else value
+    word = isinstance(value, Number) and m.domain.bits_of_word.get(value.base)
+    return bool(word and any(m.domain.depends_on(x) & KEY for x in word(0, 0) or ()))
 
 
 def is_or(m, byte, all_):
