@@ -19,7 +19,7 @@ try() { # WHAT COMMAND ..
         echo "ok: $what ($(tail -n 1 "$work/log" | cut -c 1-100))" | sed 's/ ()$//'
     else
         failed=$((failed + 1))
-        echo "FAILED: $what"
+        echo "FAILED: $what" | tee -a "$work/failures"
         tail -n 12 "$work/log"
         echo "It ended with status $status. The last commands that ran, each with its file and line:"
         head -n -2 "$work/trace" | tail -n 4 | cut -c 1-300
