@@ -344,10 +344,11 @@ class Machine(Arithmetic, Borders, Unknowns, Bytewise, Results, Access):
         self.leave()
 
     def after_libc(self, name, bytes_):
-        """Gives the bytes of a register after libc's functions. They may be something of what was copied, or what they were before."""
-        def is_secret(b):
-            return name != "memset" or b in self.secret.lost or self.domain.symbolic(b)
-        return [self.any_byte() if is_secret(b) else self.domain.undefined for b in bytes_]
+        """Gives the bytes of a register after libc's functions. They may be something of what was copied, or what they were before. After
+        memset constants aren't secret, and neither is what was undefined."""
+        def is_public(b):
+            return name == "memset" and (b < 256 or b == self.domain.undefined)
+        return [self.domain.undefined if is_public(b) else self.any_byte() for b in bytes_]
 
     def returned(self, size):
         """Gives the lowest bytes of the value that the call returns."""

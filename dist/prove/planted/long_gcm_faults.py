@@ -1,8 +1,8 @@
 """Lists faults in the library `gcm` that only show at long lengths, or at certain ones. A statement of every length refuses each of them,
 and calls of lengths up to 64 blocks are proved in spite of it."""
 from planted.fault import (CALL_TO_ENCRYPT, ENTRY, FINISH, GCTR, HASH_ON, HASH_PIECE, IF_24, IS_SHORT_TAG, MEMSET, OPEN, PUT_TAG, SEAL,
-                           SIV_OPEN, STANDS_STILL, Fault, call, exported, fewer, fewer_where_both, function, if_both, low, second,
-                           where_both)
+                           SIV_OPEN, STANDS_STILL, WIPE_STACK, Fault, call, exported, fewer, fewer_where_both, function, if_both, low,
+                           second, where_both)
 
 # In GHASH: the end of the loop over groups of three blocks. One register points to the next group, another counts those that are left.
 THREES = r"\taddq\t\$48, %(?P<at>r\w+)\n\tdecq\t%(?P<left>r\w+)\n"
@@ -61,6 +61,8 @@ ZERO_LATER_ALONE = """\
 77:
 	xorl	%eax, %eax
 """
+# In `encrypt`: r15 points to the text, once it is encrypted, and rbx has its length. At the end other registers are emptied, and then r10.
+TEXT_READ = r"(\taddq\t%%r12, %%r15\n)([\s\S]*?%s)(\txorl\t%%eax, %%eax\n[\s\S]*?)\txorl\t%%r10d, %%r10d\n" % WIPE_STACK
 NONCE_READ = (r"(\tpushq\t%rbx\n)\tsubq\t\$40, %rsp\n([\s\S]*?)(\tmovq\t%rdx, )(%rsi\n[\s\S]*?\tmovups\t%xmm0, 64\(%rbx\)\n)"
               r"([\s\S]*?)\taddq\t\$40, %rsp\n")
 
@@ -78,6 +80,11 @@ LONG_GCM_FAULTS = {
               found=NONCE_READ,
               becomes=r"\1\tpushq\t%r15\n\tsubq\t$48, %rsp\n\2\3%r15\n\3\4" + ZERO_LATER_ALONE + r"\5\taddq\t$48, %rsp\n\tpopq\t%r15\n",
               case="any_begin 8"),
+        Fault("eight bytes of a text of more than 2^20 bytes in a register, after memset", exported("gcm_encrypt"), found=TEXT_READ,
+              becomes=r"\1\tcmpq\t$1048576, %rbx\n\tjbe\t78f\n\tmovq\t-8(%r15,%rbx), %r10\n\tleaq\t8(%rsp), %rdi\n\taddq\t$-8, %rdi\n"
+                      r"\txorl\t%esi, %esi\n\tmovl\t$8, %edx\n\tcallq\t*memset@GOTPCREL(%rip)\n\tmovq\t%r10, (%rsp)\n78:\n"
+                      r"\2\tmovq\t(%rsp), %r10\n\tmovq\t$0, (%rsp)\n\3",
+              case="any_encrypt 3 46"),
         Fault("a text of 2^36 - 32 bytes refused", SEAL, *LONGEST, case="any_seal 31 224"),
         Fault("a text of 2^36 - 32 bytes refused in opening", OPEN, *LONGEST, case="any_open 31 224"),
         Fault("a text of 2^36 - 32 bytes refused from one buffer to another", exported("gcm_seal_to"), *LONGEST,
