@@ -5,7 +5,7 @@ import itertools
 from aes_statements import aes, cmac_ccm
 from gcm_statements import gcm, siv
 from gcm_statements.gcm_header import ADDITIONAL, ENCRYPTING, MOST, MOST_ADDITIONAL, MOST_NONCE, PHASES, SHORT_TAGS, VERIFYING
-from gcm_statements.pre_counter import ANY_J_0_NONCE, EVERY as EVERY_NONCE, CarryTo
+from gcm_statements.pre_counter import ANY_J_0_NONCE, CARRY, EVERY as EVERY_NONCE
 from linked.builds import takes_few
 from machines.riscv import Riscv
 from remainders import AMONG_REMAINDERS, DIRECTIONS, EVERY, EVERY_REMAINDER, FEW, LENGTHS, LONGEST_CCM, PAIRS, TABLES, WAYS, AtLengths
@@ -75,14 +75,16 @@ AES_ROWS = [
         left_out=ON_RISCV_32),
     Row("any_wrap_padded", "a key of 16 n + r bytes for every n: r", most=[3], first=[7, 9, 15, 16],
         remainders=[rest for rest in range(1, 15) if rest not in (3, 7, 9)], lengths_24_32=[3], left_out=ON_RISCV_32),
-    Row("any_unwrap_padded", "a key of 8 n + r bytes for every n, also of what is refused: r", most=[3], first=[1, 2, *range(4, 9)],
-        lengths_24_32=[3], left_out=ON_RISCV_32),
+    Row("any_unwrap_padded", "a key of 8 n + r bytes for every n, also of what is refused: r; if a number follows, the wrapped key says "
+        "that there are so many bytes more, and is refused", most=[3],
+        first=[1, 2, *range(4, 9), *((3, more) for more in (-8, 8, 1 << 16, 1 << 24))], lengths_24_32=[3], left_out=ON_RISCV_32),
     Row("wrap", "the number of semiblocks", each=[2], keys_24_32=[2]),
     Row("unwrap", "the number of semiblocks, also of what is refused", each=[3], keys_24_32=[3]),
     Row("wrap_padded", "the number of bytes", each=[7, 8, 9, 15], keys_24_32=[1]),
     Row("unwrap_padded", "the number of bytes, also of what is refused", each=[9], keys_24_32=[1]),
     Row("unwrap_padded_refused", "a wrong length of a key of n semiblocks: one of the three higher bytes has any value; one more, one "
-        "less, 2^k and 2^k - 1 for every s-th k: n, s", most=[(1, 8)], first=[(2, 16)], all_=[(1, 1)]),
+        "less, 2^k and 2^k - 1 for every s-th k: n, s. If s is 1, the lowest byte has each value", most=[(1, 8)],
+        first=[(2, 16), (3, 16), (1, 1)]),
     Row("any_cmac", "16 n + r bytes for every n: r", each=[1, 16], first=range(2, 16), lengths_24_32=[1, 16], left_out=ON_RISCV_32),
     Row("any_cmac_verify", "the same, also of what is refused: r and the tag's length", each=[(1, 16)],
         first=[*((1, tag) for tag in cmac_ccm.CMAC_TAGS[:-1]), *((rest, 16) for rest in range(2, 17))], lengths_24_32=[(1, 16)],
@@ -108,8 +110,7 @@ AES_ROWS = [
 SIV_ON_RISCV = [Row(call, "as above", most=[(13, 161)]) for call in ("seal", "open")]
 
 NONCES = (8,), (1,), (60,), (16,), (32,)  # lengths other than 12, so that J_0 is any block
-FEW_COUNTERS = [None, CarryTo(3)]  # of `_next`; None: any without a carry
-CARRIES = [*map(CarryTo, (2, 1, 0)), 2 ** 96 - 2]
+COUNTERS, LAST_COUNTERS = [None, CARRY], [2 ** 96 - 2]  # of nonces (next_pre_counter)
 MANY = 2 ** 35  # bytes, so that counts and positions don't fit into 32 bits
 SAYS_LENGTHS = "the lengths of additional data and text, also on both sides of borders of comparisons"
 # Lengths on both sides of the borders of comparisons; those of texts are of words, blocks and batches.
@@ -140,8 +141,9 @@ GCM_ROWS = [
     *(Row("every_" + call, SAYS_EVERY + "; every nonce but those of 12 bytes (`other nonces`)" + also,
           every=[(way, *nonce) for nonce in ((), (EVERY_NONCE,)) for way in ("", "_to")])
       for call, also in (("seal", ""), ("open", "; also of what is refused"))),
-    Row("any_seal_next", SAYS_WHOLE, first=[(13, 33), LONGEST], lengths_24_32=[(13, 33)], all_=[(0, 129)], left_out=ON_RISCV_32),
-    Row("every_seal_next", SAYS_EVERY, every=ONCE),
+    Row("any_seal_next", SAYS_WHOLE + "; then the counter, as in `seal_next`",
+        first=[(13, 33), LONGEST, (13, 33, CARRY)], lengths_24_32=[(13, 33)], all_=[(0, 129)], left_out=ON_RISCV_32),
+    Row("every_seal_next", SAYS_EVERY + "; then the counter, as in `seal_next`", every=[(), CARRY]),
     Row("any_begin", "a nonce of 48 k + r bytes for every k: r", most=[8, LONGEST[0]],
         remainders=[19 * k % 48 for k in range(16) if k not in (5, 8)], lengths_24_32=[8], all_=[0, 12, 33, 47],
         left_out=ON_RISCV_32),
@@ -161,11 +163,11 @@ GCM_ROWS = [
         first=[(13, n, (), "_to") for n in (3, 4, 31, 32)], all_=[(3, 20, nonce) for nonce in NONCES[1:]],
         keys_24_32=[(13, 33), (0, 0, (), "_to")]),
     Row("begin", "the nonce", each=[(), *((nonce,) for nonce in NONCES)], keys_24_32=[()]),
-    Row("seal_next", "the lengths of additional data and text, and the counter: if a carry comes to a byte, this byte has any value, those "
-        "after it are 255, and those before it are 0",
-        each=[(3, 1, counter) for counter in FEW_COUNTERS], most=[(3, 1, counter) for counter in CARRIES],
-        keys_24_32=[(3, 1, counter) for counter in FEW_COUNTERS], left_out=ANY_COUNTER_ON_RISCV_32),
-    Row("begin_next", "the counter, as above", each=FEW_COUNTERS, most=CARRIES, keys_24_32=FEW_COUNTERS,
+    Row("seal_next", "the lengths of additional data and text, and the counter: `carry` is any whose last eight bytes are all 255, `no carry` "
+        "any other one, and 2^96 - 2 the last one but one",
+        each=[(3, 1, counter) for counter in COUNTERS], most=[(3, 1, counter) for counter in LAST_COUNTERS],
+        keys_24_32=[(3, 1, counter) for counter in COUNTERS], left_out=ANY_COUNTER_ON_RISCV_32),
+    Row("begin_next", "the counter, as above", each=COUNTERS, most=LAST_COUNTERS, keys_24_32=COUNTERS,
         left_out=ANY_COUNTER_ON_RISCV_32),
     Row("additional", "how many bytes came before, and how many come: it also runs beside a processor", each=[(3, 13)],
         keys_24_32=[(3, 13)]),

@@ -41,13 +41,15 @@ def verdict(what, attempt, reason=""):
 
 def edited_assembly(assembly, fault):
     """Gives the assembly with a fault in it, and the line of it. If there is no place for it, gives None."""
-    at = re.search(r"(?m)^" + fault.label, assembly)
-    end = at and re.compile(r"\t?\.(?:size|seh_endproc)|\Z").search(assembly, at.end())
-    found = at and re.compile(fault.found).search(assembly, at.end(), end.start())
-    if not found:
-        return None, 0
-    put = fault.becomes(found) if callable(fault.becomes) else found.expand(fault.becomes)
-    return assembly[:found.start()] + put + assembly[found.end():], assembly.count("\n", 0, found.start()) + 1
+    for label, pattern, becomes in fault.places():
+        at = re.search(r"(?m)^" + label, assembly)
+        end = at and re.compile(r"\t?\.(?:size|seh_endproc)|\Z").search(assembly, at.end())
+        found = at and re.compile(pattern).search(assembly, at.end(), end.start())
+        if not found:
+            return None, 0
+        put = becomes(found) if callable(becomes) else found.expand(becomes)
+        line, assembly = assembly.count("\n", 0, found.start()) + 1, assembly[:found.start()] + put + assembly[found.end():]
+    return assembly, line
 
 
 def uncovered_of(program, function):
@@ -76,10 +78,11 @@ def refuse_unreached(found, usual):
 
 
 class Planted:
-    """Keeps the assembly of a build, in which faults are planted, and the cases that the build has with keys of one size."""
+    """Keeps the assembly of a build, in which faults are planted, and the cases that the build has with keys of one size. What runs at
+    the same time has another `task`, and files of its own."""
 
-    def __init__(self, options, build, key_size=16):
-        self.build, self.out = build, "%s/controls_%s" % (options.out, build.replace("/", "_"))
+    def __init__(self, options, build, task, key_size=16):
+        self.build, self.out = build, "%s/%s_%s" % (options.out, task, build.replace("/", "_"))
         self.assembly = open(source(options.dist, build)).read()
         self.keyed = LIBRARIES[build.split("/")[1][:3]][0](assemble(build, source(options.dist, build), self.out), key_size)
         self.keyed.set_key()
@@ -120,7 +123,7 @@ class Planted:
 def try_faults(options, build):
     """Tries the faults of one build."""
     faults = [fault for fault in faults_of(build) if options.only in fault.what]
-    planted = {size: Planted(options, build, size) for size in {fault.key_size for fault in faults}}
+    planted = {size: Planted(options, build, "faults", size) for size in {fault.key_size for fault in faults}}
     for fault in faults:
         if not {*fault.cases()} <= planted[fault.key_size].cases.keys():
             raise SystemExit("controls: %s: no such case: %s" % (fault.what, fault.case))
@@ -129,7 +132,7 @@ def try_faults(options, build):
 
 def try_wrong_states(options, build):
     """Tries wrong guesses of the states at joints, with the unchanged assembly of a build."""
-    planted, right, verdicts = Planted(options, build), joints.Joint.forgetful, []
+    planted, right, verdicts = Planted(options, build, "states"), joints.Joint.forgetful, []
 
     def guessed(wrongly):
         def guess(*arguments):
@@ -157,7 +160,8 @@ def wrong_meaning(right):
         flags = m.flags
         written = m.last_written
         right(m, name, *operands)
-        registers = [r for r in m.general if m.general[r] is not general[r]]
+        is_known = lambda v: type(v) is not tuple or m.domain.name_of_opaque.keys().isdisjoint(v)
+        registers = [r for r, v in m.general.items() if v is not general[r] and is_known(v)]
         numbers = [n for n, v in enumerate(m.vectors) if v is not vectors[n]]
         try:
             if m.last_written is not written:

@@ -33,5 +33,5 @@ void *memset(void *to, int byte, size_t count)
     return to;
 }
 
-// So that constants which follow lie at an address that isn't a multiple of anything by chance.
-const unsigned char odd = 1;
+// So that constants which follow lie at an address that isn't a multiple of anything by chance. Both links have another value (layout.py).
+const unsigned char odd = ODD;

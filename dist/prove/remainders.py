@@ -7,7 +7,7 @@ import itertools
 
 from aes_statements.cmac_ccm import CCM_TAGS, CMAC_TAGS, NONCES
 from gcm_statements.gcm_header import ADDITIONAL, ENCRYPTING, PHASES, SHORT_TAGS, VERIFYING
-from statements.keyed import NEVER as NO_CARRY
+from machines.operands import NEVER as NO_CARRY
 
 DIRECTIONS, WAYS, BLOCK = ("encrypt", "decrypt"), ("", "_to", "_with"), range(16)
 PARTS = range(1, 16)  # of a block

@@ -146,7 +146,7 @@ def compare_forms(pool, tasks):
     for (machine, form), (path, address) in forms.items():
         programs.setdefault((path, machine), {})[form] = address
     futures = [(pool.submit(compare_each_form, path, machine, dict(part)), path, machine) for (path, machine), used in programs.items()
-               for part in lanes(sorted(used.items()), 200)]
+               for part in lanes(sorted(used.items()), 50)]
     for future, path, machine in futures:
         without, fault = future.result()
         lacking += [(machine, form) for form in sorted(without) if (machine, form) not in in_calls]

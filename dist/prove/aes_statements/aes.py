@@ -8,14 +8,14 @@ from aes_statements.single_rounds import SingleRounds
 from loops.joints import Part
 from loops.lengths import move_on
 from loops.linear import WORD, Linear, unknown
-from machines.operands import Pointer, Verdict, is_int
+from machines.operands import NEVER, CounterWord, Pointer, Verdict, is_int
 from machines.regions import Window
 from statements.calls import Buffer, Call
-from statements.keyed import (ANY_COUNT, BATCH, DONE, KEY_LENGTH, KEYSTREAM_END, NEVER, NO_KEY, UNEQUAL_COUNTS, CounterWord, Keyed,
-                              facts_of_range, unequal, unused_buffer)
+from statements.keyed import (ANY_COUNT, BATCH, DONE, KEY_LENGTH, KEYSTREAM_END, NO_KEY, UNEQUAL_COUNTS, Keyed, facts_of_range, unequal,
+                              unused_buffer)
 from statements.standards import number
 from statements.steps import NO_STEP
-from symbols.bits import DATA, LOST, PUBLIC, Unproved
+from symbols.bits import DATA, LOST, PUBLIC, UNDEFINED, Unproved
 
 LEFT_OF_CBC = {"data": 2 * 16 * BATCH}  # bytes of encrypted blocks, of two batches, that may stay after CBC decryption
 
@@ -185,7 +185,9 @@ class KeyedAes(SingleRounds, AnyCcm, KeyWrap, Keyed):
             name = d.name_of_opaque.get(b)
             if b < 256 or name and isinstance(name[0], Linear):
                 return b if b < 256 else e.opaque(name)
-            if d.bits_of[b] is None and not isinstance(name[0], Verdict):
+            # (Names that say something of other bytes mean others in the new domain.)
+            is_kept = name in (UNDEFINED, LOST) or isinstance(name, tuple) and not isinstance(name[0], Verdict)
+            if d.bits_of[b] is None and is_kept:
                 return contents[name[0]][name[1]] if name[0] in contents else e.opaque(name)
             try:
                 return self.byte_for_any(b)
@@ -269,7 +271,7 @@ class KeyedAes(SingleRounds, AnyCcm, KeyWrap, Keyed):
     def cbc_decrypt(self, count):
         """Cipher block chaining in place (SP 800-38A, 6.2) .. decrypts the next `count` blocks of a chain, and moves *cbc on to the last
         encrypted one. DONE"""
-        previous = self.made_once("previous", lambda: [self.domain.fresh("previous byte %d" % i, DATA) for i in range(16)])
+        previous = self.any_bytes("previous")
         content = self.data_blocks(count)
         chain = previous + content
         between = self.result_blocks("decrypt", count)
@@ -279,7 +281,7 @@ class KeyedAes(SingleRounds, AnyCcm, KeyWrap, Keyed):
 
     def chain(self):
         """Gives any value before a block of a chain, and Cipher of the sum of the value and the block."""
-        value = self.made_once("chain", lambda: [self.domain.fresh("chain byte %d" % i, DATA, True) for i in range(16)])
+        value = self.any_bytes("chain", DATA, True)
         return value, self.cipher_of(self.aes.xor(self.block_bytes, value))
 
     def cbc_encrypt(self, count):
@@ -315,7 +317,7 @@ class KeyedAes(SingleRounds, AnyCcm, KeyWrap, Keyed):
         n, k = unknown("n"), unknown("k")
         key, none = self.schedule(), self.no_key()
         blocks, input_, output = unused_buffer("blocks"), unused_buffer("input", False), unused_buffer("output")
-        cbc = self.stays("cbc", [self.domain.fresh("previous byte %d" % i, DATA) for i in range(16)])
+        cbc = self.stays("cbc", self.any_bytes("previous"))
         sizes = facts_of_range(n, 0, self.highest) | facts_of_range(k, 0, self.highest)
         for direction in ("encrypt", "decrypt"):
             name = "aes_%s_blocks" % direction

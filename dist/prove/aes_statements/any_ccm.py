@@ -8,8 +8,9 @@ from collections import namedtuple
 from aes_statements.cmac_ccm import NONCES, CmacCcm
 from loops.joints import Part, is_empty_or_not
 from loops.linear import WORD, unknown
+from machines.operands import NEVER, CounterWord
 from statements.calls import Call, Stream
-from statements.keyed import ANY_COUNT, BATCH, DONE, NEVER, PTRDIFF_MAX, REFUSED, CounterWord, facts_of_range
+from statements.keyed import ANY_COUNT, BATCH, DONE, PTRDIFF_MAX, REFUSED, facts_of_range
 from statements.standards import ZEROS
 from statements.steps import NO_STEP, PHASE_BEGINNINGS
 from symbols.bits import DATA, KEY
@@ -90,9 +91,9 @@ class AnyCcm(CmacCcm):
 
     def any_message(self, sizes):
         """Gives a message with these lengths."""
-        first, middle, last, tag = (self.fresh_block(name) for name in (
+        first, middle, last, tag = (self.any_bytes(name, KEY | DATA) for name in (
             "first value", "value after additional data", "last value", "tag value"))
-        cells = self.fresh_block("additional data", True)
+        cells = self.any_bytes("additional data", DATA, True)
         # The bytes of additional data are counted from the beginning of the block that has the first ones.
         after = lambda count: self.pattern(cells[count:], -1) + self.pattern(cells[:count])
 
@@ -148,10 +149,6 @@ class AnyCcm(CmacCcm):
             nonce = m.known(sizes.nonce)
             return AGAIN if m.steps_found else ("place", [14 - nonce, *self.nonce[:nonce], *[0] * (15 - nonce)], any_iv)
         return step
-
-    def fresh_block(self, name, *of_block):
-        depends = KEY * (not of_block) | DATA
-        return self.made_once(name, lambda: [self.domain.fresh("%s, byte %d" % (name, i), depends, *of_block) for i in range(16)])
 
 
 def one_of(nonce, additional, rest, tag, encoded=2):

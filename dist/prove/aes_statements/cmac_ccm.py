@@ -25,12 +25,8 @@ class CmacCcm:
 
     def __init__(self, program, key_size):
         super().__init__(program, key_size)
-
-        def block(name, depends, *of_block):
-            return [self.domain.fresh("%s byte %d" % (name, i), depends, *of_block) for i in range(16)]
-
-        self.sealed, self.tag = block("encrypted", DATA, True), block("tag", DATA)
-        self.nonce, self.last_sum = block("nonce", PUBLIC), block("last sum", KEY | DATA)
+        self.sealed, self.tag = self.fresh("encrypted", DATA, True), self.fresh("tag")
+        self.nonce, self.last_sum = self.fresh("nonce", PUBLIC), self.fresh("last sum", KEY | DATA)
 
     # Chains.
     def filled_blocks(self, begin, count):

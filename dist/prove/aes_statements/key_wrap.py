@@ -64,16 +64,13 @@ class KeyWrap:
     def semiblocks(self):
         """Gives the Semiblocks of all calls."""
         a, r = self.block_bytes[:8], self.block_bytes[8:]
-        made = self.semiblock("semiblock", True)
-        return Semiblocks(a, r, self.pattern(r, -1), self.pattern(made), [self.semiblock("turn %d" % k) for k in range(1, 7)])
+        made, turns = self.any_bytes("semiblock", DATA, True, 8), [self.any_bytes("turn %d" % k, DATA, False, 8) for k in range(1, 7)]
+        return Semiblocks(a, r, self.pattern(r, -1), self.pattern(made), turns)
 
-    def semiblock(self, name, *of_block):
-        return self.made_once(name, lambda: [self.domain.fresh("%s, byte %d" % (name, i), DATA, *of_block) for i in range(8)])
-
-    def any_turns(self, wraps, count, first, last, alone, start=0):
+    def any_turns(self, wraps, count, first, last, alone, start=0, undoes=True):
         """Gives the steps of W, or of its inverse, which begins with A ^ [6n]. They begin in phase `start`, when the semiblocks are in the
         output. `first` and `last` are A before and after all steps. With one semiblock there is one step, which has no number and begins
-        with `alone` (6.3)."""
+        with `alone` (6.3). After the inverse the output becomes zeros, if `undoes` only if the call is refused."""
         a, r, before, after, turns = self.semiblocks()
         way = "encrypt" if wraps else "decrypt"
 
@@ -88,7 +85,7 @@ class KeyWrap:
             if turn > final or not m.is_below(i, n + 2) or m.is_below(i, n) is None:
                 return "nothing", (), ()
             if i == n + (n != 1):
-                return "whole", "output", (before, after) if turn < final else (after,) if wraps else (after, [0] * 8, True)
+                return "whole", "output", (before, after) if turn < final else (after,) if wraps else (after, [0] * 8, undoes)
             if i == n:
                 added = ZEROS[:8] if wraps else number(n * turn + n)
                 done_a = m.known_bytes(last) if turn == final else turns[turn]
@@ -115,13 +112,16 @@ class KeyWrap:
         return self.any_unwrapping("aes_unwrap", last, self.aes.xor(last, ICV1), {n - 2, (1 << 54) - 1 - n})
 
     def any_unwrapping(self, name, last, reveals, facts, *more, **refused):
+        """States unwrapping. If `reveals` is None, it is refused."""
         n, parts = unknown("n"), self.semiblocks()
         key = parts.after_turn
         before = self.aes.xor(parts.a, self.highest_first(n * 6, 8))
         input_ = Stream("input", n * 8, parts.before_turn, head=(self.pattern(before, -1), None), backwards=True)
         output = Stream("output", n * 8, self.undefined(8), key, backwards=True)
-        return Call(name, [self.schedule(), input_, n + 1, output, n, *more], DONE, plain=self.in_all_blocks(key), facts=facts,
-                    reveals=reveals, steps=self.any_turns(False, n, parts.a, last, before), refused=REFUSED, **refused)
+        undoes = reveals is not None
+        return Call(name, [self.schedule(), input_, n + 1, output, n, *more], DONE if undoes else REFUSED, plain=self.in_all_blocks(key),
+                    facts=facts, reveals=reveals, steps=self.any_turns(False, n, parts.a, last, before, undoes=undoes), refused=REFUSED,
+                    **refused)
 
     def any_wrap_padded(self, rest):
         """States key wrap of 16 k + `rest` bytes, since the code fills up two semiblocks at once. `rest` is from 1 to 16."""
@@ -135,14 +135,16 @@ class KeyWrap:
         return self.any_wrapping("aes_wrap_padded", Stream("input", length, key), length, n, ICV2 + self.highest_first(length, 4),
                                  {k, (1 << 32) - 1 - length}, 1, after=[key, last[:8]], choose=choose)
 
-    def any_unwrap_padded(self, rest):
-        """States unwrapping of keys of 8 n - 8 + `rest` bytes. `rest` is from 1 to 8."""
+    def any_unwrap_padded(self, rest, more=0):
+        """States unwrapping of keys of 8 n - 8 + `rest` bytes, where `rest` is from 1 to 8. With `more` the wrapped key says that there are
+        so many more, and is refused."""
         n, parts = unknown("n"), self.semiblocks()
-        length, none = n * 8 - 8 + rest, [0] * self.address
+        length, none = n * 8 - 8 + rest + more, [0] * self.address
         start = parts.a_after_turns[-1][:4] + self.highest_first(length, 4)
-        return self.any_unwrapping(
-            "aes_unwrap_padded", start, self.aes.xor(start[:4], ICV2) + parts.after_turn[rest:], {n - 1, (1 << 32) - 1 - length},
-            self.length_of_key(start[:3:-1] + [0] * 4), refused_after={"key_length": none})
+        reveals = None if more else self.aes.xor(start[:4], ICV2) + parts.after_turn[rest:]
+        facts = {n - 1, length, (1 << 32) - 1 - length, (1 << 32) - 1 - length + more}
+        return self.any_unwrapping("aes_unwrap_padded", start, reveals, facts, self.length_of_key(
+            none if more else start[:3:-1] + [0] * 4), refused_after={"key_length": none})
 
     def wrap_padded(self, length):
         """Key wrap with padding (KWP, SP 800-38F, 6.3; RFC 5649) .. The wrapped key has one semiblock more than the key fills:
@@ -192,13 +194,15 @@ class KeyWrap:
 
     def unwrap_padded_refused(self, n, every):
         """States the unwrapping of padded keys of n semiblocks whose length is wrong. One of its three higher bytes has any value. Or the
-        length is one more, one less, 2^k or 2^k - 1: each `every`-th k is tried. The same instructions run whether the length is wrong or
-        something else."""
+        length is one more, one less, 2^k or 2^k - 1: each `every`-th k is tried. If that is each k, the lowest byte has each value too. The
+        same instructions run whether the length is wrong or something else."""
         paths, powers = {}, [1 << k for k in range(0, 33, every)]
+        lowest = range(256 * (every == 1))
         yield self.unwrap_padded(8 * n - 3, paths=paths)
         for any_byte in range(3):
             yield self.unwrap_padded(8 * n - 3, paths=paths, any_byte=any_byte)
-        for wrong_length in {8 * n - 8, 8 * n + 1, *powers[:-1], *(power - 1 for power in powers)}.difference(range(8 * n - 7, 8 * n + 1)):
+        wrong = {8 * n - 8, 8 * n + 1, *lowest, *powers[:-1], *(power - 1 for power in powers)}
+        for wrong_length in wrong.difference(range(8 * n - 7, 8 * n + 1)):
             yield self.unwrap_padded(8 * n - 3, wrong_length, paths)
 
     # Calls that are refused, for all their arguments.

@@ -12,7 +12,7 @@ class SingleRounds:
         InvSubBytes, InvShiftRows, InvMixColumns, AddRoundKey (5.3.5). With _par: The same of each of eight blocks, with the round key at
         the same place."""
         count = 8 if way == "_par" else 1
-        key = self.made_once("a round key", lambda: [self.domain.fresh("round key byte %d" % i, KEY, True) for i in range(16)])
+        key = self.any_bytes("round key", KEY, True)
         one = self.made_once(direction, lambda: getattr(self.aes, direction)(self.block_bytes, key))
         blocks, keys, want = ([x for b in range(count) for x in self.in_block(bytes_, b)] for bytes_ in (self.block_bytes, key, one))
         return Call("aes_" + direction + way, [Buffer("blocks", blocks, want), Buffer("round keys", keys)], None, plain=blocks + want)

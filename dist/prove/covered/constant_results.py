@@ -49,6 +49,7 @@ def find_judged_operands(machine, instruction):
     results = [o for o in results if not isinstance(o, Register) or o.name not in ("xzr", "zero")]
     implicit = [Register(r, machine.word) for r in machine.implicit.get(name, ())]
     chosen = {r for o in results if isinstance(o, Memory) for r in (o.base, o.index)} - {None, machine.stack_pointer}  # where it stores
+    sources += [Register(r, machine.word) for r in machine.also_read.get(name, ())]
     sources, results = sources + implicit + [Register(r, machine.word) for r in sorted(chosen)], implicit or results
     if re.match(machine.cancels, name) and len({*sources}) == 1 or moves_words(machine, name, sources, results):
         return NO_JUDGED_OPERANDS
@@ -85,12 +86,12 @@ class Results(FollowingResults):
     # Each machine describes its instructions with these. How names begin: those of instructions without a result, of those that store, and
     # of those that don't read their first operand. Whole names: those of instructions with two results, of comparisons, of moves, of
     # instructions that give 0 if their operands are the same, and of those that clear all of a vector but the first eight bytes. `implicit`
-    # is {name: registers that the operands don't name}.
+    # is {name: registers that the operands don't name, but that are read and written}, and `also_read` has those that are only read.
     stores = "(?!)"
     two_results = "(?!)"
     compares = "(?!)"
     first_lane = "(?!)"
-    implicit = {}
+    implicit, also_read = {}, {}
 
     def run_noted(self, instruction):
         """Runs an instruction, and notes its result."""

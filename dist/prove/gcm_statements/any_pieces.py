@@ -76,7 +76,7 @@ class AnyPiece:
     def value_before(self):
         """Gives the value of GHASH before the piece."""
         keyed = self.keyed
-        return keyed.made_once("value of additional data", keyed.fresh_value) if self.is_first else keyed.before_piece()[0]
+        return keyed.any_bytes("value of additional data", KEY | DATA) if self.is_first else keyed.before_piece()[0]
 
     # Three phases of GHASH.
     def fill_up(self, m):
@@ -130,7 +130,7 @@ class AnyPiece:
 
 def left_of_block(left):
     """Counts the bytes that a number of bytes leaves of a block."""
-    return left % 16 if isinstance(left, int) else left.divided(16)[1]
+    return divmod(left, 16)[1]
 
 
 def any_left(filled, rest, step):
@@ -142,15 +142,12 @@ class AnyPieces:
     """Has the statements for calls of fotsgure_gcm.h that process a piece of every length."""
 
     def full_block(self):
-        return self.made_once("full block", lambda: [self.domain.fresh("full block byte %d" % i, DATA) for i in range(16)])
+        return self.any_bytes("full block")
 
     def before_piece(self):
         """Gives any value of GHASH, and any part of a block. These bytes belong to no block, so they stay when blocks are numbered
         again."""
-        return self.made_once("before a piece", lambda: (self.fresh_value("value so far"), self.fresh_value("part of a block")))
-
-    def fresh_value(self, name="value of additional data"):
-        return [self.domain.fresh("%s, byte %d" % (name, i), KEY | DATA) for i in range(16)]
+        return self.any_bytes("value so far", KEY | DATA), self.any_bytes("part of a block", KEY | DATA)
 
     def any_before(self, counts):
         """Gives a message before a call: these Counts, any J_0, any value of GHASH, and any part of a block."""
@@ -268,13 +265,14 @@ class AnyPieces:
         before = piece.counts(VERIFYING)
         after = before._replace(text=piece.before + piece.size, phase=VERIFYING)
         stream, more = self.crypted(piece)
-        sealed, block = self.pattern(self.sealed), self.full_block()
+        sealed, block = self.pattern(self.sealed), self.any_bytes("rest of a piece")
         plain = self.aes.xor(sealed, stream)
 
         def rest(m):
             step, count = piece.hash_rest(m), left_of_block(m.known(left))
-            if step[0] == "again" and m.regions["message"].content[REST:REST + count] != block[:count]:
-                return "here", sum(piece.last_bytes(m), []), 2 * block[:count]
+            kept = m.regions["message"].content[REST:]
+            if step[0] == "again" and kept != block:
+                return "here", [*sum(piece.last_bytes(m), []), *kept[count:]], 2 * block[:count] + block[count:]
             return ("again", "text", (sealed, plain, False, filled - 16, filled)) if step[0] == "again" else step
 
         def message(m):

@@ -4,7 +4,8 @@ import itertools
 
 from gcm_statements.gcm_header import (MOST, MOST_ADDITIONAL, MOST_NONCE, NO_KEY, NONCE_LENGTH, NONCES_END, OUT_OF_TURN, SHORT_TAGS,
                                        TAG_LENGTH, TOO_LONG, TURNS, UNEQUAL_LENGTHS)
-from loops.linear import unknown
+from gcm_statements.pre_counter import CARRY, next_pre_counter
+from loops.linear import WORD, unknown
 from statements.calls import Buffer, Call
 from statements.keyed import facts_of_range, unused_buffer, unequal, unused_data
 from statements.standards import number
@@ -95,13 +96,23 @@ class Refusals:
 
     def of_next(self):
         """NONCES_END comes before the others."""
-        last, other = self.keyed.stays("counter", [255] * 12), self.keyed.stays("counter", [*self.keyed.nonce[:11], 254])
-        refusals = [(last, one) for one in self.with_any_key(NONCES_END, [set()])] + [(other, one) for one in self.text_refusals()]
         text = [unused_buffer("additional", False), unknown("additional"), unused_buffer("text"), unknown("text")]
-        for counter, (gcm, status, facts) in refusals:
-            yield Call("gcm_seal_next", [gcm, counter, unused_buffer("nonce"), *text, unused_buffer("tag")], status, facts=facts)
-        for counter, gcm, status in (last, self.key, NONCES_END), (last, self.no_key, NONCES_END), (other, self.no_key, NO_KEY):
-            yield Call("gcm_begin_next", [gcm, unused_buffer("message"), counter, unused_buffer("nonce")], status)
+        last, others = ([255] * 12, None), map(self.counter_to_refuse, (None if self.highest == WORD else 2 ** 96 - 2, CARRY))
+        refusals = [(last, NONCES_END, *self.with_any_key(NONCES_END, [set()]))]
+        refusals += [(other, NO_KEY, *self.text_refusals()) for other in others]
+        for (content, assumes), status_of_begin, *refused in refusals:
+            counter = self.keyed.stays("counter", content)
+            for gcm, status, facts in refused:
+                arguments = [gcm, counter, unused_buffer("nonce"), *text, unused_buffer("tag")]
+                yield Call("gcm_seal_next", arguments, status, facts=facts, assumes=assumes)
+            for gcm in {gcm: None for gcm, status, _ in refused if status == status_of_begin}:
+                yield Call("gcm_begin_next", [gcm, unused_buffer("message"), counter, unused_buffer("nonce")], status_of_begin,
+                           assumes=assumes)
+
+    def counter_to_refuse(self, counter):
+        """Gives the bytes of a counter of nonces that isn't the last one, as next_pre_counter names it, and what the call assumes of it."""
+        first, assumes = next_pre_counter(self.keyed, counter)
+        return first.arguments[0].content, assumes
 
     # Messages in pieces.
     def any_message(self, phase):

@@ -123,10 +123,10 @@ class KeyedHash(Keyed):
         return "hash", functools.partial(self.with_powers, [self.aes.xor(value, blocks[0]), *blocks[1:]]), after
 
     def middle_value(self):
-        return self.made_once("middle value", lambda: [self.domain.fresh("middle hash byte %d" % i, KEY | DATA) for i in range(16)])
+        return self.any_bytes("middle hash", KEY | DATA)
 
     def last_value(self):
-        return self.made_once("last value", lambda: [self.domain.fresh("last hash byte %d" % i, KEY | DATA) for i in range(16)])
+        return self.any_bytes("last hash", KEY | DATA)
 
     def blocks_at_once(self, m, sizes):
         """Counts the blocks that GHASH reads at once."""

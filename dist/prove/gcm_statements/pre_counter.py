@@ -1,15 +1,14 @@
 """Makes J_0, the block that GCM makes of a nonce (SP 800-38D, 7.1, step 2), the blocks that are counted from it, and the keystream."""
 from collections import namedtuple
-from dataclasses import dataclass
 
 from gcm_statements.byte_counts import any_came
 from gcm_statements.gcm_header import MOST, MOST_NONCE
 from gcm_statements.hashing import Hashing, block_of_lengths, in_groups
 from loops.joints import Part
 from loops.linear import unknown
-from machines.operands import Number, Pointer
+from machines.operands import NEVER, CounterWord, Number, Pointer
 from statements.calls import Buffer, Stream
-from statements.keyed import NEVER, PTRDIFF_MAX, CounterWord
+from statements.keyed import PTRDIFF_MAX
 from statements.standards import ZEROS, number, padded
 from symbols.bits import KEY, PUBLIC
 
@@ -19,19 +18,11 @@ ANY_J_0 = CounterWord(OF_ANY_J_0, 1, NEVER, None)
 # A nonce in calls of every length: the arguments, how many phases come before the message, their steps, facts of the arguments, and the
 # parts in which it is processed.
 AnyNonce = namedtuple("AnyNonce", "arguments phases steps facts parts", defaults=[()])
+CARRY = "carry"  # a counter of nonces whose last eight bytes are all 255
 NONCE, EVERY = "length of nonce", "other nonces"
 NONCES = [Part(NONCE, 48, 2, but=12)]
 # In these calls: J_0, Cipher of it, and Cipher of a later block.
 AnyPreCounter = namedtuple("AnyPreCounter", "block cipher stream")
-
-
-@dataclass(frozen=True)
-class CarryTo:
-    """A counter of nonces in which adding 1 carries to one byte, which may be any. Bytes after it are 255, and those before it are 0."""
-    place: int
-
-    def __str__(self):
-        return "carry to byte %d" % self.place
 
 
 class PreCounter:
@@ -85,34 +76,25 @@ def pre_counter_of(keyed, length=12, after_text=False):
 
 
 def next_pre_counter(keyed, counter=None):
-    """Gives J_0 of the next nonce of a counter of nonces, and what the call assumes of the counter. The counter may be a number, a CarryTo,
-    or None: any number whose low half doesn't carry."""
-    d = keyed.domain
-    if isinstance(counter, CarryTo):
-        nonce, after, assumes = carried_to(keyed, counter.place)
-    elif counter is not None:
-        nonce, after = number(counter, 12), number(counter + 1, 12)
-        assumes = None
+    """Gives J_0 of the next nonce of a counter of nonces, and what the call assumes of the counter. It may be a number. With CARRY its last
+    eight bytes are all 255, and the first four are any that aren't. If it is None, the last eight are any that aren't all 255."""
+    if isinstance(counter, int):
+        nonce, after, bytes_, assumed = number(counter, 12), number(counter + 1, 12), number(counter, 12), None
+    elif counter == CARRY:
+        nonce, after = (counted(keyed, Number("nonce high", by), 0, 4) + [0 if by else 255] * 8 for by in (0, 1))
+        bytes_, assumed = keyed.nonce[:4] + [255] * 8, keyed.nonce[:4]
     else:
-        d.bits_of_word["nonce low"] = lambda offset, k: d.bits(keyed.nonce[11 - k]) if offset == 0 else None
-        nonce, after = (keyed.nonce[:4] + [d.opaque((Pointer("nonce low", n), k)) for k in range(8)][::-1] for n in (0, 1))
-        assumes = [d.xor_byte(b, 255) for b in keyed.nonce[4:]]
-    bytes_ = keyed.nonce if counter is None else nonce
-    return PreCounter(keyed, bytes_, [Buffer("counter", nonce, after), Buffer("nonce", keyed.undefined(12), nonce)]), assumes
+        nonce, after = (keyed.nonce[:4] + counted(keyed, Pointer("nonce low", by), 4, 12) for by in (0, 1))
+        bytes_, assumed = keyed.nonce, keyed.nonce[4:]
+    first = PreCounter(keyed, bytes_, [Buffer("counter", nonce, after), Buffer("nonce", keyed.undefined(12), nonce)])
+    return first, assumed and [keyed.domain.xor_byte(b, 255) for b in assumed]
 
 
-def carried_to(keyed, place):
-    """Gives a counter of nonces in which adding 1 carries to this byte, and the next counter. Also gives bytes that the call may assume not
-    to be all 0, because the counter isn't the last one."""
+def counted(keyed, word, begin, end):
+    """Gives the bytes of a word of unknown value, which is made of these bytes of the nonce."""
     d = keyed.domain
-    byte = keyed.nonce[place]
-    before = [0] * place
-
-    def of_byte(function):
-        return d.lookup(tuple(map(function, range(256))), d.bits(byte))
-    more, carry = of_byte(lambda x: (x + 1) % 256), of_byte(lambda x: x // 255)
-    after = [*before[1:], *[carry][:place], more] + [0] * (11 - place)
-    return before + [byte] + [255] * (11 - place), after, None if place else [d.xor_byte(byte, 255)]
+    d.bits_of_word[word.base] = lambda offset, k: d.bits(keyed.nonce[end - 1 - k]) if offset == 0 else None
+    return [d.opaque((word, k)) for k in range(end - begin)][::-1]
 
 
 # The last four bytes of J_0 are a number of unknown value, which is one more in each block, modulo 2^32 (inc_32, 6.2).
@@ -123,7 +105,7 @@ def any_streams(keyed):
 
 def count_from_any(keyed):
     """Lets the domain count blocks from any J_0 on, and gives what any_streams gives."""
-    d, before = keyed.domain, any_came(keyed, "text", MOST, 0).number.divided(16)[0]
+    d, before = keyed.domain, divmod(any_came(keyed, "text", MOST, 0).number, 16)[0]
 
     def fresh(name):
         return [d.fresh("%s byte %d" % (name, k), KEY | PUBLIC, True) for k in range(4)]
@@ -145,8 +127,7 @@ def any_nonce(keyed, rest, first=None):
     if rest is None:
         place = "place", first.bytes + number(1, 4), block
         return AnyNonce(first.arguments, 1, lambda m: ("again", (), ()) if m.steps_found else place, set())
-    length, hashed = unknown(NONCE) if rest == EVERY else unknown("k") * 48 + rest, keyed.made_once("hashed nonce", lambda: [
-        keyed.domain.fresh("hashed nonce byte %d" % i, KEY | PUBLIC) for i in range(16)])
+    length, hashed = unknown(NONCE) if rest == EVERY else unknown("k") * 48 + rest, keyed.any_bytes("hashed nonce", KEY | PUBLIC)
 
     def steps(m):
         if m.phase == 0:

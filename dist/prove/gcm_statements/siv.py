@@ -10,9 +10,9 @@ from gcm_statements.hashing import Hashing, KeyedHash, in_groups
 from gcm_statements.whole_messages import ADDITIONAL, BATCH, BLOCK, EVERY_PAIR, GROUP, TEXT, any_sizes, counts_of
 from loops.joints import Part, is_empty_or_not
 from loops.linear import unknown
-from machines.operands import Number
+from machines.operands import NEVER, CounterWord, Number
 from statements.calls import Buffer, Call, Stream, compare
-from statements.keyed import NEVER, CounterWord, facts_of_range, unused_buffer, unequal, unused_data
+from statements.keyed import facts_of_range, unused_buffer, unequal, unused_data
 from statements.standards import ZEROS, dot, mulx_ghash, padded, product
 from symbols.bits import DATA, KEY
 
@@ -52,10 +52,6 @@ class KeyedSiv(KeyedHash):
         self.made_once("message", self.make_message)
         return m
 
-    def fresh(self, name, depends, count=16):
-        """Gives new bytes that may have any value."""
-        return [self.domain.fresh("%s byte %d" % (name, i), depends) for i in range(count)]
-
     def make_message(self):
         """Makes the bytes that a message has: its derived keys, and what is computed from them."""
         d = self.domain
@@ -64,7 +60,7 @@ class KeyedSiv(KeyedHash):
         self.expanded = self.aes.key_expansion(keys[16:])
         for b in sum(self.expanded, []):
             d.name(b, "message round key byte")
-        self.message_w = [self.fresh("message w[%d]" % i, KEY, 4) for i in range(len(self.round_key_words))]
+        self.message_w = [self.fresh("message w[%d]" % i, KEY, count=4) for i in range(len(self.round_key_words))]
         # POLYVAL(H, X_1, ..) is GHASH of blocks whose bytes are reversed (appendix A). This compares a step of both, for all H and X.
         h, x = keys[:16], self.in_block(self.text, 0)
         factor = mulx_ghash(d, h[::-1])
@@ -74,7 +70,7 @@ class KeyedSiv(KeyedHash):
         self.counter = counter = [d.fresh("tag byte %d, as a counter" % i, DATA, True) for i in range(4)]
         d.numbers.update({d.cell_of(b)[0]: (k, counter) for k, b in enumerate(counter)})
         d.bits_of_word["counter of the tag"] = lambda offset, k: d.bits(d.byte_in_block(counter[k], offset + 1))
-        self.own_tag = self.named_bytes(Number("counter of the tag", 0), 4) + self.fresh("tag", DATA)[4:]
+        self.own_tag = self.named_bytes(Number("counter of the tag", 0), 4) + self.fresh("tag")[4:]
         self.byte_15 = d.fresh("byte 15 of the first counter block", DATA)
         self.tag_input = self.fresh("tag input", KEY | DATA)
         self.own_stream = self.aes.cipher(counter + self.own_tag[4:15] + [self.byte_15], self.message_w)
@@ -172,7 +168,7 @@ class KeyedSiv(KeyedHash):
         d, name = self.domain, COUNTER.word
         d.placed[name] = lambda number, k: d.bits(d.byte_in_block(self.counter[k], number))
         d.bits_of_word[name] = lambda offset, k: d.bits(first[k]) if offset == 0 else None
-        first = self.fresh("tag", DATA, 4)
+        first = self.fresh("tag", count=4)
         return [d.opaque((Number(name, 0), k)) for k in range(4)] + self.own_tag[4:]
 
     def hashed(self, block):

@@ -7,7 +7,6 @@ from loops.linear import terms, unknown
 from statements.calls import Buffer, Call, Stream
 from statements.keyed import PTRDIFF_MAX
 from statements.standards import ZEROS, padded
-from symbols.bits import DATA
 
 ADDITIONAL, TEXT = "length of additional data", "length of text"
 EVERY_PAIR = Sizes(unknown(ADDITIONAL), unknown(TEXT))
@@ -74,8 +73,8 @@ class WholeMessages:
     def any_seal(self, additional, text, way="", nonce=None):
         return self.seal_any(any_sizes(additional, text), any_nonce(self, nonce), "gcm_seal", way)
 
-    def any_seal_next(self, additional, text):
-        return self.seal_any_next(any_sizes(additional, text))
+    def any_seal_next(self, additional, text, counter=None):
+        return self.seal_any_next(any_sizes(additional, text), counter)
 
     def any_open(self, additional, text, way="", nonce=None):
         return self.open_any(any_sizes(additional, text), any_nonce(self, nonce), way)
@@ -84,14 +83,14 @@ class WholeMessages:
     def every_seal(self, way="", nonce=None):
         return self.seal_any(EVERY_PAIR, any_nonce(self, nonce), "gcm_seal", way, SEALING)
 
-    def every_seal_next(self):
-        return self.seal_any_next(EVERY_PAIR, SEALING)
+    def every_seal_next(self, counter=None):
+        return self.seal_any_next(EVERY_PAIR, counter, SEALING)
 
     def every_open(self, way="", nonce=None):
         return self.open_any(EVERY_PAIR, any_nonce(self, nonce), way, OPENING)
 
-    def seal_any_next(self, sizes, parts=()):
-        first, assumes = next_pre_counter(self)
+    def seal_any_next(self, sizes, counter, parts=()):
+        first, assumes = next_pre_counter(self, counter)
         return self.seal_any(sizes, any_nonce(self, None, first), "gcm_seal_next", "", parts, assumes=assumes)
 
     def seal_any(self, sizes, nonce, name, way, parts=(), **more):
@@ -106,11 +105,11 @@ class WholeMessages:
     def open_any(self, sizes, nonce, way, parts=()):
         _, stream, sealed = self.any_whole()
         text = self.aes.xor(sealed, stream)
-        tag = self.made_once("any tag", lambda: [self.domain.fresh("tag byte %d" % i, DATA) for i in range(16)])
+        tag = self.any_bytes("tag")
         texts = [*self.streams_of(way, "text", sizes.text, sizes.text, sealed, text), Buffer("tag", tag), 16]
 
         def steps(m, phase):
-            return ("refused", "output", (sealed, ZEROS, True)) if way and phase == 2 else self.any_hash(m, phase, sizes)
+            return ("refused", "output", (self.undefined(16), ZEROS, True)) if way and phase == 2 else self.any_hash(m, phase, sizes)
         return self.call_of_any_message("gcm_open" + way, sizes, nonce, stream, texts, steps, text, parts,
                                         reveals=lambda m: self.aes.xor(tag, self.any_tag(m, sizes)), refused=REFUSED)
 

@@ -36,6 +36,8 @@ def refuse_lines(path, machine):
             if ".note.gnu.property" in before and not line.startswith("\t.p2align\t3"):
                 raise Unproved("%s: a note on branches that isn't aligned to 8 bytes may be passed over" % place)
             before = line
+            if entry and (re.match(r"\t[a-z]", line) or line.startswith("\t.p2align") and held not in (0, entry)):
+                raise Unproved("%s: instructions or padding among constants that a linker may part" % place)
             section = re.match(r'\t\.section\t[^,]*(?:,"aM",@progbits,(\d+))?', line)
             if section or re.match(NAME + ":", line):
                 if entry and held not in (0, entry):

@@ -6,9 +6,10 @@ import os
 
 from linked.builds import BUILDS, MACHINES, is_windows, library_of, narrow_word, source, suffix_of
 from linked.elf import SYMBOLS, Comparison, Elf, exports_of
+from linked.layout import MOVED_BY, WINDOWS_SCRIPT, compare_links, parted_constants, reversed_script
 from linked.program import Program
 from linked.refusals import fault_of, refuse_instructions, refuse_names, refuse_names_of_windows, refuse_plain, refuse_sections
-from linked.tools import run
+from linked.tools import run, write
 from machines.x86_64 import Windows
 from symbols.bits import Unproved
 
@@ -108,6 +109,7 @@ def program_of(build, path, out):
     if not is_windows(build):
         refuse_sections(path)
     program = link(out, BUILDS[build], [path], suffix_of(build))
+    compare_links(program, link(out + ".moved", BUILDS[build], [path], suffix_of(build), MOVED_BY))
     program.narrow, program.build = narrow_word(build), build
     refuse_instructions(program, suffix_of(build))
     return program
@@ -131,37 +133,30 @@ def assemble(build, path, out):
     return program_of(build, out + ".o", out)
 
 
-def link(out, machine, objects, suffix=""):
+def link(out, machine, objects, suffix="", moved_by=0):
     """Links objects, at addresses of more than 32 bits if the machine has them, and gives the Program. libc's three functions are only
-    names there: the proof uses their contracts."""
+    names there: the proof uses their contracts. `moved_by`: how much higher the addresses are."""
     # (The option keeps gcc from making a call of memset out of the loop in the host's memset.)
     host = out + ".host.o"
-    run(*machine.compiler, "-O2", "-fno-tree-loop-distribute-patterns", "-c", PROVE_FOLDER + "/host.c", "-o", host)
+    run(*machine.compiler, "-O2", "-fno-tree-loop-distribute-patterns", "-fno-asynchronous-unwind-tables", "-fno-ident",
+        "-DODD=%d" % (3 if moved_by else 1), "-c", PROVE_FOLDER + "/host.c", "-o", host)
     if machine is Windows:
-        link_for_windows(out, machine, [host, *objects])
+        link_for_windows(out, machine, [host, *objects], moved_by)
         return Program(out, machine, suffix)
-    run(*machine.linker, "-static", "-e", "start", "--build-id=none", "-z", "noexecstack", "-Ttext-segment=0x%x" % machine.start,
-        host, *objects, "-o", out)
+    write(out + ".ld", reversed_script(machine, objects, moved_by > 0))
+    run(*machine.linker, "-static", "-e", "start", "--build-id=none", "-z", "noexecstack", "-T", out + ".ld",
+        "-Ttext-segment=0x%x" % (machine.start + moved_by), host, parted_constants(machine, objects, out + ".parted", moved_by), *objects,
+        "-o", out)
     return Program(out, machine, suffix)
 
 
-# Windows' linker needs room between sections. Tables for unwinding are left out.
-WINDOWS_LAYOUT = """SECTIONS {
-    . = 0x123456701000; .text : { *(.text*) }
-    . = ALIGN(4096); .rdata : { *(.rdata*) }
-    . = ALIGN(4096); .data : { *(.data*) }
-    . = ALIGN(4096); .bss : { *(.bss*) *(COMMON) }
-    /DISCARD/ : { *(.pdata*) *(.xdata*) }
-}"""
-
-
-def link_for_windows(out, machine, objects):
+def link_for_windows(out, machine, objects, moved_by):
     """Links objects with Windows' linker, at addresses of more than 32 bits, and turns the result into an ELF file. (The function that
     touches the stack does nothing here.)"""
-    with open(out + ".ld", "w") as file:
-        file.write(WINDOWS_LAYOUT)
-    run(*machine.linker, "-e", "start", "--image-base", "0x123456700000", "--defsym", "___chkstk_ms=start", "-T", out + ".ld",
-        *objects, "-o", out + ".exe")
+    base = machine.start + moved_by
+    write(out + ".ld", WINDOWS_SCRIPT % (base + 4096, "0x5a" if moved_by else "0xa5"))
+    run(*machine.linker, "-e", "start", "--image-base", hex(base), "--defsym", "___chkstk_ms=start", "-T", out + ".ld", *objects,
+        "-o", out + ".exe")
     run("objcopy", "-I", "pei-x86-64", "-O", "elf64-x86-64", out + ".exe", out)
 
 

@@ -25,6 +25,7 @@ class Program:
         self.exports = {name.removesuffix(suffix): self.symbols[name] for _, kind, name in symbols
                         if kind in "Tt" and name.startswith("fotsgure_") and name.endswith(suffix)}
         self.constants, self.addresses = self.constant_sections()
+        self.distances = set()  # the addresses of bytes of constants that depend on where code lies (layout.py)
 
     def tool(self, name, *options):
         """Gives what a tool of binutils prints of the file."""

@@ -8,3 +8,9 @@ def run(*command, **more):
     if result.returncode:
         raise SystemExit("%s: %s" % (" ".join(command), result.stderr.strip()))
     return result.stdout
+
+
+def write(path, text):
+    """Writes a file."""
+    with open(path, "w") as file:
+        file.write(text)

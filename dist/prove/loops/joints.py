@@ -339,6 +339,7 @@ def weaken(state, m, want):
             state.origins[place] = KEY if on & kept & KEY else KEY | DATA
     secret = state.asked_of_secrets()
     state.answers = {flag: answer for flag, answer in state.answers.items() if flag in secret or m.answers.get(flag) == answer}
+    state.stale_answers |= m.stale_answers
     state.note_buffers(m)
 
 

@@ -161,8 +161,7 @@ def move_on(m, blocks):
             return d.moved(b, -blocks)
         except Unproved:
             return m.any_byte()
-    m.forget_differences()
-    m.forget_answers()
+    m.forget_questions()
     m.each_byte(moved)
     m.first_block += blocks
     m.origins = {(c, block and block - blocks): on for (c, block), on in m.origins.items() if not block or block > blocks}
@@ -246,8 +245,7 @@ def general_state(known, key, visit, now, wrong=frozenset()):
     g.first_block = first.first_block + passes * blocks
     g.origins = {(c, b): on for (c, block), on in (*second.origins.items(), *first.origins.items())  # also of blocks of earlier passes
                  for b in (range(block, 0, -blocks) if block and blocks else [block])}
-    g.forget_differences()
-    g.forget_answers()
+    g.forget_questions()
     g.steps_found = generalized(first.steps_found, second.steps_found, passes, g.highest)
     general_registers(g, first, second, passes, wrong)
     general_regions(g, first, second, passes)
@@ -335,7 +333,7 @@ def differences_from(m, want):
     wrong = [r for r, v in want.general.items() if not same(want.to_bytes(v, m.word), m.to_bytes(m.general[r], m.word))]
     wrong += ["vector register %d" % n for n, (v, w) in enumerate(zip(want.vectors, m.vectors)) if not same(v, w)]
     wrong += [name for name, r in want.regions.items() if differs(name, r, m.regions[name])]
-    equal = "first_block", "domain", "registers_at_entry", "steps_found", "phase", "next_address", "counter"
+    equal = "first_block", "domain", "registers_at_entry", "steps_found", "phase", "next_address", "counter", "shadow_stack"
     wrong += [what for what in equal if getattr(want, what) != getattr(m, what)]
     agrees = {
         "a fact": all(m.implied(f) for f in want.facts),
@@ -344,7 +342,7 @@ def differences_from(m, want):
         "the buffers that it wrote to": m.ever_written.keys() <= want.ever_written.keys(),
         # (What depends on the key alone may be left nowhere, and what depends on the key and on data in fewer places than data.)
         "origins": all(want.origins.get(place) in (on, KEY if on & KEY else KEY | DATA) for place, on in m.origins.items()),
-        "answers": want.answers.items() <= m.answers.items(),
+        "answers": want.answers.items() <= m.answers.items() and want.stale_answers >= m.stale_answers,
         "what was asked of secrets": m.asked_of_secrets() == want.asked_of_secrets()}
     return wrong + [what for what, right in agrees.items() if not right]
 

@@ -42,7 +42,7 @@ class Linear(namedtuple("Linear", "terms constant")):
     def __rsub__(self, other):
         return -self + other
 
-    def divided(self, k):
+    def __divmod__(self, k):
         """Gives the quotient by a constant, and the remainder. Fails if the remainder isn't known."""
         if any(c % k for _, c in self.terms):
             refuse()
@@ -56,7 +56,7 @@ class Linear(namedtuple("Linear", "terms constant")):
             byte = domain.fresh("byte %d of %s" % (k, self), PUBLIC)
             domain.number_of_cell[domain.cell_of(byte)[0]] = self, k
             return tuple(bit if 8 * k + j < domain.sizes.get(self, 64) else 0 for j, bit in enumerate(domain.bits(byte)))
-        known, (rest, low) = power.bit_length() - 1, self.divided(power)
+        known, (rest, low) = power.bit_length() - 1, divmod(self, power)
 
         def bit(j):
             return low >> j & 1 if j < known else domain.bits(domain.opaque((rest, (j - known) // 8)))[(j - known) % 8]
@@ -65,7 +65,7 @@ class Linear(namedtuple("Linear", "terms constant")):
     def __str__(self):
         return " + ".join(["%d %s" % (c, name) for name, c in self.terms] + [str(self.constant)])
 
-    __radd__, __rmul__, __divmod__ = __add__, __mul__, divided
+    __radd__, __rmul__ = __add__, __mul__
     __lt__ = __gt__ = __le__ = __ge__ = __mod__ = __and__ = __rand__ = __floordiv__ = __rshift__ = __len__ = refuse
 
 

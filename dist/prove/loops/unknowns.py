@@ -1,7 +1,7 @@
 """Tracks what is known of the unknown numbers (linear.py) of a machine. A fact is a number that is 0 or more."""
-from loops.linear import Linear, implied, refuted, replaced, step_of, terms, tightened, unknown
-from machines.operands import (Content, Distance, Negated, Number, Placed, Pointer, Question, Scaled, Shifted, Verdict, concatenated,
-                               constant, is_int, is_pointer, lanes)
+from loops.linear import Linear, implied, names_in, refuted, replaced, step_of, terms, tightened, unknown
+from machines.operands import (SECRET, Content, Distance, Negated, Number, Placed, Pointer, Question, Scaled, Shifted, Verdict,
+                               concatenated, constant, is_int, is_pointer, lanes)
 from machines.regions import Window
 from symbols.bits import LOST, Unproved
 
@@ -51,10 +51,18 @@ class Unknowns:
     def quotient(self, x, by):
         """Gives the quotient of a number by a power of two. If it can't be written in the same unknowns, it is a new unknown."""
         if all(k % by == 0 for _, k in x.terms):
-            return x.divided(by)[0]
-        q = unknown("(%s) / %d" % (x, by))
-        self.facts |= {x - q * by, q * by + by - 1 - x}
-        return q
+            return divmod(x, by)[0]
+        return self.defined("(%s) / %d" % (x, by), lambda q: {x - q * by, q * by + by - 1 - x})
+
+    def defined(self, name, facts):
+        """Gives an unknown with this name, of which `facts` gives what is known. If that doesn't follow from what is known of the name, it
+        gets another one: the numbers in it may have meant something else before."""
+        number = unknown(name)
+        while name in names_in(self.facts) and not all(map(self.implied, facts(number))):
+            name += "'"
+            number = unknown(name)
+        self.facts |= facts(number)
+        return number
 
     def high_product(self, x, y):
         """Gives the higher 64 bits of a product."""
@@ -66,7 +74,7 @@ class Unknowns:
         """Gives the result of a division by a constant d that the code does by a product. d * factor has to be from 2^(64 + count) to
         2^(64 + count) + 2^count. Then x * factor / 2^(64 + count) is at least x / d, and more by less than 1 / d, for x below 2^64. So both
         have the same whole part."""
-        x, factor = scaled
+        x, factor, _ = scaled
         by = -(-(1 << 64 + count) // factor)
         if by * factor > (1 << 64 + count) + (1 << count):
             raise Unproved("a product that isn't a division")
@@ -250,7 +258,7 @@ class Unknowns:
         alike = a and b and (a.backwards, a.skip) == (b.backwards, b.skip)
         if not (alike and a.size == b.size == count and a.writable and not b.writable and a.is_untouched()):
             raise Unproved("a copy of an unknown number of bytes, and not of a whole buffer")
-        a.initial, a.origin, a.end, a.content, a.copied = b.initial, 0, a.size, [], True
+        a.initial, a.origin, a.end, a.content, a.copied, a.turn = b.initial, 0, a.size, [], True, a.turn + 1
 
     def fill(self, to, value, count):
         """Fills the first `count` bytes of a buffer that nothing accessed. They have to become what they should be."""
@@ -271,7 +279,8 @@ class Unknowns:
         """Whether a flag says that two buffers overlap. The header excludes that if one is written to. The flag says that the first buffer,
         or its part from an offset on, begins in the first y bytes of the second one."""
         a, b = (self.regions.get(name) for name in (x.base, x.other))
-        if not (isinstance(a, Window) and isinstance(b, Window) and a.writable | b.writable and what == "below" and is_int(x.offset)):
+        if not (isinstance(a, Window) and isinstance(b, Window) and a.writable | b.writable and what == "below" and is_int(x.offset)
+                and self.fits(y)):
             return False
         ends = max(x.offset, 0) - a.whole, max(-x.offset, 0) + y - b.whole - 1
         return all(refuted(self.facts | {y - 1, end}) for end in ends)
@@ -280,11 +289,19 @@ class Unknowns:
         """Whether in this run one buffer begins within another, whose size is known. Such runs are proved, although the header excludes
         them if one of the two is written to."""
         below = [flag[:2] for flag, answer in self.answers.items() if answer and isinstance(flag[0], Distance) and flag[2] == "below"]
-        return any(x.offset == 0 and is_int(y) and y <= len(self.regions[x.other].content) for x, y in below)
+        is_written = lambda x: any(self.regions[name].writable for name in (x.base, x.other))
+        has_bytes = lambda r: self.implied(r.whole - 1) if isinstance(r, Window) else r.content  # (an empty buffer overlaps nothing)
+        return any(x.offset == 0 and is_int(y) and y <= len(self.regions[x.other].content) and is_written(x)
+                   and has_bytes(self.regions[x.base]) for x, y in below)
 
     def any_byte(self):
         """Gives a byte of which nothing is known. It may depend on the key."""
         return self.secret.lose(self.domain.opaque(LOST))
+
+    def has_no_value(self, bytes_):
+        """Whether some of these bytes were written by nobody, or nothing is known of them. Such bytes may differ though they have the same
+        number."""
+        return not {self.domain.undefined, self.any_byte()}.isdisjoint(bytes_)
 
     def next_phase(self):
         """Begins another phase. Blocks that are done are dropped."""
@@ -294,9 +311,11 @@ class Unknowns:
 
     def begin_again(self, name=None, *new):
         """Begins another phase. What is left of blocks is forgotten, and they are numbered again. The buffer `name` begins again as `new`
-        says. Other buffers of the same cells can't be read any more."""
+        says. Other buffers of the same cells can't be read any more. What the call reveals may not have been asked before, unless it is
+        refused: the same bytes may stand for others now."""
+        if self.asked_of_secrets() and not self.was_refused():
+            raise Unproved("asks something of blocks before they get other numbers")
         self.next_phase()
-        self.forget_differences()
         cells = {c for b in new[0] for c in self.domain.cells(b)} if name else set()
         for window in (r for r in self.regions.values() if isinstance(r, Window)):
             if not all(cells.isdisjoint(self.domain.cells(b)) for b in window.initial):
@@ -307,7 +326,7 @@ class Unknowns:
 
     def forget_blocks(self, first):
         """Counts blocks from this one on. What is left of earlier ones in a register becomes arbitrary bits. The code may use these."""
-        self.forget_answers()
+        self.forget_questions()
         self.times_forgotten += 1  # so that these bits aren't those of the last time
         d, times = self.domain, self.times_forgotten
         for r, v in self.general.items():
@@ -316,27 +335,30 @@ class Unknowns:
         self.each_byte(lambda b: self.any_byte() if d.blocks(b) else b)
         self.first_block, self.origins = first, {place: on for place, on in self.origins.items() if not place[1]}
 
-    def forget_answers(self):
-        """Forgets answers and flags about public bytes of blocks, because the blocks get other numbers."""
-        d = self.domain
+    def forget_questions(self):
+        """Forgets whether bytes of blocks are zero, and flags and answers that say so, because the blocks get other numbers. What was asked
+        of secret bytes is kept, but can't be asked again."""
+        d, of_blocks = self.domain, lambda bytes_: any(map(self.says_of_blocks, bytes_))
 
-        def of_blocks(flag):
+        def is_of_blocks(flag):
             flag = flag[1] if isinstance(flag, tuple) and flag[0] == "not" else flag
             if not isinstance(flag, tuple):
                 return False
-            if flag[0] == "bit":
-                return any(block for block, _ in d.parts(flag[1]))
-            return flag[0] == "zero" and self.is_public(flag[1:]) and any(map(d.blocks, flag[1:]))
-        self.answers = {flag: answer for flag, answer in self.answers.items() if not of_blocks(flag)}
-        self.flags = {name: None if of_blocks(flag) else flag for name, flag in self.flags.items()}
-
-    def forget_differences(self):
-        """Forgets whether bytes of blocks are zero, because the blocks get other numbers."""
-        of_blocks = lambda bytes_: any(map(self.domain.blocks, bytes_))
+            return any(block for block, _ in d.parts(flag[1])) if flag[0] == "bit" else flag[0] == "zero" and of_blocks(flag[1:])
+        kept = {flag for flag in self.asked_of_secrets() if of_blocks(flag[1:])}
+        self.stale_answers |= kept
+        self.answers = {flag: answer for flag, answer in self.answers.items() if flag in kept or not is_of_blocks(flag)}
+        self.flags = {name: (SECRET if self.is_secret(flag) else None) if is_of_blocks(flag) else flag for name, flag in self.flags.items()}
         is_lost = lambda v: isinstance(v, Verdict) and of_blocks(v.differences)
-        self.secret.forget(of_blocks)
-        self.each_byte(lambda b: self.any_byte() if is_lost(self.domain.name_of_opaque.get(b, [0])[0]) else b)
         self.general = {r: (self.any_byte(),) * self.word if is_lost(v) else v for r, v in self.general.items()}
+        self.each_byte(lambda b: self.any_byte() if not d.blocks(b) and self.says_of_blocks(b) else b)
+        self.secret.forget(of_blocks)
+
+    def says_of_blocks(self, byte):
+        """Whether a byte depends on blocks, or says whether bytes are 0 that do."""
+        value = self.domain.name_of_opaque.get(byte, [0])[0]
+        about = value.differences if isinstance(value, Verdict) else self.secret.about(byte)
+        return bool(self.domain.blocks(byte)) or any(map(self.says_of_blocks, about))
 
     def each_byte(self, convert, whole=False, stay=frozenset()):
         """Replaces the bytes of registers and memory by those that `convert` gives. With `whole` this includes the stack that wasn't

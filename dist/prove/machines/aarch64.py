@@ -9,7 +9,7 @@ from covered.borders import distances
 from loops.linear import Linear
 from machines.machine import Machine
 from machines.operands import (CODE, RETURN_ADDRESS, SECRET, Instruction, Memory, Pointer, Register, Scaled, Table, Vector, concatenated,
-                               constant, contrary, form, interleaved, is_int, lanes)
+                               constant, contrary, form, in_code, interleaved, is_int, lanes)
 from symbols.bits import LOST, Undefined, Unproved
 
 Shifted = namedtuple("Shifted", "operand how count")
@@ -17,6 +17,7 @@ LANES = {"b": 1, "h": 2, "s": 4, "d": 8, "q": 16}
 X = ["x%d" % n for n in range(31)]
 REGISTERS = {n: Register(n, 8) for n in X + ["sp", "xzr"]}
 REGISTERS.update({"w" + n[1:]: Register(n, 4) for n in X + ["xzr"]})
+LINK = REGISTERS["x30"]
 CONDITIONS = "eq ne cs cc mi pl vs vc hi ls ge lt gt le".split()  # in pairs: the second is the contrary of the first
 WITH_TARGET = "b", "bl", "cbz", "cbnz", "tbz", "tbnz", "adrp"
 
@@ -38,9 +39,10 @@ class Aarch64(Machine):
     landing_mark = r"hint\s#0x22"
     comment = "//"
     jumps = r"b(?:\.\w+)?|cbn?z|tbn?z"
-    conditional, padding = r"b\.|cbn?z|tbn?z|adcs?\s|sbcs?\s|csinc\s.*, c[cs]\b", "nop|udf"
+    trap = "LONG(0) "
+    conditional, padding = r"b\.|cbn?z|tbn?z|adcs?\s|sbcs?\s|csinc\s.*, c[cs]\b", r"hint\s#0x0$|udf"
     sets_flags = "adds|subs|ands|bics|adcs|sbcs|ccmp|ccmn"
-    without_result, stores = r"b$|b\.|bl|br|ret|cb|tb|ccmp|hint|prfm", "st"
+    without_result, stores = r"b$|b\.|blr?$|br$|ret|cbn?z|tbn?z|ccmp|hint|prfm", "st"
     only_writes = "(?!movk|bfm|ins|usra)"
     moves = "ldu?r|stu?r|ldp|stp"
     cancels = "eor|sub"
@@ -52,7 +54,7 @@ class Aarch64(Machine):
         self.general.update(x30=RETURN_ADDRESS, xzr=0)
 
     def leave(self):
-        self.go_to(self.general["x30"])
+        self.go_to(self.target(LINK))
         self.general["x30"] = (self.domain.undefined,) * 8
 
     @staticmethod
@@ -154,15 +156,25 @@ def is_zero(m, a):
     return m.decide(m.flags_of_difference(m.get(a), 0, a.size).get("z"))
 
 
+def marked(m, name, to):
+    """Gives where a jump or a call leads. If it is indirect, that has to be libc's function, or a mark. `bti c` is a mark for calls, and for
+    jumps by x16 and x17."""
+    address = in_code(m.get(to))
+    is_mark = is_int(address) and re.match(m.landing_mark, m.program.lines.get(address, ""))
+    if isinstance(to, Register) and address not in (*m.externals, m.program.symbols["start"]) and not (
+            is_mark and (name == "blr" or to.name in ("x16", "x17"))):
+        raise Unproved("an indirect jump or call arrives where no mark is")
+    return m.target(to)
+
+
 def is_set(m, a, n):
     bit = m.bits(m.get(a), a.size)[n]
     return m.decide(bit if bit < 2 else SECRET)
 
 
 TABLE = Table({
-    "b": lambda m, name, to: m.go_to(to),
-    "br": lambda m, name, to: m.go_to(m.get(to)),
-    "ret": lambda m, name: m.go_to(m.general["x30"]),
+    "br": lambda m, name, to: m.go_to(marked(m, name, to)),
+    "ret": lambda m, name: m.go_to(m.target(LINK)),
     "cbz": lambda m, name, a, to: m.go_to(to if is_zero(m, a) else m.next_address),
     "cbnz": lambda m, name, a, to: m.go_to(m.next_address if is_zero(m, a) else to),
     "tbz": lambda m, name, a, n, to: m.go_to(m.next_address if is_set(m, a, n) else to),
@@ -181,7 +193,15 @@ for _code in CONDITIONS:
 
 @TABLE.of("bl", "blr")
 def call(m, name, to):
-    to, m.general["x30"] = m.get(to), Pointer(CODE, m.next_address)
+    to, m.general["x30"] = marked(m, name, to), Pointer(CODE, m.next_address)
+    branch(m, name, to)
+
+
+@TABLE.of("b")
+def branch(m, name, to):
+    """Jumps. On the way to another function a linker may put code that changes x16 and x17."""
+    if in_code(to) in m.program.function_of:
+        m.general.update((r, tuple(m.after_libc(False, m.to_bytes(m.general[r], 8)))) for r in ("x16", "x17"))
     m.go_to(to)
 
 
@@ -217,7 +237,8 @@ def add(m, name, to, a, b):
         return of_single_bytes(lambda m, a, b: list(map(m.add_byte, a, b)))(m, name, to, a, b)
     x, y = m.get(a), m.get(b)
     if to.name == "xzr" and type(x) is tuple and is_int(y):
-        return m.set_flags(**m.flags_of_difference(x, -y, to.size))  # z is set if x is -y
+        flags = m.flags_of_difference(x, -y, to.size)  # z is set if x is -y
+        return m.set_flags((x,), **flags if y % (1 << 8 * to.size) else {**flags, "c": 0})  # (but a sum with 0 has no carry)
     try:
         r, flags = m.plus(x, y, 0, to.size)
     except Unproved as e:
@@ -225,7 +246,7 @@ def add(m, name, to, a, b):
             raise
         r, flags = m.lost_bytes(to.size), dict.fromkeys("czso", SECRET)
     if name == "adds":
-        m.set_flags(**flags)
+        m.set_flags((x, y), **flags)
         m.distances = distances(x, y, to.size, plus=True)
     m.put(to, r)
 
@@ -235,7 +256,7 @@ def sub(m, name, to, a, b):
     x, y = m.get(a), m.get(b)
     r, flags = (None, m.flags_of_difference(x, y, to.size)) if to.name == "xzr" else m.minus(x, y, to.size)
     if name == "subs":
-        m.set_flags(**flags)
+        m.set_flags((x, y), **flags)
         m.distances = distances(x, y, to.size)
     m.put(to, r)
 
@@ -244,7 +265,7 @@ def sub(m, name, to, a, b):
 def ccmp(m, name, a, b, flags, code):
     if m.chosen(m.condition(code)):
         x, y = m.get(a), m.get(b)
-        m.set_flags(**m.flags_of_difference(x, y, a.size))
+        m.set_flags((x, y), **m.flags_of_difference(x, y, a.size))
         m.distances = distances(x, y, a.size)
     else:
         m.set_flags(s=flags >> 3 & 1, z=flags >> 2 & 1, c=flags >> 1 & 1, o=flags & 1)
@@ -265,7 +286,7 @@ def logic(m, name, to, a, b):
     if not isinstance(to, Vector):
         r = m.logic(LOGIC[name], m.get(a), m.get(b), to.size)
         if name == "ands":
-            m.set_flags(c=0, o=0, **m.zero_and_sign(r, to.size))
+            m.set_flags((r,), c=0, o=0, **m.zero_and_sign(r, to.size))
         m.put(to, r)
     elif name == "orr" and a == b:
         m.write(to, m.read(a))

@@ -1,4 +1,6 @@
 """Reads and writes operands and memory, and refuses accesses that aren't allowed."""
+import re
+
 from loops.linear import Linear, is_number
 from machines.operands import CODE, HEAD, Memory, Number, Pointer, Register, Vector, in_code, is_int, is_pointer
 from machines.regions import Window
@@ -44,7 +46,7 @@ class Access:
     def address(self, o):
         """Gives the address of an access, and moves the base register before it. ARM's `load` and `store` move it after the access."""
         self.move(o.base, o.before)
-        a = o.offset
+        a = o.offset if o.base or o.index else Pointer(CODE, o.offset)
         for name, scale in ((o.base, 1), (o.index, o.scale)):
             if name:
                 v = self.general[name]
@@ -70,8 +72,8 @@ class Access:
                     place, step = ("stack", self.stack_step) if o.base == self.stack_pointer else ("buffer", 1)
                     back = -o.before - o.offset - 16 * o.scale * bool(o.index)
                     self.general[o.base] = Pointer(place, middle + back // step * step)
-            elif isinstance(o, Register) and instruction.name in ("jmp", "call", "blr", "br"):
-                self.general[o.name] = self.program.symbols["start"]
+            elif isinstance(o, Register) and o.name != "zero" and instruction.name in ("jmp", "call", "blr", "br", "jalr"):
+                self.general[o.name] = Pointer(CODE, self.program.symbols["start"])
             elif instruction.name == "sub" and instruction.operands[0] == Register(self.stack_pointer, self.word) != o and isinstance(
                     o, Register):
                 self.general[o.name] = 2 * self.word  # the stack pointer stays aligned
@@ -79,11 +81,11 @@ class Access:
     # Memory.
     def place(self, address, size, write, align=1):
         """Gives the list of bytes that an access means, and the place in it. Refuses an access that isn't allowed."""
-        address = in_code(address)
-        if isinstance(address, int) and not write and address % align == 0:
+        at = in_code(address)
+        if is_int(at) and is_pointer(address) and not write and at % align == 0:  # (a number can be the right address in one link only)
             for start, content in self.program.constants:
-                if start <= address and address + size <= start + len(content):
-                    return content, address - start
+                if start <= at and at + size <= start + len(content):
+                    return content, at - start
         region = self.regions.get(address.base) if is_pointer(address) else None
         if region is None:
             raise Unproved("accesses memory at %s" % (address,))
@@ -136,10 +138,19 @@ class Access:
         if content is self.program.addresses:
             return self.addresses_at(content[o:o + size])
         if not is_pointer(in_code(address)):
+            self.refuse_distance(in_code(address), size)
             self.program.noted.looked_up.add((self.last, in_code(address)))
         if self.stack.stale and content is self.regions["stack"].content and self.stack.is_stale(o, size):
             raise Unproved("reads what may have been overwritten below the stack pointer")
         return list(content[o:o + size])
+
+    def refuse_distance(self, address, size):
+        """Refuses to read a distance in the code, except for a jump by a table."""
+        if not self.program.distances.isdisjoint(range(address, address + size)):
+            second = self.program.next.get(self.last)
+            lines = (self.program.lines.get(a, "") for a in (self.last, second, self.program.next.get(second)))
+            if not re.fullmatch(self.jump_by_table, "; ".join(re.sub(r"\s+", " ", line) for line in lines)):
+                raise Unproved("reads a number that depends on where code lies")
 
     def addresses_at(self, content):
         """Gives an address that the linker put into its table."""

@@ -13,7 +13,7 @@ class Arithmetic:
         if isinstance(value, int):
             return list((value & (1 << 8 * size) - 1).to_bytes(size, "little"))
         named = self.size_of(value)
-        above = self.domain.undefined if isinstance(value, Number) else 0
+        above = self.any_byte() if isinstance(value, Number) else 0
         counter = self.allowed.any_length and isinstance(value, (Pointer, Number)) and self.counter
         if counter and value.base == counter.word and not (  # J_0 has a word of its own
                 value.offset == 0 != counter.first and value.base in self.domain.bits_of_word):
@@ -35,7 +35,7 @@ class Arithmetic:
             named = self.size_of(value)
             if named and len(b) >= named and list(b[:named]) == self.names(value):
                 value = value.value if isinstance(value, Placed) else value
-                if {*b[named:]} <= {self.domain.undefined if isinstance(value, Number) else 0}:  # known bytes above a Number stay bytes
+                if {*b[named:]} <= {self.any_byte() if isinstance(value, Number) else 0}:  # known bytes above a Number stay bytes
                     return value
         return tuple(b)
 
@@ -46,8 +46,8 @@ class Arithmetic:
         return low if isinstance(low, Number) else v
 
     def has_more(self, v, size):
-        """Whether a word has a Number in its lowest bytes, and bytes above that aren't 0 or undefined."""
-        return self.low_number(v) is not v and not {*v[4:size]} <= {0, self.domain.undefined}
+        """Whether a word has a Number in its lowest bytes, and bytes above that aren't 0."""
+        return self.low_number(v) is not v and any(v[4:size])
 
     def bits(self, value, size):
         return [x for b in self.to_bytes(value, size) for x in self.domain.bits(b)]
@@ -104,7 +104,7 @@ class Arithmetic:
             fits = self.allowed.divides and self.implied(full) and self.implied(mask - full)
             return tuple(self.fewest_bytes(full, size) if fits else (self.any_byte() for _ in range(size))), {"c": (mask, full, "below")}
         if isinstance(x, (Distance, Negated)) and is_int(y):
-            return x._replace(offset=x.offset + y), {}
+            return x._replace(offset=wrapped(x.offset + y + carry, self.highest)), {}
         if isinstance(x, Negated) and is_pointer(y) and x.base == y.base and not carry and size == self.word:
             return self.offset(y.offset, x.offset), {}
         if (is_pointer(x) or is_pointer(y)) and size == self.word:
@@ -171,7 +171,7 @@ class Arithmetic:
 
     def is_placed(self, *addresses):
         """Whether each address lies in an object or near it, so that none is 0 and none wraps. Then addresses are ordered as their offsets
-        are. With 64 bits, up to 4,096 bytes before an object are near, and up to 2^47 bytes after its start: no object lies in the first
+        are. With 64 bits, up to 4,095 bytes before an object are near, and up to 2^47 bytes after its start: no object lies in the first
         4,096 bytes of memory, or in its upper half. With 32 bits, an address is in the object or at its end. (A counter isn't placed.)"""
         for a in addresses:
             region = isinstance(a, Pointer) and self.regions.get(a.base)
@@ -180,7 +180,7 @@ class Arithmetic:
             # (An empty buffer may be at 16, which the header passes instead of NULL. So no address before it is near.)
             if not region:
                 return False
-            low, high = (-4096 * bool(region.content), (1 << 47) - 1) if self.word == 8 else (0, len(region.content))
+            low, high = (-4095 * bool(region.content), (1 << 47) - 1) if self.word == 8 else (0, len(region.content))
             if not low <= a.offset <= high:
                 return False
         return True
@@ -209,10 +209,11 @@ class Arithmetic:
         apart = self.implied(self.highest - x + y) and self.implied(self.highest + x - y)  # by less than 2^64
         return self.offset(x, carry - 1 - y), {**flags, **({"z": (x, y, "equal")} if apart and carry else {})}
 
-    @staticmethod
-    def minus_from_distance(x, y):
+    def minus_from_distance(self, x, y):
         """Subtracts a number from a Distance."""
-        return x._replace(offset=x.offset - y), {"c": ("not", (x, y, "below")) if y != 0 else 1, "z": (x, y, "equal")}
+        y = self.ranged(y)
+        flags = {"c": ("not", (x, y, "below")) if y != 0 else 1, "z": (x, y, "equal")}
+        return x._replace(offset=x.offset - y), flags if self.fits(y) else {}
 
     def minus_pointers(self, x, y, size, carry):
         """Subtracts where one value is a Pointer, or both are."""
@@ -241,6 +242,8 @@ class Arithmetic:
             zero = self.zero_flag(x.differences)
             return {"z": zero} if y == x.right else {"z": contrary(zero)} if is_int(y) and y == x.wrong else {}
         if is_int(x_at := in_code(x), y_at := in_code(y)) and is_pointer(x, y):
+            if not self.program.distances.isdisjoint(range(min(x_at, y_at), max(x_at, y_at))):
+                raise Unproved("compares addresses of which the distance depends on where code lies")
             return {"z": int(x_at == y_at)}
         if isinstance(x, Shifted) and y == 0:
             return self.zero_and_sign(x, size)

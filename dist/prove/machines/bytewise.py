@@ -7,6 +7,8 @@ from symbols.bits import Pause, Undefined, Unproved
 class Bytewise:
     def some_of(self, x, y):
         """Makes a byte that is 0 only if both are."""
+        if self.has_no_value((x, y)):
+            return self.any_byte()
         both = sorted({*self.secret.any_of.get(x, [x]), *self.secret.any_of.get(y, [y])})
         b = self.domain.opaque("0 if these are: %s" % both)
         self.secret.any_of[b] = both
@@ -29,7 +31,8 @@ class Bytewise:
 
     def verdict(self, right, differences, size, wrong=None):
         """Makes a value that says whether all these differences are 0: then it is `right`."""
-        value = Verdict(right, tuple(differences), size, wrong)
+        is_one_value = wrong is not None and not self.has_no_value(differences)
+        value = Verdict(right, tuple(differences), size, wrong, 0 if is_one_value else next(self.domain.serials))
         self.secret.lost.update(self.to_bytes(value, size))
         return value
 
@@ -114,7 +117,7 @@ class Bytewise:
             return self.quotient(self.ranged(v), 1 << count)
         if isinstance(v, Linear) and size == 8 and how == "lsr" and self.fits(v):
             return Shifted(v, count)
-        if how == "lsr" and self.allowed.divides and isinstance(part := self.low_part(v, size), Linear):
+        if how == "lsr" and self.allowed.divides and size < self.word and isinstance(part := self.low_part(v, size), Linear):
             return self.from_bytes(self.fewest_bytes(self.quotient(part, 1 << count), size))
         if isinstance(v, Scaled) and how == "lsr":
             return self.quotient_by_product(v, count)
@@ -136,7 +139,7 @@ class Bytewise:
         if key not in shifted:
             value = self.from_bytes(lane)
             out = self.to_bytes(self.shift(how, value, count, width), width)
-            if type(value) is not tuple:
+            if type(value) is not tuple or self.whole(value, width) is not None:
                 return out
             shifted[key] = out
         return shifted[key]

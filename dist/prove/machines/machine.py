@@ -10,6 +10,7 @@ beginning of a line of objdump.
     tools                  how the names of ld, objdump, nm and ar begin
     compiler, linker       gcc and ld, with their options
     start                  the address where the code is linked
+    whole_results          whether a result of 32 bits has a whole register, as a number with a sign
     relaxed                whether the linker makes code shorter, so that a library isn't compared with an object
     strict                 whether an access has to be aligned, so that a struct is
     objdump                the options with which it prints what `decode` reads
@@ -27,6 +28,7 @@ beginning of a line of objdump.
     stack_step             a number that has to divide the stack pointer if it is the base of an access
     landing_mark           a pattern of instructions where an indirect call may arrive, if a processor looks for that
     jumps_to_mark          a pattern of jumps and calls that have to arrive at such an instruction
+    jump_by_table          a pattern of a read of a table of distances, and of the two instructions after it
     jumps, returns         patterns of jumps to an address that are no calls, and of returns from a function
     conditional            a pattern of conditional jumps and of adds with carry
     padding                a pattern of instructions that only fill up space
@@ -35,6 +37,7 @@ beginning of a line of objdump.
     leave()                     goes on at the return address, after libc's function
     condition(code)             gives a condition as 0 or 1, by the flags (see Machine.decide)"""
 import copy
+from collections.abc import Callable
 from dataclasses import dataclass
 
 from covered.borders import Borders
@@ -44,8 +47,8 @@ from loops.unknowns import Unknowns
 from machines.access import Access
 from machines.arithmetic import Arithmetic
 from machines.bytewise import Bytewise
-from machines.operands import (FARTHEST, RETURN_ADDRESS, SECRET, WORD, Distance, Memory, Pointer, Question, Verdict, concatenated, constant,
-                               in_code, is_int, is_pointer)
+from machines.operands import (FARTHEST, RETURN_ADDRESS, SECRET, WORD, Distance, Memory, Number, Pointer, Question, Verdict,
+                               concatenated, constant, in_code, is_int, is_pointer)
 from machines.secret_bytes import SecretBytes
 from machines.stack_use import StackUse
 from symbols.bits import PUBLIC, Pause, Undefined, Unproved
@@ -58,11 +61,11 @@ MOST_NOTED = 16  # bytes that are noted of what a function of libc writes
 
 @dataclass(frozen=True)
 class Allowed:
-    """What the statement of a call allows (calls.Call). `reveals`: a branch may ask whether a key or a tag is right. `assumes`: bytes that
-    aren't all 0. `any_length`: the call may have any length. `divides`: it may also divide numbers whose remainders aren't
-    known."""
+    """What the statement of a call allows (calls.Call). `reveals`: a branch may ask whether a key or a tag is right. assumes(m, flag):
+    whether a flag asks if all bytes are 0 of which it is known that not all are. `any_length`: the call may have any length. `divides`: it
+    may also divide numbers whose remainders aren't known."""
     reveals: bool = False
-    assumes: tuple = ()
+    assumes: Callable = None
     any_length: bool = False
     divides: bool = False
 
@@ -74,7 +77,7 @@ class Machine(Arithmetic, Borders, Unknowns, Bytewise, Results, Access):
     stack_step = 1
     also_called = ()
     landing_mark = ""
-    jumps_to_mark = "(?!)"
+    jumps_to_mark = jump_by_table = "(?!)"
     returns = "ret"
     reserved = ()  # registers that may not change, as a signal's handler or the system may use them at any time
     word = 8
@@ -82,8 +85,10 @@ class Machine(Arithmetic, Borders, Unknowns, Bytewise, Results, Access):
     flag_names = "czso"
     start = 0x123456700000
     strict = False
+    whole_results = False
     relaxed = False
     comment = "#"
+    trap = ""  # puts an instruction that fails between sections of code (layout.py)
     avx512 = b""
 
     def __init__(self, domain, program, regions, entry, arguments):
@@ -102,6 +107,7 @@ class Machine(Arithmetic, Borders, Unknowns, Bytewise, Results, Access):
         self.after_external = None  # the function of libc that has just run, for that processor
         self.allowed, self.counter = Allowed(), None  # see calls.Call
         self.answers = {}  # to questions, {flag: 0 or 1}
+        self.stale_answers = frozenset()  # those about secret bytes of blocks that have got other numbers since
         self.secret = SecretBytes()
         # How many steps of a call were found, in which phase of it, and what the next one looks for (steps.py).
         self.steps_found, self.phase = 0, 0
@@ -118,6 +124,7 @@ class Machine(Arithmetic, Borders, Unknowns, Bytewise, Results, Access):
         self.first_passes = ()  # the states after the first passes of loops from which the run came
         self.times_forgotten = 0  # how often blocks were forgotten
         self.trace = []  # where instructions ran, for calls that share it
+        self.shadow_stack = []  # the return addresses of the calls within this one, as a processor may keep them (x86_64.py)
         # (the stack pointer in a function, the numbers that it was given), for the call and for the last functions
         self.numbers_by_frame = ((0, ()),)
         self.enter(arguments)
@@ -141,12 +148,13 @@ class Machine(Arithmetic, Borders, Unknowns, Bytewise, Results, Access):
         return concatenated(self.to_bytes(word, 8) for word in words)
 
     # Flags.
-    def set_flags(self, **flags):
-        """Sets flags. Those that aren't named become undefined. If one depends on a secret, they may too."""
-        all_named = len(flags) == len(self.flag_names)
-        secret = not all_named and any(map(self.is_secret, (*self.flags.values(), *flags.values())))
+    def set_flags(self, operands=(), **flags):
+        """Sets flags. Those that aren't named become undefined. If an operand or a flag depends on a secret, they may too."""
+        all_named = len(flags) == len(self.flag_names) and None not in flags.values()
+        secret = not all_named and not (all(map(self.is_public_value, operands)) and not any(
+            map(self.is_secret, (*self.flags.values(), *flags.values()))))
         self.flags, self.distances = dict.fromkeys(self.flag_names, SECRET if secret else None), {}
-        self.flags.update(flags)
+        self.flags.update((name, flag) for name, flag in flags.items() if flag is not None)
 
     def decide(self, flag):
         """Gives a flag as 0 or 1."""
@@ -158,12 +166,13 @@ class Machine(Arithmetic, Borders, Unknowns, Bytewise, Results, Access):
             return 1 - self.decide(flag[1])
         if is_number(*flag[:2]) and flag[2:] in (("below",), ("equal",)):
             return self.compare_numbers(*flag)
-        if self.allowed.assumes and flag[0] == "zero" and set(flag[1:]) == set(self.allowed.assumes):
+        if self.allowed.assumes and flag[0] == "zero" and self.allowed.assumes(self, flag):
             return 0
         public = flag[0] == "bit" or flag[0] == "zero" and self.is_public(flag[1:])
         if flag == SECRET or flag[0] in ("zero", "bit") and not (public or self.allowed.reveals):
             raise Unproved("a branch or a condition depends on the key or on data")
-        if flag[0] == "zero" and any(q[0] == "zero" and answer and {*flag[1:]} <= {*q[1:]} for q, answer in self.answers.items()):
+        if flag[0] == "zero" and any(q[0] == "zero" and answer and {*flag[1:]} <= {*q[1:]} for q, answer in self.answers.items()
+                                     if q not in self.stale_answers):
             return 1  # these bytes are some of those that are all zero
         return self.ask(flag)
 
@@ -190,11 +199,17 @@ class Machine(Arithmetic, Borders, Unknowns, Bytewise, Results, Access):
         d = self.domain
         return all(b < 256 or d.symbolic(b) and not any(d.depends[c] & ~PUBLIC for c in d.cells(b)) for b in bytes_)
 
+    def is_public_value(self, value):
+        """Whether a value depends on nothing secret. (A Number may be that of J_0.)"""
+        return self.is_public(value) if type(value) is tuple else not isinstance(value, (Verdict, Number))
+
     def ask(self, flag):
         """Gives the answer to a question, or raises it. A flag is a question if it says how far apart two buffers are, or whether a wrapped
         key or a tag is right. Both answers have to be proved (see calls.prove_call)."""
         if isinstance(flag[0], Distance) and self.overlaps(*flag):
             return 0
+        if flag in self.stale_answers:
+            raise Unproved("asks again about bytes of blocks that have other numbers now")
         if flag not in self.answers:
             raise Question(flag)
         return self.answers[flag]
@@ -286,6 +301,8 @@ class Machine(Arithmetic, Borders, Unknowns, Bytewise, Results, Access):
             raise Unproved("the stack pointer moves too far")
         if after.offset % self.word:
             raise Unproved("the stack pointer isn't aligned")
+        if after.offset < self.stack.end:  # a signal's handler would use what is below it
+            raise Unproved("the stack pointer is deeper than the header says")
         self.stack.mark_stale(before.offset - self.red_zone, after.offset - self.red_zone)
 
     def go_to(self, address):
@@ -297,6 +314,13 @@ class Machine(Arithmetic, Borders, Unknowns, Bytewise, Results, Access):
         self.note_way(address)
         if address in self.program.function_of:
             self.pass_numbers()
+
+    def target(self, operand):
+        """Gives where an operand leads. A number in a register isn't an address, since it can be the right one in one link only."""
+        value = self.get(operand)
+        if is_int(value) and not is_int(operand):
+            raise Unproved("goes on at a number")
+        return value
 
     def note_way(self, way):
         """Notes where a jump led, which carry was added, or the condition by which a value was chosen."""
@@ -319,9 +343,12 @@ class Machine(Arithmetic, Borders, Unknowns, Bytewise, Results, Access):
         if (self.general[self.stack_pointer].offset + self.word * len(self.pushed)) % 16:
             raise Unproved("the stack isn't aligned at a call")
         stack = self.general[self.stack_pointer].offset
+        self.stack.refuse_gap(stack)
         self.stack.mark_stale(stack - self.red_zone, stack)
         if self.shadow and stack != self.stack.top:  # (else this is a jump at the end, and the caller of this call has left the room)
-            self.store(Pointer("stack", stack + self.word * len(self.pushed)), [self.domain.undefined] * self.shadow)
+            room = stack + self.word * len(self.pushed)
+            self.place(Pointer("stack", room), self.shadow, True)
+            self.stack.mark_stale(room, room + self.shadow)
         to, source, count = (self.general[r] for r in self.arguments[:3])
         if isinstance(count, Linear) or getattr(self.window(to), "backwards", False):
             (self.fill if name == "memset" else self.copy_all)(to, source, count)
@@ -334,25 +361,27 @@ class Machine(Arithmetic, Borders, Unknowns, Bytewise, Results, Access):
             written = self.to_bytes(source, 1) * count if name == "memset" else self.load(source, count)
             self.store(to, written)
             self.note_written_by_libc((to, source, count), written[:MOST_NOTED])
+        copies = name != "memset" or not all(map(self.is_no_secret, self.to_bytes(source, self.word)))
         for r in self.scratch:
-            self.general[r] = tuple(self.after_libc(name, self.to_bytes(self.general[r], self.word)))
+            self.general[r] = tuple(self.after_libc(copies, self.to_bytes(self.general[r], self.word)))
         self.general[self.result] = to
-        for n, v in enumerate(self.vectors):  # (libc empties the higher halves, as code without AVX can't do that)
+        for n, v in enumerate(self.vectors):  # (libc copies nothing to the higher halves, or empties them: code without AVX can't do that)
             kept = self.restored_vectors.get(n, 0)
-            self.vectors[n] = v[:kept] + self.after_libc(name, v[kept:16]) + [self.domain.undefined] * (len(v) - 16)
+            self.vectors[n] = v[:kept] + self.after_libc(copies, v[kept:16]) + self.after_libc(False, v[16:])
         self.set_flags()
         self.leave()
 
-    def after_libc(self, name, bytes_):
-        """Gives the bytes of a register after libc's functions. They may be something of what was copied, or what they were before. After
-        memset constants aren't secret, and neither is what was undefined."""
-        def is_public(b):
-            return name == "memset" and (b < 256 or b == self.domain.undefined)
-        return [self.domain.undefined if is_public(b) else self.any_byte() for b in bytes_]
+    def after_libc(self, copies, bytes_):
+        """Gives the bytes of a register after libc's functions. They may be what they were before. `copies`: or something secret."""
+        return [self.domain.undefined if not copies and self.is_no_secret(b) else self.any_byte() for b in bytes_]
+
+    def is_no_secret(self, byte):
+        """Whether a byte is a constant, or one that nobody wrote."""
+        return byte < 256 or byte == self.domain.undefined
 
     def returned(self, size):
-        """Gives the lowest bytes of the value that the call returns."""
-        return self.from_bytes(self.to_bytes(self.general[self.result], size))
+        """Gives the lowest bytes of the value that the call returns. (All results of 32 bits are less than 2^31.)"""
+        return self.from_bytes(self.to_bytes(self.general[self.result], self.word if self.whole_results else size))
 
     def replace_bytes(self, convert, domain, cells=()):
         """Goes on with the bytes to which `convert` maps the machine's bytes, in a domain. If it maps bytes to arbitrary ones, a proof for
@@ -362,6 +391,8 @@ class Machine(Arithmetic, Borders, Unknowns, Bytewise, Results, Access):
             self.native.values.rename(cells, domain)
         if other:  # numbers of bytes mean something else now, so what is noted by these numbers is forgotten
             self.secret.enter_domain(convert)
+            self.answers = {flag: answer for flag, answer in self.answers.items() if flag[0] not in ("zero", "bit")}
+            self.origins, self.stale_answers = {}, frozenset()
             self.set_flags(**{f: value for f, value in self.flags.items() if value in (0, 1)})
             self.general = {r: tuple(self.to_bytes(v, self.word)) if isinstance(v, Verdict) else v for r, v in self.general.items()}
         self.domain = domain

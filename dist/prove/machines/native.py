@@ -5,11 +5,13 @@ and the vector registers that changed are compared. At the end all registers and
 runs by itself, with random values. So each form that a proof used is compared."""
 import random
 
-from machines.operands import RETURN_ADDRESS, Memory, Pointer, Register, concatenated, is_int
+from loops.linear import names_in
+from machines.kinds import Kinds
+from machines.operands import FARTHEST, RETURN_ADDRESS, Memory, Pointer, Register, concatenated, is_int
 from machines.processors import PROCESSORS
 from machines.regions import Region
 from statements.cell_values import Values
-from symbols.bits import DATA, Unproved
+from symbols.bits import DATA, PUBLIC, Unproved
 from symbols.domain import Domain
 
 
@@ -42,13 +44,20 @@ class Native:
             self.processor.write(self.values.base[name], self.known_or(region.content, lambda: self.memory(name)))
         vectors = enumerate(self.m.vectors)
         self.processor.put_vectors({n: self.known_or(v, lambda: self.processor.vectors([n])[n]) for n, v in vectors})
-        self.processor.put_registers(self.registers())
+        self.processor.put_registers({**self.registers(), **self.parts_of_registers(self.processor.registers())})
 
     def registers(self):
         """Gives the machine's general registers and flags, as far as they are known, and the address of the next instruction."""
         words = {r: self.values.word(self.m.general[r]) for r in self.m.registers}
-        known = {f: x for f, x in self.m.flags.items() if x in (0, 1)}
-        return {"next": self.values.word(self.m.next_address), **{r: x for r, x in words.items() if x is not None}, **known}
+        flags = {f: self.values.flag(x) for f, x in self.m.flags.items()}
+        known = {name: x for name, x in (*words.items(), *flags.items()) if x is not None}
+        return {"next": self.values.word(self.m.next_address), **known}
+
+    def parts_of_registers(self, have):
+        """Gives the registers of which only some bytes are known, with the processor's other bytes."""
+        word, others = self.m.word, [r for r in self.m.registers if self.values.word(self.m.general[r]) is None]
+        return {r: int.from_bytes(self.known_or(self.m.to_bytes(self.m.general[r], word), lambda: have[r].to_bytes(word, "little")), "little")
+                for r in others}
 
     def memory(self, name):
         """Gives the processor's bytes of a buffer."""
@@ -61,16 +70,7 @@ class Native:
 
     def ask(self, flag):
         """Answers what the machine can't. In this one run it is known how far apart buffers are, and whether a key or a tag is right."""
-        if flag[0] == "zero":
-            answer = all(self.values.full_byte(b) == 0 for b in flag[1:])
-        elif flag[0] == "bit":
-            answer = self.values.bit(flag[1])
-        else:
-            distance, y, what = flag
-            if what == "before":
-                answer = self.values.base[distance.base] + distance.offset < self.values.base[distance.other]
-            else:
-                answer = self.values.word(distance) < y if what == "below" else self.values.word(distance) == y
+        answer = all(self.values.full_byte(b) == 0 for b in flag[1:]) if flag[0] == "zero" else self.values.flag(flag)
         return self.m.answers.setdefault(flag, int(answer))
 
     def watch(self, m):
@@ -78,6 +78,7 @@ class Native:
         want = self.registers()
         if self.processor.step(m.program.instruction_at(m.last).name, want["next"], m.after_external):
             have = self.processor.registers()
+            want.update(self.parts_of_registers(have))
             wrong = ["%s is %x and not %x" % (r, have[r], x) for r, x in want.items() if x != have[r]]
             self.refuse(wrong + self.wrong_vectors([n for n, v in enumerate(m.vectors) if v is not self.seen[n]]))
 
@@ -111,6 +112,7 @@ class Native:
 # drawn, it is tried with others.
 SIZE, MIDDLE = 128, 64
 TRIES, WITH_FLAGS = 8, 48  # An instruction that sets flags has more tries, because few numbers set some of them.
+OF_KINDS = 24  # tries with values of other kinds (kinds.py), and fewer if all operands are vectors
 ENDS = 0, -1, 0x80, 0x7f, 0xff, 0x0f, 0x10, 0x8f, 31, 32, 33, 63, 64, 65, 127, 128  # bytes, counts and indices where something changes
 NEVER_ALONE = "ldaxr", "stlxr"  # They only work together, so they are compared in whole calls.
 
@@ -123,13 +125,14 @@ class Alone:
         self.program = program
         self.random = random.Random(0)
         self.domain = Domain()
-        cell = self.domain.cell("a byte", False, DATA)
-        tables = ([self.random.getrandbits(256) for _ in range(8)] for _ in range(256))
-        symbols = [self.domain.byte_of_cell(cell, 0, t) for t in tables]
+        tables = [[self.random.getrandbits(256) for _ in range(8)] for _ in range(256)]
+        secret, public = ([self.domain.byte_of_cell(self.domain.cell(name, False, kind), 0, t) for t in tables]
+                          for name, kind in (("a byte", DATA), ("a public byte", PUBLIC)))
         self.constants = [b"".join(self.number(size) for _ in range(0, 8, size)) for size in (1, 8) for _ in range(256)]
-        self.symbolic = [self.random.choices(symbols, k=8) for _ in range(512)]
+        self.symbolic = [[self.random.choices(symbols, k=8) for _ in range(512)] for symbols in (secret, public)]
         self.values = Values(self.domain, self.random, highest=program.machine.highest)
         self.processor = PROCESSORS[program.machine](program.path)
+        self.of_kinds = Kinds(self.random, self.values)
 
     def number(self, size):
         """Draws a number. Some are small, as counts and indices are, and some are near to a power of two."""
@@ -154,7 +157,7 @@ class Alone:
     def bytes(self, count):
         """Draws bytes: constants, or mostly symbolic bytes in a try that isn't `constant`."""
         constant = self.constant or self.random.random() < 0.3
-        return concatenated(self.random.choices(self.words or (self.constants if constant else self.symbolic), k=count // 8))
+        return concatenated(self.random.choices(self.words or (self.constants if constant else self.symbolic[self.public]), k=count // 8))
 
     def before(self, instruction, address):
         """Gives a machine just before the instruction."""
@@ -162,7 +165,7 @@ class Alone:
         m = self.program.machine(self.domain, self.program, regions, address, [])
         m.vectors = [self.bytes(m.vector_size) for _ in m.vectors]
         m.general.update({r: m.from_bytes(self.bytes(8)[:m.word]) for r in m.registers})
-        m.general[m.stack_pointer], m.stack.top = Pointer("stack", MIDDLE), SIZE
+        m.general[m.stack_pointer], m.stack.top, m.stack.end = Pointer("stack", MIDDLE), SIZE, -FARTHEST
         if "x30" in m.general:
             m.general["x30"] = RETURN_ADDRESS
         elif "zero" in m.general:
@@ -170,6 +173,8 @@ class Alone:
         elif not instruction.operands:
             m.store(m.general[m.stack_pointer], m.to_bytes(RETURN_ADDRESS, 8))
         m.flags = {f: self.random.getrandbits(1) for f in m.flags}
+        if self.kinds:
+            self.of_kinds.give(m)
         m.prepare(instruction, MIDDLE)
         return m
 
@@ -179,9 +184,10 @@ class Alone:
         agreed = 0
         tries = TRIES
         k = 0
-        while k < tries:
+        of_kinds = OF_KINDS if any(isinstance(o, (Register, Memory)) for o in instruction.operands) else OF_KINDS // 4
+        while k < tries + of_kinds:
             self.random.seed("%s %d" % (instruction.form, k))  # so that a form always has the same values
-            self.constant = k % 2
+            self.constant, self.public, self.kinds = k % 2, k // 4 % 2, k >= tries
             self.words = self.words_of(instruction, k)
             k += 1
             m = self.before(instruction, address)
@@ -191,10 +197,12 @@ class Alone:
                 m.step()
             except Unproved:
                 continue
+            if names_in(m.facts) - self.values.base.keys():
+                continue  # an unknown number without a value
             tries = TRIES if m.flags is flags else WITH_FLAGS
             beside.watch(m)
             beside.refuse(beside.wrong_memory())
-            agreed += 1
+            agreed += not self.kinds
         return agreed
 
 

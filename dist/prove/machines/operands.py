@@ -4,13 +4,18 @@ from collections import namedtuple
 
 from symbols.bits import Unproved
 
+# Values. Python compares them as tuples, without their types. So `kind` makes values of different types differ.
 Pointer = namedtuple("Pointer", "base offset")  # base: the name of a region, or of a register's value before the call
 Distance = namedtuple("Distance", "base other offset")  # the address of a buffer, less that of another, plus a constant
-Negated = namedtuple("Negated", "base offset")  # a constant, less the address of a buffer
-Number = namedtuple("Number", "base offset")  # 32 bits: a number of unknown value, plus another; higher bytes aren't known
-# `size` bytes, and zeros above: the number `right` if all the differences are 0, else another one, which is `wrong` if that is known.
-Verdict = namedtuple("Verdict", "right differences size wrong", defaults=[None])
-Scaled = namedtuple("Scaled", "number factor")  # the higher 64 bits of the product of a number that isn't known and a constant
+Negated = namedtuple("Negated", "base offset kind", defaults=["negated"])  # a constant, less the address of a buffer
+# 32 bits: a number of unknown value, plus another. Higher bytes aren't known.
+Number = namedtuple("Number", "base offset kind", defaults=["number"])
+# `size` bytes, and zeros above: the number `right` if all the differences are 0, else another one, which is `wrong` if that is known. If it
+# isn't, each has its own `serial`, since with the same differences there may be several such numbers. So it has if a difference has no
+# known value.
+Verdict = namedtuple("Verdict", "right differences size wrong serial", defaults=[None, 0])
+# The higher 64 bits of the product of a number that isn't known and a constant.
+Scaled = namedtuple("Scaled", "number factor kind", defaults=["scaled"])
 
 
 class Shifted(namedtuple("Shifted", "number count")):
@@ -34,6 +39,11 @@ Vector = namedtuple("Vector", "number size lane at clears", defaults=[1, 0, True
 # `before` and `after` are how far an access moves the base register.
 Memory = namedtuple("Memory", "size base index scale offset align before after", defaults=[1, 0, 0])
 Instruction = namedtuple("Instruction", "run name operands next form")  # form: see `form`
+
+# The low half of a counter: `word` is its name, and with an offset i it is that of block i. A call begins at block `first`. From block
+# `wrap` on the half has wrapped around. Blocks that begin behind byte `end` don't occur. (Block k begins at byte 16 k.)
+CounterWord = namedtuple("CounterWord", "word first wrap end")
+NEVER = 1 << 64  # as `wrap`
 
 # How many bytes the stack pointer may move at once, or an address in a pass of a loop. All frames are smaller.
 FARTHEST = 1 << 16

@@ -43,7 +43,7 @@ class Window(Region):
         self.origin = 0
         self.unit = len(initial)
         self.head, self.backwards, self.skip = head, backwards, skip
-        self.turn = 0  # how often it began again
+        self.turn = 0  # how often it began again, or was copied over
         self.undoes = False  # whether its blocks become again what they were
         self.copied = False  # whether another buffer was copied to it
         self.waits = False  # whether its patterns are of a later domain: a call that expands a key begins in another one
@@ -114,7 +114,9 @@ class Window(Region):
         """Gives bytes as they were before the call."""
         number, unit = offset + self.skip - self.unit * m.first_block, self.unit
         if not is_int(number):
-            return [m.domain.opaque((Content(base, offset + k, "content %d" % self.turn), 0)) for k in range(size)]
+            is_written = m.domain.undefined not in self.initial
+            return [m.domain.opaque((Content(base, offset + k, "content %d" % self.turn), 0)) if is_written else m.domain.undefined
+                    for k in range(size)]
         return [m.domain.moved(self.initial[i % unit], i // unit) for i in range(number, number + size)]
 
     def is_done(self, m):

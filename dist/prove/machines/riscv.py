@@ -6,7 +6,7 @@ There are no flags. A comparison is a branch, or its result is 0 or 1. If the re
 branch is. Else it is a bit, or a Verdict."""
 import re
 
-from loops.linear import Linear, is_number, refuse, unknown
+from loops.linear import Linear, is_number, refuse
 from machines.machine import Machine
 from machines.operands import (CODE, RETURN_ADDRESS, SECRET, Distance, Instruction, Memory, Pointer, Register, Table, Verdict, constant,
                                contrary, form, in_code, is_int, is_pointer)
@@ -36,10 +36,12 @@ class Riscv(Machine):
     scratch = A + ["t%d" % n for n in range(7)]
     red_zone = 0
     strict = True
+    whole_results = True
     relaxed = True
     flag_names = ""
     jumps, returns = r"(?:c\.)?(?:j|b[a-z]+)|jal(?=\tzero)", r"c\.jr\tra|jalr\tzero,0\(ra\)"
-    conditional, padding = r"(c\.)?b(eq|ne|lt|ge)", r"c\.nop|addi\tzero,zero,0"
+    conditional, padding = r"(c\.)?b(eq|ne|lt|ge)", r"c\.nop|addi\tzero,zero,0|c\.ebreak"
+    trap = "SHORT(0x9002) "
     choosing = "slt"
     sets_flags = "(?!)"
     without_result, stores = "b(eq|ne|lt|ge)|jal|fence|amo", "s[bhwd]$"
@@ -52,7 +54,7 @@ class Riscv(Machine):
         self.general.update(ra=RETURN_ADDRESS, zero=0)
 
     def leave(self):
-        self.go_to(self.general["ra"])
+        self.go_to(self.target(Register("ra", self.word)))
         self.general["ra"] = (self.domain.undefined,) * self.word
 
     @classmethod
@@ -94,25 +96,33 @@ class Riscv(Machine):
 
     def is_equal(self, x, y):
         """Gives a flag: whether two words are equal. If one is a word of a counter and the other a number, this is a question. But the
-        lowest word is 0 only in block `wrap`, and the word above it isn't 0 once 1 was added to it."""
+        lowest word is 0 only in block `wrap`, once 1 was added to it, up to `end`. Then the word above it isn't 0, unless it is the highest."""
         x, y = (y, x) if is_int(x) else (x, y)
         if self.is_counter(x) and is_int(y):
-            if y == 0 and (x.base == self.counter.word or x.offset):
-                return int(x.base == self.counter.word and x.offset == self.counter.wrap)
+            if y == 0 and x.base == self.counter.word and self.implied(x.offset - 1) and self.implied(self.counter.end - x.offset * 16):
+                return self.compare_numbers(x.offset, self.counter.wrap, "equal")
+            if y == 0 and x.base != self.counter.word and x.offset == 1 and not self.is_highest(x):
+                return 0
             return x, y, "equal"
         if self.is_counter(x) and self.is_counter(y) and x.base == y.base:
-            return int(x.offset == y.offset)
+            return self.compare_numbers(x.offset, y.offset, "equal")
         return self.flags_of_difference(x, y, self.word).get("z")
 
     def is_counter(self, v):
         """Whether a value is a word of the call's counter."""
         return self.counter and is_pointer(v) and (v.base == self.counter.word or v.base.startswith("counter high"))
 
+    def is_part(self, y, x):
+        """Whether y is x, or some bytes of it and else zeros."""
+        of_x, of_y = (self.to_bytes(v, self.word) for v in (x, y))
+        is_same = x == y or tuple in (type(x), type(y)) and all(b in (0, a) for a, b in zip(of_x, of_y))
+        return is_same and not self.has_no_value(of_y)
+
     def less(self, x, y):
         """Gives a flag: whether x is less than y, as numbers without a sign."""
         self.note_border_of_numbers(x, y)
-        if x == y or tuple in (type(x), type(y)) and all(b in (0, a) for a, b in zip(*(self.to_bytes(v, self.word) for v in (x, y)))):
-            return 0  # y is x, or a part of it
+        if self.is_part(y, x):
+            return 0
         if self.is_counter(x):
             return self.has_wrapped(x, y)
         if y == 1:
@@ -121,7 +131,7 @@ class Riscv(Machine):
             return contrary(self.is_zero(y))
         if tuple in (type(x), type(y)):
             return self.flag_of(self.borrow(x, y))
-        if is_pointer(x, y) and x.base != y.base and {x.base, y.base} <= set(self.regions):
+        if is_pointer(x, y) and x.base != y.base and self.is_placed(x, y):
             return Distance(x.base, y.base, x.offset - y.offset), 0, "before"
         return contrary(self.flags_of_difference(x, y, self.word).get("c"))
 
@@ -139,7 +149,13 @@ class Riscv(Machine):
         before = y.offset if is_pointer(y) and y.base == x.base else block - in_range(self, y)
         if not all(map(self.implied, (before, block - before, self.counter.end - block * 16 if is_low else 1 - block))):
             raise Unproved("compares a counter with something else than what it was")
+        if self.is_highest(x):
+            return (x, 0, "equal") if block == 1 and before == 0 else 0
         return int(is_low and self.wraps(before, block))
+
+    def is_highest(self, x):
+        """Whether this is the highest word of a counter. Each of its bits may be set."""
+        return x.base != self.counter.word and (self.word == 8 or x.base.endswith(", 2 full"))
 
     def signed(self, v):
         """Gives a number with a sign, with the highest bit inverted. Such numbers have the same order as numbers without a sign."""
@@ -224,7 +240,7 @@ def shifted(how, size=None):
 def either(m, x, y):
     """Gives the result of `or`, also of unknown numbers."""
     zeros = [m.is_equal(v, 0) if m.is_counter(v) else None for v in (x, y)]
-    if 0 in zeros:
+    if 0 in zeros and all(m.is_counter(v) or is_number(v) for v in (x, y)):
         return some_number(m, "%s or %s" % (x, y), {-1}, m.highest)
     if 1 in zeros:
         return (y, x)[zeros.index(1)]
@@ -269,9 +285,7 @@ def in_range(m, x):
 
 def some_number(m, name, at_least, at_most):
     """Gives another unknown number, with facts only about how large it is."""
-    n = unknown(name)
-    m.facts |= {n + k for k in at_least} | {at_most - n, m.highest - n}
-    return n
+    return m.defined(name, lambda n: {n + k for k in at_least} | {at_most - n, m.highest - n})
 
 
 def differing(m, x, y):
@@ -337,13 +351,16 @@ TABLE["slti"], TABLE["sltiu"] = TABLE["slt"], TABLE["sltu"]
 
 @TABLE.of("jal")
 def jump(m, name, link, to):
+    """Jumps. On the way to another function far away, code changes t1 if it isn't a call."""
     m.put(link, Pointer(CODE, m.next_address))
+    if link.name == "zero" and to in m.program.function_of:
+        m.general["t1"] = tuple(m.after_libc(False, m.to_bytes(m.general["t1"], m.word)))
     m.go_to(to)
 
 
 @TABLE.of("jalr")
 def jump_to(m, name, link, base, by):
-    to = in_code(m.offset(m.get(base), by))
+    to = in_code(m.offset(m.target(base), by))
     m.put(link, Pointer(CODE, m.next_address))
     m.go_to(to & ~1 if is_int(to) else to)
 

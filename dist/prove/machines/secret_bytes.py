@@ -18,6 +18,10 @@ class SecretBytes:
         self.lost.add(byte)
         return byte
 
+    def about(self, byte):
+        """Gives the bytes of which a byte says whether they are 0."""
+        return self.any_of.get(byte) or self.equalities.get(byte, ())[:1]
+
     def enter_domain(self, convert):
         """Forgets all facts about bytes of another domain, but not which are lost."""
         self.equalities, self.any_of = {}, {}
@@ -26,6 +30,7 @@ class SecretBytes:
         self.lost |= {convert(b) for b in lost}
 
     def forget(self, is_forgotten):
-        """Forgets facts that depend on whether certain bytes are 0. `is_forgotten` says of bytes whether they are such."""
-        self.any_of = {b: some for b, some in self.any_of.items() if not is_forgotten(some)}
-        self.equalities = {b: equal for b, equal in self.equalities.items() if not is_forgotten(equal[:1])}
+        """Forgets facts that depend on whether certain bytes are 0. `is_forgotten` says of bytes whether they are such. The bytes that the
+        facts are about may not be anywhere: other bytes may get their names later."""
+        self.any_of, self.equalities = ({b: fact for b, fact in facts.items() if not is_forgotten(self.about(b))} for facts in (
+            self.any_of, self.equalities))

@@ -9,10 +9,11 @@ PAGE = 4096  # the smallest page of memory
 class StackUse:
     """The use of the stack by a call. `top` is the stack pointer at the call, and `lowest` the lowest place that was accessed. In a general
     state it is that of the run that accessed the lowest one, and `reached` that of the run that accessed the highest one. `stale` has the
-    places whose bytes others may have overwritten."""
+    places whose bytes others may have overwritten. The stack pointer may not be below `end`."""
 
     def __init__(self, top):
         self.top = self.lowest = self.reached = top
+        self.end = 0
         self.stale = set()
 
     def copied(self):
@@ -30,9 +31,13 @@ class StackUse:
             raise Unproved("writes above its stack frame")
         if offset < end:
             raise Unproved("accesses the stack below the red zone")
-        if offset < self.reached - PAGE:  # a page there may not exist, or belong to something else
-            raise Unproved("accesses the stack %d bytes below all that was accessed" % (self.reached - offset))
+        self.refuse_gap(offset)
         self.go_down(offset)
+
+    def refuse_gap(self, offset):
+        """Refuses to use the stack at this place if a page above it wasn't accessed. It may not exist, or belong to something else."""
+        if offset < self.reached - PAGE:
+            raise Unproved("uses the stack %d bytes below all that was accessed" % (self.reached - offset))
 
     def go_down(self, offset):
         """Notes an access to this place."""

@@ -5,7 +5,7 @@ import re
 from covered.borders import distances
 from machines.machine import Machine
 from machines.operands import (CODE, RETURN_ADDRESS, SECRET, WORD, Instruction, Memory, Pointer, Register, Scaled, Table, Vector,
-                               concatenated, constant, contrary, form, interleaved, is_int, lanes)
+                               concatenated, constant, contrary, form, in_code, interleaved, is_int, lanes)
 from symbols.bits import Unproved
 
 R64 = "rax rcx rdx rbx rsp rbp rsi rdi r8 r9 r10 r11 r12 r13 r14 r15".split()
@@ -38,21 +38,22 @@ class X86_64(Machine):
     red_zone, landing_mark = 128, "endbr64"
     jumps = r"j\w+"
     conditional = "j(?!mp)|adc|sbb"
-    padding = r"(data16 |cs )*nop|xchg +ax,ax"
+    padding, trap = r"(data16 |cs )*nop|xchg +ax,ax|int3", "BYTE(0xcc) "
     choosing = "set|cmov"
     sets_flags = r"(cmp|test|ptest|add|sub|adc|sbb|inc|dec|neg|and|or|xor(?!ps)|shl|shr(?!x)|sar|rol|ror|shld|shrd|bt|bzhi|mul)\b"
     without_result, implicit = "j|call|ret|push|pop|cmp|test|ptest|bt|nop|endbr|vzero|set", {"mul": ("rax", "rdx")}
     only_writes, moves = r"mov(?!s[sd])|v|lea|andn|shrx|bzhi|mulx|pshuf[dlh]|pextr|pmov", r"v?mov(|abs|dq[au]|[au]ps)"
     affine = "add|sub|inc|dec|neg|not|lea|xchg"
     compares = "cmp|test"
-    two_results = "mulx|xchg"
+    two_results, also_read = "mulx|xchg", {"mulx": ("rdx",)}
     cancels = "xor|v?pxor|v?xorps|sub|v?pcmpeq"
     first_lane = "v?mov[qd]"
+    jump_by_table = r"movsxd (\w+),DWORD PTR \[\w+\+\w+\*4\]; add \1,\w+; (notrack )?jmp \1"
     # Jumps and calls that have to arrive at a mark; and the first byte of instructions of AVX-512, of which some are named as in AVX2.
     jumps_to_mark, avx512 = r"(rex\.\w+ +)*(jmp|call)\b(?! +[0-9a-f]+ <)", b"\x62"
 
     def leave(self):
-        self.go_to(pop(self))
+        go_back(self)
 
     @staticmethod
     def decode(text, following):
@@ -124,6 +125,13 @@ def pop(m):
     return value
 
 
+def of_a_word(operand):
+    """Gives an operand of `push` or `pop`, which has to have eight bytes."""
+    if not is_int(operand) and operand.size != 8:
+        raise Unproved("moves fewer bytes than a word to the stack, or from it")
+    return operand
+
+
 def signed(value, size):
     return constant("what is extended by its sign", value) - (value >> 8 * size - 1 << 8 * size)
 
@@ -137,10 +145,10 @@ TABLE = Table({
     "movbe": lambda m, name, to, source: m.write(to, m.read(source)[::-1]),
     "bswap": lambda m, name, to: m.write(to, m.read(to)[::-1]),
     "not": lambda m, name, to: m.write(to, [m.domain.xor_byte(b, 255) for b in m.read(to)]),
-    "push": lambda m, name, source: push(m, m.get(source)),
-    "pop": lambda m, name, to: m.put(to, pop(m)),
-    "ret": lambda m, name: m.go_to(pop(m)),
-    "jmp": lambda m, name, to: m.go_to(m.get(to)),
+    "push": lambda m, name, source: push(m, m.get(of_a_word(source))),
+    "pop": lambda m, name, to: m.put(of_a_word(to), pop(m)),
+    "ret": lambda m, name: go_back(m),
+    "jmp": lambda m, name, to: m.go_to(constant("where a jump leads", in_code(m.target(to)))),
 })
 for _code in CONDITIONS:
     TABLE["j" + _code] = lambda m, name, to, code=_code: m.go_to(to if m.condition(code) else m.next_address)
@@ -160,10 +168,19 @@ def lea(m, name, to, source):
     m.put(to, total)
 
 
+def go_back(m):
+    """Returns. A processor may keep return addresses in a shadow stack too, and refuses to return to another one."""
+    to, (*m.shadow_stack, expected) = pop(m), m.shadow_stack or [RETURN_ADDRESS]
+    if to != expected:
+        raise Unproved("returns to something else than the address that a call pushed")
+    m.go_to(to)
+
+
 @TABLE.of("call")
 def call(m, name, to):
+    to, m.shadow_stack = m.target(to), [*m.shadow_stack, Pointer(CODE, m.next_address)]
     push(m, Pointer(CODE, m.next_address))
-    m.go_to(m.get(to))
+    m.go_to(to)
 
 
 @TABLE.of("xchg")
@@ -194,7 +211,7 @@ def arithmetic(m, name, a, b=1):
         flags["c"] = contrary(flags.get("c"))
     if name in ("inc", "dec"):
         flags["c"] = old
-    m.set_flags(**flags)
+    m.set_flags((x, y), **flags)
     m.distances = distances(x, y, size, carry, name in ("add", "adc", "inc"))
     if name in ("inc", "dec"):
         m.distances["c"] = before.get("c")
@@ -209,7 +226,7 @@ def logic(m, name, to, a, b=None):
     if name == "xor" and to == a:
         x = y = 0
     r = m.logic({"test": "and", "andn": "and not"}.get(name, name), x, y, to.size)
-    m.set_flags(c=0, o=0, **m.zero_and_sign(r, to.size))
+    m.set_flags((r,), c=0, o=0, **m.zero_and_sign(r, to.size))
     if name != "test":
         m.put(to, r)
 
@@ -219,12 +236,12 @@ def shift(m, name, to, count=1):
     """Shifts by a constant. The flag c is the bit that is shifted out last. A shift by 0 keeps all flags."""
     n = constant("the count of a shift", m.get(count)) & (63 if to.size == 8 else 31)
     size = 8 * to.size
-    v = m.get(to)
+    old = v = m.get(to)
     if n:
         last = size - n if name == "shl" else n - 1  # the bit that is shifted out last
         out = m.bits(v, to.size)[last] if 0 <= last < size and not isinstance(v, Scaled) else None
         v = m.shift({"shl": "lsl", "shr": "lsr", "sar": "asr"}[name], v, n, to.size)
-        m.set_flags(c=out if out in (None, 0, 1) else SECRET, **m.zero_and_sign(v, to.size))
+        m.set_flags((old,), c=out if out in (None, 0, 1) else SECRET, **m.zero_and_sign(v, to.size))
     m.put(to, v)
 
 
@@ -233,11 +250,12 @@ def rotate(m, name, to, count=1):
     """Rotates by a constant. The flags z and s stay as they are."""
     n = constant("the count of a rotation", m.get(count)) & (63 if to.size == 8 else 31)
     if n:
-        b, size = m.bits(m.get(to), to.size), 8 * to.size
+        v, size = m.get(to), 8 * to.size
+        b = m.bits(v, to.size)
         up = (n if name == "rol" else -n) % size
         b = b[size - up:] + b[:size - up]
         last = b[0 if name == "rol" else -1]
-        m.set_flags(c=last if last < 2 else SECRET, z=m.flags["z"], s=m.flags["s"])
+        m.set_flags((v,), c=last if last < 2 else SECRET, z=m.flags["z"], s=m.flags["s"])
         m.put(to, m.unbits(b))
 
 
@@ -260,7 +278,7 @@ def bt(m, name, a, b):
     if not isinstance(a, Register):
         raise Unproved("bt of memory")
     out = m.bits(m.get(a), a.size)[constant("the number of a bit", m.get(b)) % (8 * a.size)]
-    m.set_flags(z=m.flags["z"], c=out if out < 2 else SECRET)
+    m.set_flags((m.get(a),), z=m.flags["z"], c=out if out < 2 else SECRET)
 
 
 @TABLE.of("bzhi")

@@ -11,7 +11,14 @@ class Fault(namedtuple("Fault", "what label found becomes case key_size", defaul
         found       a pattern of what is looked for there
         becomes     what the first match of it becomes: a template, or a function of the match
         case        the case of `make prove` that has to refuse it. In unreached_faults.py: the cases that run the function
-        key_size    how many bytes a key has in these cases"""
+        key_size    how many bytes a key has in these cases
+
+    With several places each of the first three fields after `what` is a tuple."""
+
+    def places(self):
+        """Gives (label, found, becomes) of each place."""
+        places = self.label, self.found, self.becomes
+        return zip(*places) if isinstance(self.label, tuple) else [places]
 
     def cases(self):
         """Gives the names in `case`."""

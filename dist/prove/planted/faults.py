@@ -4,10 +4,11 @@ from planted.gcm_faults import GCM_FAULTS
 from planted.long_aes_faults import LONG_AES_FAULTS
 from planted.long_gcm_faults import LONG_GCM_FAULTS
 from planted.other_build_faults import OTHER_BUILD_FAULTS
+from planted.rule_faults import RULE_FAULTS
 from planted.unreached_faults import UNREACHED_FAULTS
 
 # Each has lists of faults by build, in the order in which they are planted.
-SUBJECTS = AES_FAULTS, GCM_FAULTS, OTHER_BUILD_FAULTS, LONG_AES_FAULTS, LONG_GCM_FAULTS, UNREACHED_FAULTS
+SUBJECTS = AES_FAULTS, GCM_FAULTS, OTHER_BUILD_FAULTS, LONG_AES_FAULTS, LONG_GCM_FAULTS, RULE_FAULTS, UNREACHED_FAULTS
 BUILDS_WITH_FAULTS = list(dict.fromkeys(build for subject in SUBJECTS for build in subject))
 
 

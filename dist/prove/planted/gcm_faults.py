@@ -77,11 +77,11 @@ GCM_FAULTS = {
         Fault("more decrypted than was verified", exported("gcm_decrypt"), found=r"\tcmovbq\t.*\n", becomes="",
               case="gcm_decrypt refused 14"),
         Fault("a nonce again after 2^72", exported("gcm_seal_next"), found=r"incl\t%e([abcd])x", becomes=r"incb\t%\1l",
-              case="seal_next 3 1 carry to byte 3"),
+              case="seal_next 3 1 carry"),
         Fault("a nonce again at 6 * 2^64", exported("gcm_seal_next"), found=r"incl\t%e([abcd])x",
               becomes=r"movl\t%e\1x, %r11d\n\tincl\t%e\1x\n\tcmpl\t$5, %r11d\n\tsete\t%r11b\n\tmovzbl\t%r11b, %r11d\n"
                       r"\tsubl\t%r11d, %e\1x\n\txorl\t%r11d, %r11d",
-              case="seal_next 3 1 carry to byte 3"),
+              case="seal_next 3 1 carry"),
         Fault("a bit of the key in a flag after a message under the counter's next nonce", exported("gcm_seal_next"),
               found=r"(# %join\.3\.i\n)([\s\S]*?)\taddq\t\$24, %rsp\n([\s\S]*?)\txorl\t%r11d, %r11d\n\tretq\n",
               becomes=r"\1\tmovq\t%rdi, 16(%rsp)\n\2\tmovq\t16(%rsp), %r11\n\taddq\t$24, %rsp\n\3\ttestb\t$1, 4(%r11)\n\tmovl\t$0, %r11d\n"

@@ -1,6 +1,6 @@
 """Lists code that no case shows. Only what ran is noted: which ways conditions went, what was tried at its border, and which results were
 always the same or followed a number. So `case` of these faults names the cases that run the function. The ways of refusals don't count."""
-from planted.fault import CMAC_TAG, ENTRY, IN_BATCHES, WIPE, Fault, call, exported, low
+from planted.fault import CMAC_TAG, ENTRY, IN_BATCHES, WIPE, WRAP_PADDED, Fault, call, exported, low
 
 COPY_OF_TEXT = "(?=%s)" % call("gcm_c::whole_to::copy")
 SEAL_TO_CASES = "; ".join(["seal 13 3 _to", *("gcm_seal_to refused %d" % n for n in (1, 5, 9, 10))])
@@ -72,6 +72,21 @@ UNREACHED_FAULTS = {
               *in_two_parts("rcx"), case="any_blocks encrypt 1; any_blocks encrypt 9; blocks encrypt 16"),
         Fault("messages of 52 to 59 bytes compared without the last one", exported("aes_cmac_verify"), *one_less_between("rdx", 52, 60),
               case="any_cmac_verify 1 16"),
+    ],
+    "x86_64/aes_v3": [
+        Fault("texts of 2^20 bytes and more without one byte of 2^20, by a product with rdx", exported("aes_add_keystream_to"),
+              found=r"(# %bb\.4:.*\n)",
+              becomes=r"\1\tmovq\t%rdx, %r9\n\tmovq\t%rcx, %rdx\n\tmovabsq\t$17592186044416, %r15\n\tmulxq\t%r15, %r12, %rax\n"
+                      r"\tmovq\t%r9, %rdx\n\tsubq\t%rax, %rcx\n",
+              case="; ".join(["add_keystream 3 33 _to", "add_keystream 3 0 _to", "add_keystream 3 130 _to", "add_keystream 21 11 1 _to",
+                              *("aes_add_keystream_to refused %d" % n for n in range(1, 8))])),
+    ],
+    "aarch64/aes": [
+        Fault("keys of 16 n + 5 bytes wrapped with another length, by a table in a register", WRAP_PADDED, found=r"(// %bb\.2:.*\n)",
+              becomes=r"\1\tand\tx9, x2, #15\n\tmovi\tv30.2d, #0\n\tmov\tw10, #1\n\tmov\tv30.b[5], w10\n\tfmov\td31, x9\n"
+                      r"\ttbl\tv31.16b, {v30.16b}, v31.16b\n\tumov\tw9, v31.b[0]\n\tadd\tx2, x2, x9\n",
+              case="; ".join(["any_wrap_padded 3", *("wrap_padded %d" % n for n in (7, 8, 9, 15)),
+                              *("aes_wrap_padded refused %d" % n for n in range(1, 20))])),
     ],
     "x86_64/gcm": [
         Fault("a text of 2^20 bytes, of which the last one isn't sealed, by a jump", exported("gcm_seal_to"), found=COPY_OF_TEXT,

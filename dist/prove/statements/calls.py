@@ -80,7 +80,7 @@ class Call:
     undone: bool = False  # a refused call may write to a Buffer that has to stay as it was, since it undoes its writes
     assumes: Sequence = None  # bytes of public data that are not all zero
     later: Callable = None  # for a call that expands a key: turns bytes of the key's own domain into those of any round keys (aes.py)
-    counter: object = None  # a word of unknown value (keyed.CounterWord)
+    counter: object = None  # a word of unknown value (operands.CounterWord)
     keystream: Sequence = ()  # what is added to the data
     other_blocks: Sequence = ()  # other blocks that the cipher gives
     plain: Sequence = ()  # what is secret of the data and of the results
@@ -140,7 +140,8 @@ def machine_before(domain, program, call):
     regions["stack"] = Region([domain.undefined] * (STACK - program.machine.word * len(program.machine.pushed)), align=16)
     arguments = [Pointer(a.name, 0) if isinstance(a, Buffer) else a for a in call.arguments]
     m = program.machine(domain, program, regions, program.exports["fotsgure_" + call.name], arguments)
-    m.allowed = Allowed(call.reveals is not None, call.assumes, call.any_length, call.divides)
+    assumes = call.assumes and (lambda m, flag: asked_of(m, flag) == asked_of(m, ("zero", *call.assumes)))
+    m.allowed = Allowed(call.reveals is not None, assumes, call.any_length, call.divides)
     m.counter, m.facts = call.counter, call.facts
     m.numbers_by_frame = (m.stack.top, tuple(numbers_of(m, call))),
     for window in (r for r in regions.values() if isinstance(r, Window)):
@@ -254,6 +255,7 @@ def run_to_all_ends(m, call, watches, known, part=None):
             run(m, call, watches)
         except Question as question:
             flag, = question.args
+            refuse_other_question(m, call, flag)
             for answered in (m.answered(flag, answer) for answer in (1, 0)):
                 waiting += joints.by_what_is_left(answered, flag, part) if part else [answered]
         except lengths.Leads as leads:
@@ -321,14 +323,23 @@ def check(m, call):
     m.left = what_is_left(m, call)
 
 
+def refuse_other_question(m, call, flag):
+    """Refuses to ask something else of secrets than what a call reveals. If that is no function of the machine, its blocks are counted from
+    the beginning."""
+    if flag[0] == "zero" and not m.is_public(flag[1:]):
+        reveals = call.reveals(m) if callable(call.reveals) else call.reveals if m.first_block == 0 else ()
+        right = m.zero_flag(reveals)
+        if not isinstance(right, tuple) or asked_of(m, flag) != asked_of(m, right):
+            raise Unproved("reveals something else than whether the key or the tag is right")
+
+
 def is_right(m, call):
     """Whether a wrapped key or a tag is right. A call that compares one may ask nothing else of secrets."""
     if call.reveals is None:
         return True
     asked = m.asked_of_secrets()  # (a branch on a nonce alone reveals nothing)
-    reveals = call.reveals(m) if callable(call.reveals) else call.reveals
-    if asked != [revealed(m)] and (len(asked) != 1 or asked_of(m, asked[0]) != asked_of(m, m.zero_flag(reveals))):
-        raise Unproved("reveals something else than whether the key or the tag is right")
+    if len(asked) != 1:
+        raise Unproved("doesn't ask whether the key or the tag is right")
     return m.answers[asked[0]]
 
 
@@ -350,6 +361,8 @@ def check_buffer(m, buffer, want):
         content, want = m.regions[buffer.name].content, m.known_bytes(want)
         compare(m.domain, content, want, buffer.name)
         m.unsaid += [x for x, y in zip(content, want) if y is None and x not in m.known_bytes(buffer.content)]
+        if m.domain.undefined in m.unsaid:
+            raise Unproved("%s has bytes that nobody wrote" % buffer.name)
         if not buffer.secret:
             m.results += [b for b in want if b is not None]
 

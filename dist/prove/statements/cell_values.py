@@ -1,13 +1,13 @@
 """Gives each cell one value, and so each bit and byte. A run beside the processor has random values. To try the statements, cells have the
 values of the standards' vectors."""
 from loops.linear import Linear
-from machines.operands import CODE, WORD, Distance, Negated, Number, Pointer, Verdict
+from machines.operands import CODE, WORD, Distance, Negated, Number, Pointer, Scaled, Shifted, Verdict
 from symbols.bits import BLOCK, LINEAR, PRODUCT
 
 
 class Values:
     def __init__(self, domain, random, counter=None, highest=WORD):
-        """Prepares the values. `counter` is for counter mode, where the initial counter block consists of words (see keyed.CounterWord).
+        """Prepares the values. `counter` is for counter mode, where the initial counter block consists of words (see operands.CounterWord).
         `most` is the highest number in a word of the machine."""
         self.domain, self.random, self.counter, self.highest = domain, random, counter, highest
         self.cells, self.bytes = {}, {}
@@ -19,6 +19,9 @@ class Values:
         if cell in d.word_of_cell:
             word, k = d.word_of_cell[cell]
             return self.word(word or Pointer(self.counter.word, self.counter.first + block - 1)) >> 8 * k & 255
+        if cell in d.number_of_cell:
+            number, k = d.number_of_cell[cell]
+            return self.word(number) >> 8 * k & 255
         if cell in d.numbers and block > 1:
             k, number = d.numbers[cell]
             return sum(self.cell(d.cell_of(b)[0], 1) << 8 * j for j, b in enumerate(number)) + block - 1 >> 8 * k & 255
@@ -71,12 +74,16 @@ class Values:
 
     def full_byte(self, b):
         """Gives the value of a byte, also of a sum of products, which is slow."""
-        name = self.domain.name_of_opaque.get(b)
-        if not name or self.domain.bits_of[b] is not None:
-            return self.number(self.domain.bits(b))
+        d, name = self.domain, self.domain.name_of_opaque.get(b)
+        if any(self.word(d.number_of_cell[c][0]) is None for c in d.unknown_cells(b)):
+            return None
+        if not name or d.bits_of[b] is not None:
+            return self.number(d.bits(b))
         if isinstance(name, str):
             return None
         of, k = name
+        if isinstance(of, Number):
+            return self.base[of.base] + self.integer(of.offset) >> 8 * k & 255 if of.base in self.base else None
         word = self.base.setdefault(name, self.random.randrange(256)) << 8 * k if isinstance(of, str) else self.word(of)
         return None if word is None else word >> 8 * k & 255
 
@@ -87,13 +94,47 @@ class Values:
         if isinstance(v, Pointer):
             if v.base not in self.base:
                 self.base[v.base] = self.first_value(v.base)
-            return self.base[v.base] + v.offset & self.highest
+            return self.base[v.base] + self.integer(v.offset) & self.highest
         if isinstance(v, Distance):
-            return self.base[v.base] - self.base[v.other] + v.offset & self.highest
+            return self.base[v.base] - self.base[v.other] + self.integer(v.offset) & self.highest
         if isinstance(v, Negated):
-            return v.offset - self.base[v.base] & self.highest
-        b = [None] if isinstance(v, (Number, Verdict, Linear)) else list(map(self.byte, v))
+            return self.integer(v.offset) - self.base[v.base] & self.highest
+        if isinstance(v, Linear):
+            x = self.integer(v)
+            return x and x & self.highest
+        if isinstance(v, (Shifted, Scaled)):
+            x = self.word(v.number)
+            return x and (x >> v.count if isinstance(v, Shifted) else x * v.factor >> 64)
+        if isinstance(v, Verdict):
+            zero = self.flag(("zero", *v.differences))
+            return v.right if zero else v.wrong if zero == 0 else None
+        b = [None] if isinstance(v, Number) else list(map(self.byte, v))
         return None if None in b else int.from_bytes(bytes(b), "little")
+
+    def integer(self, x):
+        """Gives an unknown number as an integer, and not only as a word. It is None if an unknown has no value."""
+        if not isinstance(x, Linear):
+            return self.word(x)
+        known = [self.base.get(name) for name, _ in x.terms]
+        return None if None in known else x.constant + sum(k * value for (_, k), value in zip(x.terms, known))
+
+    def flag(self, flag):
+        """Gives the value of a flag. It is None if that isn't known."""
+        if not isinstance(flag, tuple):
+            return flag if flag in (0, 1) else None
+        if flag[0] == "not":
+            value = self.flag(flag[1])
+            return None if value is None else 1 - value
+        if flag[0] == "zero":
+            known = set(map(self.byte, flag[1:]))
+            return 0 if known - {0, None} else None if None in known else 1
+        if flag[0] == "bit":
+            return self.byte(self.domain.pack([flag[1]] + [0] * 7))
+        x, y, what = flag
+        if what == "before":
+            return int(self.base[x.base] + x.offset < self.base[x.other])
+        x, y = self.integer(x), self.integer(y)
+        return None if None in (x, y) else int(x < y if what == "below" else x == y)
 
     def first_value(self, base):
         """Gives a number to a word of unknown value, by the name of the word."""

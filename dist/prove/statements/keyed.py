@@ -4,8 +4,6 @@ Docstrings of statements quote the header; `..` is what is left out.
 The calls are proved in two steps, since they share the struct. `set_key` runs on a key of symbolic bytes. Each bit that it stores is found
 to be a sum of bits of one byte of a round key, or of its InvMixColumns. The other calls start from a struct of these sums, where round keys
 are arbitrary bytes. So they are proved for any round keys, and thus for those of any key."""
-from collections import namedtuple
-
 from loops.linear import WORD, unknown
 from machines.operands import LAST, LEAD
 from statements.calls import ANY, Buffer, Call, Stream, prove_call
@@ -24,10 +22,7 @@ STRUCT = 484
 # both directions.
 SCHEDULE = 240, 4
 
-# The low half of a counter: `word` is its name, and with an offset i it is that of block i. A call begins at block `first`. From block
-# `wrap` on the half has wrapped around. Blocks that begin behind byte `end` don't occur. (Block k begins at byte 16 k.)
-CounterWord = namedtuple("CounterWord", "word first wrap end")
-NEVER, BATCH = 1 << 64, 16  # a batch may have more blocks than the text
+BATCH = 16  # a batch may have more blocks than the text
 ANY_COUNT = "counter low, any count"  # the lower half of any counter block (KeyedAes.any_iv)
 PTRDIFF_MAX = (1 << 63) - 1
 
@@ -101,6 +96,14 @@ class Keyed:
         if what not in self.cache:
             self.cache[what] = make()
         return self.cache[what]
+
+    def fresh(self, name, depends=DATA, of_block=False, count=16):
+        """Makes bytes that may have any value."""
+        return [self.domain.fresh("%s byte %d" % (name, i), depends, of_block) for i in range(count)]
+
+    def any_bytes(self, name, *more):
+        """Gives bytes that may have any value: for a name the same ones each time."""
+        return self.made_once(name, lambda: self.fresh(name, *more))
 
     def undefined(self, count):
         return [self.domain.undefined] * count

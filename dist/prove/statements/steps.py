@@ -86,6 +86,8 @@ def replace_result(m, where, want, new):
     on = depends(m, *want) if where == "hash" else 0
     for x, y in zip(want, new):
         if x > 255:
+            if x == m.domain.undefined or x in m.secret.lost:
+                raise Unproved("a result has a byte of which nothing is known")
             if replaced.setdefault(x, y) != y:
                 raise Unproved("a byte of a result comes twice")
             if not m.is_public([y]):

@@ -1,5 +1,6 @@
 """Computes with symbolic bits and bytes. A domain has the cells of one proof."""
 import functools
+import itertools
 
 from symbols.bits import BLOCK, OF_PRODUCT, PRODUCT, Forms, Unproved, affine_columns, composed_tables, linear_bits
 from symbols.products import Products
@@ -16,6 +17,7 @@ class Domain(Forms, Products, Names):
         # Results by their operands, so that each is computed once. (bytewise.py uses `entries` and `shifted`.)
         self.ands, self.byte_xors, self.byte_ands, self.lookups, self.moves, self.entries, self.shifted = ({} for _ in range(7))
         self.repeats, self.in_planes = {}, {}  # see `alike`
+        self.serials = itertools.count(1)  # of Verdicts
         self.named_bits = {}  # what left_behind.named_bits gives for bytes
 
     def and_(self, x, y):
