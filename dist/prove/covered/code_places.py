@@ -4,7 +4,7 @@ import functools
 import hashlib
 import re
 
-HASH_DIGITS = 6
+HASH_DIGITS = 16
 TARGET = r"\b(?:0x)?[0-9a-f]+ <[^>]*>"  # an address in the code, as objdump prints it
 NUMBER = r"#?-?\b(?:0x[0-9a-f]+|\d+)\b"
 # Finds the register that gets a part of an address, if code makes an address in two steps.

@@ -8,7 +8,7 @@ import re
 from collections import namedtuple
 
 from loops.linear import Linear, is_number, wrapped
-from machines.operands import CODE, Memory, Register, Vector, concatenated, is_int, is_pointer, lanes
+from machines.operands import Memory, Register, Vector, concatenated, is_in_code, is_int, is_pointer, lanes
 
 # The values at one place: the first one, whether there were others, and by how much all of them differ from some numbers.
 PlaceDifferences = namedtuple("PlaceDifferences", "first varied differences")
@@ -66,7 +66,7 @@ class FollowingResults:
     def as_numbers(self, values):
         """Gives the numbers in values and in their words: offsets instead of addresses, and None for other words."""
         words = [x for v in values for x in (map(self.from_bytes, lanes(v, self.word)) if type(v) is tuple else [v])]
-        numbers = [v.offset if is_pointer(v) and v.base != CODE else v for v in words]
+        numbers = [v.offset if is_pointer(v) and not is_in_code(v) else v for v in words]
         return [v if is_number(v) else None for v in numbers]
 
     def noted_differences(self, values, numbers):

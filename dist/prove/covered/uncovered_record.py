@@ -1,6 +1,6 @@
 """Keeps the record of places that stay uncovered with PROVE=builds: uncovered.tsv. `prove.py --record` writes it, and other runs compare
 with it. A line has an assembly file, a function, and for each kind that it has KIND=HASH,HASH, the hashes of its places (code_places.py).
-A hash has only 24 bits, so a place can be made that is mistaken for a recorded one. uncovered.py has the reasons.
+uncovered.py has the reasons.
 
 Refusals are proved for all numbers. Their instructions count as run. But the ways of their conditions don't count: else they would cover a
 condition that asks for a single length. If an assembly file changes, its record has to be written again."""

@@ -14,7 +14,7 @@ from statements.calls import Stream
 from statements.keyed import PTRDIFF_MAX, facts_of_range
 from statements.standards import padded
 from statements.steps import NO_STEP
-from symbols.bits import DATA, KEY
+from symbols.bits import DATA, KEY, Unproved
 
 OF_ADDITIONAL, FILLED, LEFT = "bytes of the last block of additional data", "bytes of a block before a piece", "bytes after that block"
 # The parts in which GHASH reads a piece: the bytes that fill up a block, and those that are left then. The first piece of a text ends the
@@ -267,11 +267,14 @@ class AnyPieces:
         stream, more = self.crypted(piece)
         sealed, block = self.pattern(self.sealed), self.any_bytes("rest of a piece")
         plain = self.aes.xor(sealed, stream)
+        own = {c for b in (*block, *sealed, *self.full_block(), *self.before_piece()[1]) for c in self.domain.cells(b)}
 
         def rest(m):
             step, count = piece.hash_rest(m), left_of_block(m.known(left))
             kept = m.regions["message"].content[REST:]
             if step[0] == "again" and kept != block:
+                if not all(own.issuperset(m.domain.cells(b)) for b in kept[count:]):
+                    raise Unproved("something else than a part of a block is where one was")
                 return "here", [*sum(piece.last_bytes(m), []), *kept[count:]], 2 * block[:count] + block[count:]
             return ("again", "text", (sealed, plain, False, filled - 16, filled)) if step[0] == "again" else step
 

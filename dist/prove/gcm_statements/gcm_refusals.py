@@ -164,8 +164,8 @@ class Refusals:
             for length, facts in self.keyed.lengths_but((16,), "tag"):
                 yield Call("gcm_accept", [gcm, message, unused_buffer("tag", False), length], TAG_LENGTH, facts=message_facts | facts)
             for fixed, facts in self.keyed.lengths_but(SHORT_TAGS, "fixed"):
-                arguments = [gcm, message, fixed, unused_buffer("tag", False), fixed]
-                yield Call("gcm_accept_short", arguments, TAG_LENGTH, facts=message_facts | facts)
+                arguments = [gcm, message, fixed, unused_buffer("tag", False), n]
+                yield Call("gcm_accept_short", arguments, TAG_LENGTH, facts=message_facts | facts | facts_of_range(n, 0, self.highest))
             for fixed, facts in itertools.product(SHORT_TAGS, unequal(n, 0)):
                 yield Call("gcm_accept_short", [gcm, message, fixed, unused_buffer("tag", False), n + fixed], TAG_LENGTH,
                            facts=message_facts | facts_of_range(n + fixed, 0, self.highest) | facts)

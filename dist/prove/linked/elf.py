@@ -5,7 +5,7 @@ from collections import namedtuple
 
 from symbols.bits import Unproved
 
-Section = namedtuple("Section", "name kind flags address content size entry link info")
+Section = namedtuple("Section", "name kind flags address content size entry link info align")
 Symbol = namedtuple("Symbol", "name binding kind visibility section value")
 Relocation = namedtuple("Relocation", "offset kind symbol addend")
 
@@ -21,6 +21,7 @@ RISCV_ATTRIBUTES = 0x70000003
 # Flags of sections.
 WRITTEN = 1
 LOADED = 2
+EXECUTED = 4
 MERGED = 16
 FLAGS = 7  # those for written, loaded and run
 LOCAL, GLOBAL = 0, 1  # of symbols
@@ -46,7 +47,7 @@ class Elf:
         def content(header):
             return b"" if header[1] == NO_BITS else self.raw[header[4]:header[4] + header[5]]
 
-        self.sections = [Section(name(h), *h[1:4], content(h), h[5], h[9], *h[6:8]) for h in headers]
+        self.sections = [Section(name(h), *h[1:4], content(h), h[5], h[9], *h[6:9]) for h in headers]
         self.offsets = [header[4] for header in headers]
 
     def string(self, at):

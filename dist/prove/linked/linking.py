@@ -6,7 +6,7 @@ import os
 
 from linked.builds import BUILDS, MACHINES, is_windows, library_of, narrow_word, source, suffix_of
 from linked.elf import SYMBOLS, Comparison, Elf, exports_of
-from linked.layout import MOVED_BY, WINDOWS_SCRIPT, compare_links, parted_constants, reversed_script
+from linked.layout import MOVED_BY, OF_HOST, WINDOWS_SCRIPT, compare_links, parted_constants, reversed_script
 from linked.program import Program
 from linked.refusals import fault_of, refuse_instructions, refuse_names, refuse_names_of_windows, refuse_plain, refuse_sections
 from linked.tools import run, write
@@ -109,7 +109,7 @@ def program_of(build, path, out):
     if not is_windows(build):
         refuse_sections(path)
     program = link(out, BUILDS[build], [path], suffix_of(build))
-    compare_links(program, link(out + ".moved", BUILDS[build], [path], suffix_of(build), MOVED_BY))
+    compare_links(program, link(out + ".moved", BUILDS[build], [path], suffix_of(build), MOVED_BY), path)
     program.narrow, program.build = narrow_word(build), build
     refuse_instructions(program, suffix_of(build))
     return program
@@ -118,7 +118,7 @@ def program_of(build, path, out):
 def assemble(build, path, out):
     """Assembles a file in each way of the Makefile, and gives its Program. Only names may differ between these ways."""
     machine, suffix = BUILDS[build], suffix_of(build)
-    run(*machine.compiler, *["-Wa,-defsym,chosen=1"] * bool(suffix), "-c", path, "-o", out + ".o")
+    run(*machine.compiler, *["-Wa,-defsym,chosen=1"] * bool(suffix), "-c", path, "-o", out + ".o", warns=False)
     if is_windows(build):
         return program_of(build, out + ".o", out)
     refuse_names(out + ".o", suffix)
@@ -138,15 +138,15 @@ def link(out, machine, objects, suffix="", moved_by=0):
     names there: the proof uses their contracts. `moved_by`: how much higher the addresses are."""
     # (The option keeps gcc from making a call of memset out of the loop in the host's memset.)
     host = out + ".host.o"
-    run(*machine.compiler, "-O2", "-fno-tree-loop-distribute-patterns", "-fno-asynchronous-unwind-tables", "-fno-ident",
+    run(*machine.compiler, "-O2", "-ffunction-sections", "-fno-tree-loop-distribute-patterns", "-fno-asynchronous-unwind-tables", "-fno-ident",
         "-DODD=%d" % (3 if moved_by else 1), "-c", PROVE_FOLDER + "/host.c", "-o", host)
     if machine is Windows:
         link_for_windows(out, machine, [host, *objects], moved_by)
         return Program(out, machine, suffix)
-    write(out + ".ld", reversed_script(machine, objects, moved_by > 0))
-    run(*machine.linker, "-static", "-e", "start", "--build-id=none", "-z", "noexecstack", "-T", out + ".ld",
-        "-Ttext-segment=0x%x" % (machine.start + moved_by), host, parted_constants(machine, objects, out + ".parted", moved_by), *objects,
-        "-o", out)
+    write(out + ".ld", reversed_script(machine, [host, *objects], moved_by > 0))
+    run(*machine.linker, "-static", *["--emit-relocs"] * bool(machine.relocations), "-e", "start", "--build-id=none", "-z", "noexecstack", "-T", out + ".ld",
+        "-Ttext-segment=0x%x" % (machine.start + moved_by), host, parted_constants(machine, objects, out + ".parted", moved_by > 0),
+        *objects, "-Map", out + ".map", "-o", out)
     return Program(out, machine, suffix)
 
 
@@ -154,9 +154,11 @@ def link_for_windows(out, machine, objects, moved_by):
     """Links objects with Windows' linker, at addresses of more than 32 bits, and turns the result into an ELF file. (The function that
     touches the stack does nothing here.)"""
     base = machine.start + moved_by
-    write(out + ".ld", WINDOWS_SCRIPT % (base + 4096, "0x5a" if moved_by else "0xa5"))
+    room, *apart = (128, "0x5a", 8192, 128) if moved_by else (64, "0xa5", 64, 64)
+    code = "".join("*host.o(.text$%s) . = . + %d; " % (name, room) for name in OF_HOST)
+    write(out + ".ld", WINDOWS_SCRIPT % (base + 4096, code, *apart))
     run(*machine.linker, "-e", "start", "--image-base", hex(base), "--defsym", "___chkstk_ms=start", "-T", out + ".ld", *objects,
-        "-o", out + ".exe")
+        "-Map", out + ".map", "-o", out + ".exe")
     run("objcopy", "-I", "pei-x86-64", "-O", "elf64-x86-64", out + ".exe", out)
 
 

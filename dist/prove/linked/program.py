@@ -1,4 +1,5 @@
 """Reads a linked file: its instructions, functions, exports and constants."""
+import bisect
 import functools
 import re
 import subprocess
@@ -6,8 +7,8 @@ import subprocess
 from covered.noted import Noted
 from linked.elf import CONTENT, FLAGS, LOADED, Elf
 from machines.machine import LIBC
+from machines.operands import CODE, FARTHEST, PAGE, Pointer, lanes
 from symbols.bits import Unproved
-
 
 class Program:
     """The code and the constants of a linked file, as objdump and the section headers give them."""
@@ -25,7 +26,26 @@ class Program:
         self.exports = {name.removesuffix(suffix): self.symbols[name] for _, kind, name in symbols
                         if kind in "Tt" and name.startswith("fotsgure_") and name.endswith(suffix)}
         self.constants, self.addresses = self.constant_sections()
-        self.distances = set()  # the addresses of bytes of constants that depend on where code lies (layout.py)
+        # Of another link (layout.py): (begin, end, how much higher it is there) of each section, in order; where those of the object begin;
+        # {address of an instruction: how much greater its number is there}; and the Program. A program with one link has none.
+        self.units, self.own_units, self.moved_numbers, self.other = [], set(), {}, None
+        # Of instructions that make an address in two steps: {address: the target} for the upper part, and for the lower one. (layout.py
+        # adds the number of the lower one.) And the addresses of bytes of constants that a relocation sets.
+        self.related = set()
+        self.upper_parts, self.low_parts = self.parts_of_addresses() if machine.relocations else ({}, {})
+
+    def parts_of_addresses(self):
+        """Reads the relocations that the linker kept. Refuses all but addresses and distances in code, and those in constants."""
+        elf, found = Elf(self.path), {"page": {}, "low": {}, "distance": {}}
+        for number, relocations in elf.relocations.items():
+            if elf.sections[number].name.startswith(".rodata"):
+                raise Unproved("has constants that depend on where code lies")
+            for r in relocations if elf.sections[number].name == ".text" else ():
+                part = self.machine.relocations.get(r.kind)
+                if part is None:
+                    raise Unproved("has a relocation of kind %d in code, at %x" % (r.kind, r.offset))
+                found[part][r.offset] = self.machine.target_of(r, part)
+        return found["page"], found["low"]
 
     def tool(self, name, *options):
         """Gives what a tool of binutils prints of the file."""
@@ -70,6 +90,57 @@ class Program:
     def function_of(self):
         """Gives {address of the first instruction: addresses of all instructions} of each function."""
         return {min(addresses): addresses for addresses in self.functions().values()}
+
+    def unit_of(self, address):
+        return self.units[bisect.bisect(self.units, (address + 1,)) - 1] if self.units else (0, address + FARTHEST, 0)
+
+    @functools.cache
+    def moved_by(self, address, size=0):
+        """Gives how much higher the section of some bytes is in another link."""
+        begin, end, moved = self.unit_of(address)
+        if not begin <= address <= end - size:
+            raise Unproved("%d bytes at %x, which aren't in a section" % (size, address))
+        return moved
+
+    @functools.cache
+    def address(self, at, moved=None, size=0):
+        """Gives the address of some bytes as a value. Another link moves it by `moved`, if that is known: by as much as its section."""
+        # (If a linker makes code shorter, even the distances within a section depend on where others lie. And nothing is known of libc's.)
+        base = at if at in self.lines and (self.machine.relaxed or not self.is_own(at)) else self.unit_of(at)[0]
+        if self.moved_by(at, size) != moved is not None:
+            raise Unproved("an address that depends on where code lies")
+        return Pointer("%s%x" % (CODE, base), at)
+
+    def page(self, at, number):
+        """Gives the upper part of an address that an instruction makes."""
+        return Pointer("%s%s, %d, moved by %d" % (PAGE, self.upper_parts.get(at), number, self.moved_numbers.get(at, 0)), number)
+
+    @functools.cache
+    def is_own(self, at):
+        """Whether an instruction is of the object that is proved, and not of what is linked with it."""
+        return not self.units or self.unit_of(at)[0] in self.own_units
+
+    def leads_to_another_section(self, here, to):
+        """Whether a jump leads to another section, so that a linker may put code between."""
+        return isinstance(to, int) and self.unit_of(here) != self.unit_of(to)
+
+    def place_of(self, constant, begin, size):
+        """Gives where a constant is in a part of the constants."""
+        start, content = next((start, content) for start, content in self.constants if start <= begin < start + len(content))
+        entries = lanes(content[begin - start:][:size], len(constant))
+        return begin + entries.index(constant) * len(constant)
+
+    @functools.cache
+    def distance_at(self, address, size):
+        """Gives a number among the constants, and how much greater it is in another link. If it isn't, but is a part of a distance, it
+        counts as 1 greater."""
+        links = (self, address), (self.other or self, address + self.moved_by(address, size))
+        number, other = (int.from_bytes(program.constant_at(at, size), "little", signed=True) for program, at in links)
+        return number, other - number or int(not self.related.isdisjoint(range(address, address + size)))
+
+    def constant_at(self, address, size):
+        """Gives bytes of constants."""
+        return next(content[address - start:][:size] for start, content in self.constants if start <= address < start + len(content))
 
     def covered(self):
         """Gives what the cases that ran cover. (An instruction that was decoded ran.)"""

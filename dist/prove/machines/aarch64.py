@@ -8,8 +8,8 @@ from collections import namedtuple
 from covered.borders import distances
 from loops.linear import Linear
 from machines.machine import Machine
-from machines.operands import (CODE, RETURN_ADDRESS, SECRET, Instruction, Memory, Pointer, Register, Scaled, Table, Vector, concatenated,
-                               constant, contrary, form, in_code, interleaved, is_int, lanes)
+from machines.operands import (RETURN_ADDRESS, SECRET, Instruction, Memory, Register, Scaled, Table, Vector, concatenated,
+                               constant, contrary, form, interleaved, is_int, lanes)
 from symbols.bits import LOST, Undefined, Unproved
 
 Shifted = namedtuple("Shifted", "operand how count")
@@ -40,6 +40,8 @@ class Aarch64(Machine):
     comment = "//"
     jumps = r"b(?:\.\w+)?|cbn?z|tbn?z"
     trap = "LONG(0) "
+    relocations = {**dict.fromkeys((275, 311), "page"), **dict.fromkeys((277, 278, 284, 285, 286, 299, 312), "low"),
+                   **dict.fromkeys((282, 283), "distance")}
     conditional, padding = r"b\.|cbn?z|tbn?z|adcs?\s|sbcs?\s|csinc\s.*, c[cs]\b", r"hint\s#0x0$|udf"
     sets_flags = "adds|subs|ands|bics|adcs|sbcs|ccmp|ccmn"
     without_result, stores = r"b$|b\.|blr?$|br$|ret|cbn?z|tbn?z|ccmp|hint|prfm", "st"
@@ -67,11 +69,20 @@ class Aarch64(Machine):
         operands = parse(rest, with_target)
         return Instruction(run, name, operands, following, form(name, operands, with_target))
 
+    @staticmethod
+    def upper_part(at, instruction):
+        return instruction.operands[1]
+
+    @staticmethod
+    def target_of(relocation, part):
+        _, _, symbol, addend = relocation
+        return "%s of section %d at %x + %d" % (symbol.name, symbol.section, symbol.value, addend)
+
     def get(self, o):
         if isinstance(o, Shifted):
             value, size = self.get(o.operand), getattr(o.operand, "size", 8)
             if o.how == "uxtb":
-                return self.from_bytes([*self.to_bytes(value, size)[:1], *[0] * (size - 1)])
+                return self.from_bytes([*self.to_bytes(value, size)[:1], *[0] * (self.word - 1)])
             return self.shift(o.how, value, o.count, size)
         return super().get(o)
 
@@ -159,7 +170,7 @@ def is_zero(m, a):
 def marked(m, name, to):
     """Gives where a jump or a call leads. If it is indirect, that has to be libc's function, or a mark. `bti c` is a mark for calls, and for
     jumps by x16 and x17."""
-    address = in_code(m.get(to))
+    address = m.code_target(m.get(to))
     is_mark = is_int(address) and re.match(m.landing_mark, m.program.lines.get(address, ""))
     if isinstance(to, Register) and address not in (*m.externals, m.program.symbols["start"]) and not (
             is_mark and (name == "blr" or to.name in ("x16", "x17"))):
@@ -181,7 +192,7 @@ TABLE = Table({
     "tbnz": lambda m, name, a, n, to: m.go_to(to if is_set(m, a, n) else m.next_address),
     "movz": lambda m, name, to, value: m.put(to, m.get(value)),
     "movn": lambda m, name, to, value: m.put(to, ~m.get(value) & (1 << 8 * to.size) - 1),
-    "adrp": lambda m, name, to, page: m.put(to, Pointer(CODE, page)),
+    "adrp": lambda m, name, to, page: m.put(to, m.program.page(m.last, page)),
     "umulh": lambda m, name, to, a, b: m.put(to, m.high_product(m.get(a), m.get(b))),
     **dict.fromkeys(("lslv", "lsrv"), lambda m, name, to, a, n: m.put(to, m.shift(name[:3], m.get(a), constant(
         "a count", m.get(n)) % (8 * to.size), to.size))),
@@ -193,14 +204,14 @@ for _code in CONDITIONS:
 
 @TABLE.of("bl", "blr")
 def call(m, name, to):
-    to, m.general["x30"] = marked(m, name, to), Pointer(CODE, m.next_address)
+    to, m.general["x30"] = marked(m, name, to), m.program.address(m.next_address)
     branch(m, name, to)
 
 
 @TABLE.of("b")
 def branch(m, name, to):
     """Jumps. On the way to another function a linker may put code that changes x16 and x17."""
-    if in_code(to) in m.program.function_of:
+    if m.program.leads_to_another_section(m.last, m.code_target(to)):
         m.general.update((r, tuple(m.after_libc(False, m.to_bytes(m.general[r], 8)))) for r in ("x16", "x17"))
     m.go_to(to)
 
@@ -333,6 +344,7 @@ def load(m, name, *operands):
         b = m.load(m.offset(at, k * size), size, size if name in ("ldar", "ldaxr") else 1)
         m.write(to, b + [0] * (to.size - size))
     m.move(source.base, source.after)
+    m.exclusive = (m.steps, at, size) if name == "ldaxr" else None
 
 
 @TABLE.of("str", "stur", "stp", "strb", "sturb", "strh", "sturh", "st1")
@@ -347,7 +359,15 @@ def store(m, name, *operands):
 
 @TABLE.of("stlxr")
 def store_exclusive(m, name, failed, source, to):
-    """Stores, and succeeds. A processor may also fail and store nothing. Then the code tries again, until it succeeds as here."""
+    """Stores, and succeeds. A processor may also fail and store nothing. Then the code has to try again, until it succeeds as here: `ldaxr`
+    of the same place comes just before, and `cbnz` just after. Before `ldaxr` it may only make the address from the stack pointer."""
+    here = m.program.instruction_at
+    again = here(m.next_address)
+    tries = again.name == "cbnz" and again.operands[0] == failed and m.last - 16 <= again.operands[1] <= m.last - 4 and all(
+        i.name == "add" and i.operands[1].name in ("sp", "x29") and is_int(i.operands[2]) and i.operands[0].name not in ("sp", "x29")
+        for i in map(here, range(again.operands[1], m.last - 4, 4)))
+    if not tries or m.exclusive != (m.steps - 1, m.address(to), source.size) or failed.name in ("xzr", source.name, to.base):
+        raise Unproved("an exclusive store that isn't tried until it succeeds")
     m.store(m.address(to), m.read(source), source.size)
     m.put(failed, 0)
 

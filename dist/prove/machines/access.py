@@ -2,7 +2,7 @@
 import re
 
 from loops.linear import Linear, is_number
-from machines.operands import CODE, HEAD, Memory, Number, Pointer, Register, Vector, in_code, is_int, is_pointer
+from machines.operands import CODE, HEAD, PAGE, Memory, Number, Pointer, Register, Vector, is_in_code, is_int, is_pointer
 from machines.regions import Window
 from symbols.bits import Pause, Unproved
 
@@ -12,12 +12,14 @@ UNALIGNED = "an aligned access of %s, of which the alignment isn't known"
 class Access:
     def get(self, o):
         if isinstance(o, Register):
-            v = self.general[o.name]
+            v = self.completed(self.general[o.name])
             return v if o.size == self.word else self.from_bytes(self.to_bytes(v, self.word)[o.at:o.at + o.size])
         return o if isinstance(o, int) else self.from_bytes(self.load(self.address(o), o.size, o.align))
 
     def put(self, o, v):
         """Writes an operand. A write of 4 bytes clears the rest of the register. One of 1 or 2 bytes leaves the rest."""
+        if type(v) in (tuple, list) and len(v) != o.size:
+            raise Unproved("a value of another size than its operand")
         if isinstance(o, Memory):
             self.store(self.address(o), self.to_bytes(v, o.size), o.align)
         elif o.name in self.reserved:
@@ -46,16 +48,35 @@ class Access:
     def address(self, o):
         """Gives the address of an access, and moves the base register before it. ARM's `load` and `store` move it after the access."""
         self.move(o.base, o.before)
-        a = o.offset if o.base or o.index else Pointer(CODE, o.offset)
+        a = o.offset if o.base or o.index else self.program.address(o.offset, self.program.moved_numbers.get(self.last))
         for name, scale in ((o.base, 1), (o.index, o.scale)):
             if name:
-                v = self.general[name]
+                v = self.completed(self.general[name])
                 if scale != 1 and not is_number(v) or not isinstance(v, (int, Linear, Pointer, Number)):
                     raise Unproved("an address depends on the key or on data")
                 if name == self.stack_pointer and v.offset % self.stack_step:
                     raise Unproved("the stack pointer isn't aligned")
                 a = self.offset(a, v * scale if is_number(v) else v)
         return a
+
+    def completed(self, value):
+        """Gives a value as this instruction reads it. If that adds the lower part of an address to the upper one, an address in the code
+        results. The same holds if it adds a distance to a table for jumps."""
+        if not isinstance(value, Pointer) or value.base in self.regions or self.is_alone:
+            return value
+        step, number, moved = self.table_entry
+        if self.steps == step + 1 and is_in_code(value):
+            moved += self.program.moved_by(int(value.base.removeprefix(CODE), 16))
+            return value._replace(base=self.program.address(value.offset + number, moved).base)
+        target, number = self.program.low_parts.get(self.last, (None, 0))
+        if target is None or not value.base.startswith(PAGE + target + ", "):
+            return value
+        upper, moved = value.base.rpartition(", moved by ")[::2]
+        if not upper.endswith(", %s" % value.offset):
+            raise Unproved("adds the lower part of an address to something else than the upper one")
+        self.page_read = value
+        moved = int(moved) + self.program.moved_numbers.get(self.last, 0)
+        return value._replace(base=self.program.address(value.offset + number, moved).base)
 
     def move(self, register, by):
         if by:
@@ -73,7 +94,7 @@ class Access:
                     back = -o.before - o.offset - 16 * o.scale * bool(o.index)
                     self.general[o.base] = Pointer(place, middle + back // step * step)
             elif isinstance(o, Register) and o.name != "zero" and instruction.name in ("jmp", "call", "blr", "br", "jalr"):
-                self.general[o.name] = Pointer(CODE, self.program.symbols["start"])
+                self.general[o.name] = self.program.address(self.program.symbols["start"])
             elif instruction.name == "sub" and instruction.operands[0] == Register(self.stack_pointer, self.word) != o and isinstance(
                     o, Register):
                 self.general[o.name] = 2 * self.word  # the stack pointer stays aligned
@@ -81,8 +102,9 @@ class Access:
     # Memory.
     def place(self, address, size, write, align=1):
         """Gives the list of bytes that an access means, and the place in it. Refuses an access that isn't allowed."""
-        at = in_code(address)
-        if is_int(at) and is_pointer(address) and not write and at % align == 0:  # (a number can be the right address in one link only)
+        if is_in_code(address) and not write and is_int(at := address.offset) and at % align == 0:
+            if self.program.address(at, size=size) != address:
+                raise Unproved("reads constants of another section than the one from which the address was made")
             for start, content in self.program.constants:
                 if start <= at and at + size <= start + len(content):
                     return content, at - start
@@ -137,16 +159,18 @@ class Access:
         content, o = self.place(address, size, False, align)
         if content is self.program.addresses:
             return self.addresses_at(content[o:o + size])
-        if not is_pointer(in_code(address)):
-            self.refuse_distance(in_code(address), size)
-            self.program.noted.looked_up.add((self.last, in_code(address)))
+        if is_in_code(address):
+            self.refuse_distance(address.offset, size)
+            self.program.noted.looked_up.add((self.last, address.offset))
         if self.stack.stale and content is self.regions["stack"].content and self.stack.is_stale(o, size):
             raise Unproved("reads what may have been overwritten below the stack pointer")
         return list(content[o:o + size])
 
     def refuse_distance(self, address, size):
         """Refuses to read a distance in the code, except for a jump by a table."""
-        if not self.program.distances.isdisjoint(range(address, address + size)):
+        number, moved = self.program.distance_at(address, size)
+        if moved:
+            self.table_entry = self.steps, number, moved
             second = self.program.next.get(self.last)
             lines = (self.program.lines.get(a, "") for a in (self.last, second, self.program.next.get(second)))
             if not re.fullmatch(self.jump_by_table, "; ".join(re.sub(r"\s+", " ", line) for line in lines)):
@@ -156,7 +180,7 @@ class Access:
         """Gives an address that the linker put into its table."""
         if len(content) != self.word:
             raise Unproved("reads a part of an address")
-        return self.to_bytes(Pointer(CODE, int.from_bytes(content, "little")), self.word)
+        return self.to_bytes(self.program.address(int.from_bytes(content, "little")), self.word)
 
     def store(self, address, b, align=1):
         inside = self.in_head(address, len(b))

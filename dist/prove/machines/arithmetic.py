@@ -1,7 +1,7 @@
 """Gives the bytes and bits of a machine's values. Adds and subtracts values, and gives the flags of the results."""
 from loops.linear import Linear, is_number, wrapped
-from machines.operands import (CODE, SECRET, Distance, Negated, Number, Placed, Pointer, Scaled, Shifted, Verdict, concatenated, contrary,
-                               in_code, is_int, is_pointer)
+from machines.operands import (SECRET, Distance, Negated, Number, Placed, Pointer, Scaled, Shifted, Verdict, concatenated, contrary,
+                               is_in_code, is_int, is_pointer)
 from machines.regions import Window
 from symbols.bits import PUBLIC, Unproved
 
@@ -187,7 +187,7 @@ class Arithmetic:
 
     def minus(self, x, y, size, carry=1):
         """Computes x - y, or one less if `carry` is 0, and its flags. The flag c says that there is no borrow."""
-        if is_pointer(y) and y.base == CODE:
+        if is_in_code(y):
             raise Unproved("computes with where the code lies")
         if y == 0 and carry and self.is_placed(x):
             return x, {"z": 0, "c": 1}
@@ -241,10 +241,10 @@ class Arithmetic:
         if isinstance(x, Verdict):
             zero = self.zero_flag(x.differences)
             return {"z": zero} if y == x.right else {"z": contrary(zero)} if is_int(y) and y == x.wrong else {}
-        if is_int(x_at := in_code(x), y_at := in_code(y)) and is_pointer(x, y):
-            if not self.program.distances.isdisjoint(range(min(x_at, y_at), max(x_at, y_at))):
-                raise Unproved("compares addresses of which the distance depends on where code lies")
-            return {"z": int(x_at == y_at)}
+        if is_in_code(x) and is_in_code(y):
+            if x.base != y.base or not is_int(x.offset, y.offset):
+                raise Unproved("compares addresses of which the distance depends on a length, or on where code lies")
+            return {"z": int(x.offset == y.offset)}
         if isinstance(x, Shifted) and y == 0:
             return self.zero_and_sign(x, size)
         if isinstance(x, Shifted) and is_int(y):

@@ -3,7 +3,8 @@ import functools
 
 from loops.linear import names_in, unknown
 from machines.machine import Allowed
-from machines.operands import NEVER, CounterWord, Distance, Negated, Number, Pointer, Question, concatenated, is_pointer
+from machines.operands import (NEVER, WORD, CounterWord, Distance, Negated, Number, Pointer, Question, Scaled, Shifted, concatenated,
+                               is_pointer)
 from symbols.bits import Unproved
 
 MOST_QUESTIONS = 20
@@ -19,13 +20,13 @@ class Kinds:
         self.drawn, self.asked = 0, 0  # how often values were drawn, and what was asked of them since
 
     def give(self, m):
-        """Puts values of one kind into registers and memory, and numbers that are close to some of them."""
+        """Puts values of some kinds into registers and memory, and numbers that are close to some of them."""
         r, word = self.random, m.word
         self.drawn, self.asked = self.drawn + 1, 0
-        draw = r.choice((self.addresses, self.numbers, self.counter))
-        m.allowed = Allowed(any_length=draw != self.counter and r.random() < 0.5, divides=r.random() < 0.5)
+        draws = r.sample((self.addresses, self.numbers, self.counter), r.choice((1, 1, 1, 2, 3)))
+        m.allowed = Allowed(any_length=self.counter not in draws and r.random() < 0.5, divides=r.random() < 0.5)
         m.quotient, m.compare_numbers = functools.partial(self.quotient, m), functools.partial(self.compare_numbers, m)
-        values = draw(m)
+        values = concatenated(draw(m) for draw in draws)
         words = [x for x in map(self.values.word, values) if x is not None]
         values += [r.choice(words) + r.choice(FEW) & m.highest, r.choice(words) + r.choice(FEW) & m.highest, r.choice(FEW) & m.highest]
         m.general.update({name: r.choice(values) for name in m.registers if name != "zero" and not is_pointer(m.general[name])})
@@ -47,7 +48,9 @@ class Kinds:
         self.values.base[name] = draw((0, 1, most, self.random.randint(0, most)))
         self.values.base[counted] = draw((0, 1, 0xffffffff, self.random.getrandbits(32)))
         m.facts = frozenset((unknown(name), most - unknown(name)))
-        return [Number(counted, draw(FEW) & 0xffffffff), *(unknown(name) * draw((1, 1, 2, 16, 256, -1, -16)) + draw(FEW) for _ in range(4))]
+        parts = [Shifted(unknown(name), draw((1, 4, 7)))] + [Scaled(unknown(name), draw((0xaaaaaaaaaaaaaaab, WORD)))] * (m.word == 8)
+        numbers = [unknown(name) * draw((1, 1, 2, 16, 256, -1, -16)) + draw(FEW) for _ in range(4)]
+        return [Number(counted, draw(FEW) & 0xffffffff), *parts, *numbers]
 
     def counter(self, m):
         """Draws words of a counter. All bits of its highest word may be set. Those of a word between that and the lowest may not."""

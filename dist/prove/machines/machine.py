@@ -11,6 +11,7 @@ beginning of a line of objdump.
     compiler, linker       gcc and ld, with their options
     start                  the address where the code is linked
     whole_results          whether a result of 32 bits has a whole register, as a number with a sign
+    relocations            what a relocation of code names, by its kind: the upper part of an address, the lower one, or a "distance"
     relaxed                whether the linker makes code shorter, so that a library isn't compared with an object
     strict                 whether an access has to be aligned, so that a struct is
     objdump                the options with which it prints what `decode` reads
@@ -33,6 +34,9 @@ beginning of a line of objdump.
     conditional            a pattern of conditional jumps and of adds with carry
     padding                a pattern of instructions that only fill up space
     choosing               a pattern of instructions that choose a value by a condition
+    usual_addend           what a relocation of a call, or of an access to the linker's table of addresses, adds to the address
+    upper_part(at, instruction) gives the upper part of an address that an instruction makes (`relocations`)
+    target_of(relocation, part) names the address of which a relocation names a part
     decode(text, following)     gives a line of objdump as an Instruction; `following` is the next address
     leave()                     goes on at the return address, after libc's function
     condition(code)             gives a condition as 0 or 1, by the flags (see Machine.decide)"""
@@ -48,7 +52,7 @@ from machines.access import Access
 from machines.arithmetic import Arithmetic
 from machines.bytewise import Bytewise
 from machines.operands import (FARTHEST, RETURN_ADDRESS, SECRET, WORD, Distance, Memory, Number, Pointer, Question, Verdict,
-                               concatenated, constant, in_code, is_int, is_pointer)
+                               concatenated, constant, is_in_code, is_int, is_pointer)
 from machines.secret_bytes import SecretBytes
 from machines.stack_use import StackUse
 from symbols.bits import PUBLIC, Pause, Undefined, Unproved
@@ -85,6 +89,8 @@ class Machine(Arithmetic, Borders, Unknowns, Bytewise, Results, Access):
     flag_names = "czso"
     start = 0x123456700000
     strict = False
+    relocations = {}
+    usual_addend = 0
     whole_results = False
     relaxed = False
     comment = "#"
@@ -102,6 +108,9 @@ class Machine(Arithmetic, Borders, Unknowns, Bytewise, Results, Access):
         self.next_address, self.last = entry, entry
         self.steps = 0
         self.used = {}
+        self.page_read = None  # the upper part of an address, to which this instruction adds the lower one
+        self.table_entry = -1, 0, 0  # the step that read a distance in a table for jumps, the distance, how much greater it is in another link
+        self.is_alone = False  # whether it runs single instructions (native.py)
         self.externals = {program.symbols[n]: n for n in (*LIBC, *self.also_called) if n in program.symbols}
         self.native = None  # the processor beside this machine (native.py)
         self.after_external = None  # the function of libc that has just run, for that processor
@@ -113,6 +122,7 @@ class Machine(Arithmetic, Borders, Unknowns, Bytewise, Results, Access):
         self.steps_found, self.phase = 0, 0
         self.expected_step = None
         self.origins = {}  # what a result depended on, by the (cell, block) that replaced it
+        self.exclusive = None  # the last exclusive load (aarch64.py)
         self.last_written = (), 0  # a list of bytes, and where in it
         self.ever_written = {}  # the bytes that were written to each of the caller's buffers, even if they were overwritten later
         self.facts = frozenset()  # numbers that are 0 or more (unknowns.py)
@@ -285,11 +295,14 @@ class Machine(Arithmetic, Borders, Unknowns, Bytewise, Results, Access):
         instruction = self.program.instruction_at(self.last)
         self.used[instruction.form] = self.last
         self.next_address, stack_pointer = instruction.next, self.general[self.stack_pointer]
+        self.page_read = None
         noted = self.program.noted
         if self.last in noted.finished_addresses or not noted.accepts:
             instruction.run(self, instruction.name, *instruction.operands)
         else:
             self.run_noted(instruction)
+        if self.last in self.program.low_parts and not (self.page_read or self.is_alone):
+            raise Unproved("computes with a part of an address, as with a number")
         if self.general[self.stack_pointer] is not stack_pointer:
             self.follow_stack_pointer(stack_pointer, self.general[self.stack_pointer])
 
@@ -305,9 +318,20 @@ class Machine(Arithmetic, Borders, Unknowns, Bytewise, Results, Access):
             raise Unproved("the stack pointer is deeper than the header says")
         self.stack.mark_stale(before.offset - self.red_zone, after.offset - self.red_zone)
 
+    def code_target(self, value):
+        """Gives where a jump leads: a number, if it is an address in the code. A jump may not leave the section from which its address was
+        made."""
+        if not is_in_code(value):
+            return value
+        if self.program.address(value.offset, size=1) != value:
+            raise Unproved("goes on at an address that depends on where code lies")
+        return value.offset
+
     def go_to(self, address):
         """Jumps to an address in the code, or to the return address of the call."""
-        address = in_code(address)
+        address = self.code_target(address)
+        if is_int(address) and not (self.program.is_own(address) or address in self.externals or self.is_alone):
+            raise Unproved("jumps into a function of libc, and not to its begin")
         if not (is_int(address) or address == RETURN_ADDRESS):
             raise Unproved("goes on at an address that depends on the key or on data")
         self.next_address = address
@@ -337,7 +361,10 @@ class Machine(Arithmetic, Borders, Unknowns, Bytewise, Results, Access):
         """Calls a function of libc by its contract. Registers that it may change become undefined."""
         if name in self.also_called:  # it accesses each page of a frame, whose size it is given
             frame = constant("the size of a frame", self.general[self.result])
-            self.stack.go_down(self.general[self.stack_pointer].offset + self.word * len(self.pushed) - frame)
+            lowest = self.general[self.stack_pointer].offset + self.word * len(self.pushed) - frame
+            if lowest < self.stack.end:
+                raise Unproved("touches the stack deeper than the header says")
+            self.stack.go_down(lowest)
             self.set_flags()
             return self.leave()
         if (self.general[self.stack_pointer].offset + self.word * len(self.pushed)) % 16:

@@ -163,6 +163,7 @@ class Alone:
         """Gives a machine just before the instruction."""
         regions = {name: Region(self.bytes(SIZE), align=32) for name in ("buffer", "stack")}
         m = self.program.machine(self.domain, self.program, regions, address, [])
+        m.is_alone = True
         m.vectors = [self.bytes(m.vector_size) for _ in m.vectors]
         m.general.update({r: m.from_bytes(self.bytes(8)[:m.word]) for r in m.registers})
         m.general[m.stack_pointer], m.stack.top, m.stack.end = Pointer("stack", MIDDLE), SIZE, -FARTHEST

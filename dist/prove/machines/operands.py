@@ -51,9 +51,13 @@ HEAD = " head"  # how the name of a buffer's head ends
 LEAD, LAST = 2, 200  # The first block of a buffer of unknown length has the number LEAD. All numbers of blocks are less than LAST.
 SECRET = "secret"  # a flag that depends on the key or on data (None is an undefined flag)
 RETURN_ADDRESS = Pointer("return address", 0)
-# The base of addresses in the file of the code. Their offsets are addresses of one link. Only an access, a jump or another such address may
-# be made from one, so nothing depends on where a linker puts the code.
-CODE = "the code"
+# How the base of an address in the file of the code begins. Its offset is the address in one link. The base says from which section the
+# address was made. Only an access or a jump to that section may be made from it, or another such address. So nothing depends on where a
+# linker puts sections.
+CODE = "the code at "
+# How the base of the upper part of such an address begins, in code that makes it in two steps. The base says of which address, and how much
+# higher it is in another link. Only the lower part of the same address may be added.
+PAGE = "a page of "
 WORD = (1 << 64) - 1
 
 
@@ -71,9 +75,8 @@ def is_pointer(*values):
     return True
 
 
-def in_code(value):
-    """Gives an address in the file of the code as a number, and anything else as it is."""
-    return value.offset if isinstance(value, Pointer) and value.base == CODE else value
+def is_in_code(value):
+    return isinstance(value, Pointer) and value.base.startswith(CODE)
 
 
 def constant(what, value):

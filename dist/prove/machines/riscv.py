@@ -8,8 +8,8 @@ import re
 
 from loops.linear import Linear, is_number, refuse
 from machines.machine import Machine
-from machines.operands import (CODE, RETURN_ADDRESS, SECRET, Distance, Instruction, Memory, Pointer, Register, Table, Verdict, constant,
-                               contrary, form, in_code, is_int, is_pointer)
+from machines.operands import (RETURN_ADDRESS, SECRET, Distance, Instruction, Memory, Register, Table, Verdict, constant,
+                               contrary, form, is_int, is_pointer)
 from symbols.bits import Pause, Undefined, Unproved
 
 S, A = ["s%d" % n for n in range(12)], ["a%d" % n for n in range(8)]
@@ -42,6 +42,7 @@ class Riscv(Machine):
     jumps, returns = r"(?:c\.)?(?:j|b[a-z]+)|jal(?=\tzero)", r"c\.jr\tra|jalr\tzero,0\(ra\)"
     conditional, padding = r"(c\.)?b(eq|ne|lt|ge)", r"c\.nop|addi\tzero,zero,0|c\.ebreak"
     trap = "SHORT(0x9002) "
+    relocations = {**dict.fromkeys((20, 23), "page"), 24: "low", **dict.fromkeys((0, 16, 17, 18, 19, 43, 44, 45, 51), "distance")}
     choosing = "slt"
     sets_flags = "(?!)"
     without_result, stores = "b(eq|ne|lt|ge)|jal|fence|amo", "s[bhwd]$"
@@ -52,6 +53,15 @@ class Riscv(Machine):
     def enter(self, arguments):
         super().enter(arguments)
         self.general.update(ra=RETURN_ADDRESS, zero=0)
+
+    @staticmethod
+    def upper_part(at, instruction):
+        return at + upper(instruction.operands[1])
+
+    @staticmethod
+    def target_of(relocation, part):
+        """(For the lower part, the symbol is the instruction that makes the upper one.)"""
+        return "%x" % (relocation.offset if part == "page" else relocation.symbol.value)
 
     def leave(self):
         self.go_to(self.target(Register("ra", self.word)))
@@ -331,7 +341,7 @@ TABLE = Table({
     "sltu": result(lambda m, x, y: m.chosen(m.number_below(x, y))),
     "slt": result(lambda m, x, y: m.chosen(m.number_below(m.signed(x), m.signed(y)))),
     "lui": result(lambda m, n: upper(n) & m.highest),
-    "auipc": result(lambda m, n: Pointer(CODE, m.last + upper(n) & m.highest)),
+    "auipc": result(lambda m, n: m.program.page(m.last, m.last + upper(n) & m.highest)),
     "add": result(added),
     "sub": result(lambda m, x, y: m.minus(x, y, m.word)[0]),
     "mul": result(lambda m, x, y: factor(x) * factor(y) & m.highest),
@@ -352,16 +362,18 @@ TABLE["slti"], TABLE["sltiu"] = TABLE["slt"], TABLE["sltu"]
 @TABLE.of("jal")
 def jump(m, name, link, to):
     """Jumps. On the way to another function far away, code changes t1 if it isn't a call."""
-    m.put(link, Pointer(CODE, m.next_address))
-    if link.name == "zero" and to in m.program.function_of:
+    if link.name != "zero":
+        m.put(link, m.program.address(m.next_address))
+    if link.name == "zero" and m.program.leads_to_another_section(m.last, to):
         m.general["t1"] = tuple(m.after_libc(False, m.to_bytes(m.general["t1"], m.word)))
     m.go_to(to)
 
 
 @TABLE.of("jalr")
 def jump_to(m, name, link, base, by):
-    to = in_code(m.offset(m.target(base), by))
-    m.put(link, Pointer(CODE, m.next_address))
+    to = m.code_target(m.offset(m.target(base), by))
+    if link.name != "zero":
+        m.put(link, m.program.address(m.next_address))
     m.go_to(to & ~1 if is_int(to) else to)
 
 

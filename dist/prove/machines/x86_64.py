@@ -4,8 +4,8 @@ import re
 
 from covered.borders import distances
 from machines.machine import Machine
-from machines.operands import (CODE, RETURN_ADDRESS, SECRET, WORD, Instruction, Memory, Pointer, Register, Scaled, Table, Vector,
-                               concatenated, constant, contrary, form, in_code, interleaved, is_int, lanes)
+from machines.operands import (RETURN_ADDRESS, SECRET, WORD, Instruction, Memory, Register, Scaled, Table, Vector, concatenated, constant,
+                               contrary, form, interleaved, is_int, lanes)
 from symbols.bits import Unproved
 
 R64 = "rax rcx rdx rbx rsp rbp rsi rdi r8 r9 r10 r11 r12 r13 r14 r15".split()
@@ -35,7 +35,7 @@ class X86_64(Machine):
     pushed = (RETURN_ADDRESS,)
     restored_registers = "rbx rsp rbp r12 r13 r14 r15".split()
     scratch = "rcx rdx rsi rdi r8 r9 r10 r11".split()
-    red_zone, landing_mark = 128, "endbr64"
+    red_zone, landing_mark, usual_addend = 128, "endbr64", -4
     jumps = r"j\w+"
     conditional = "j(?!mp)|adc|sbb"
     padding, trap = r"(data16 |cs )*nop|xchg +ax,ax|int3", "BYTE(0xcc) "
@@ -125,10 +125,10 @@ def pop(m):
     return value
 
 
-def of_a_word(operand):
-    """Gives an operand of `push` or `pop`, which has to have eight bytes."""
-    if not is_int(operand) and operand.size != 8:
-        raise Unproved("moves fewer bytes than a word to the stack, or from it")
+def of_a_word(operand, with_memory=True):
+    """Gives an operand of `push` or `pop`, which has to have eight bytes. (An access after rsp has moved couldn't be repeated.)"""
+    if not is_int(operand) and operand.size != 8 or isinstance(operand, Memory) and not with_memory:
+        raise Unproved("moves fewer bytes than a word to the stack, or from it, or pops into memory")
     return operand
 
 
@@ -146,9 +146,9 @@ TABLE = Table({
     "bswap": lambda m, name, to: m.write(to, m.read(to)[::-1]),
     "not": lambda m, name, to: m.write(to, [m.domain.xor_byte(b, 255) for b in m.read(to)]),
     "push": lambda m, name, source: push(m, m.get(of_a_word(source))),
-    "pop": lambda m, name, to: m.put(of_a_word(to), pop(m)),
+    "pop": lambda m, name, to: m.put(of_a_word(to, with_memory=False), pop(m)),
     "ret": lambda m, name: go_back(m),
-    "jmp": lambda m, name, to: m.go_to(constant("where a jump leads", in_code(m.target(to)))),
+    "jmp": lambda m, name, to: m.go_to(constant("where a jump leads", m.code_target(m.target(to)))),
 })
 for _code in CONDITIONS:
     TABLE["j" + _code] = lambda m, name, to, code=_code: m.go_to(to if m.condition(code) else m.next_address)
@@ -161,7 +161,7 @@ def lea(m, name, to, source):
     """Gives an address, or a sum of bytes that depend on a secret. One of these may be shifted."""
     registers = [(name, scale) for name, scale in ((source.base, 1), (source.index, source.scale)) if name]
     if tuple not in (type(m.general[name]) for name, _ in registers):
-        return m.put(to, m.address(source) if registers else Pointer(CODE, source.offset))
+        return m.put(to, m.address(source))
     total, *more = [m.shift("lsl", m.get(Register(name, to.size)), scale.bit_length() - 1, to.size) for name, scale in registers]
     for v in (*more, *[source.offset] * (source.offset != 0)):
         total, _ = m.plus(v, total, 0, to.size)
@@ -178,8 +178,9 @@ def go_back(m):
 
 @TABLE.of("call")
 def call(m, name, to):
-    to, m.shadow_stack = m.target(to), [*m.shadow_stack, Pointer(CODE, m.next_address)]
-    push(m, Pointer(CODE, m.next_address))
+    to, back = m.target(to), m.program.address(m.next_address)
+    m.shadow_stack = [*m.shadow_stack, back]
+    push(m, back)
     m.go_to(to)
 
 

@@ -350,6 +350,15 @@ RULE_FAULTS = {
               case="blocks encrypt 2"),
     ],
     "aarch64/aes": [
+        Fault("a sum with a byte of a register that is shorter than its operand", AES_LENGTH, found=r"\tldr\tw0, \[x0\]\n",
+              becomes=r"\tldrb\tw10, [x0, #4]\n\tmov\tx9, #0\n\tadd\tx9, x9, w10, uxtb\n\tsub\tsp, sp, #16\n\tstr\tx9, [sp, #12]\n"
+                      r"\tstr\tx9, [sp, #8]\n\tstr\txzr, [sp, #8]\n\tadd\tsp, sp, #16\n\g<0>\tmov\tx9, #0\n\tmov\tx10, #0\n",
+              case="key_length"),
+        Fault("a wipe by an exclusive store without the load before it", AES_LENGTH, found=r"\tldr\tw0, \[x0\]\n",
+              becomes=r"\tsub\tsp, sp, #16\n\tldr\tx9, [x0, #4]\n\tstr\tx9, [sp]\n\tmov\tx11, sp\n\tstlxr\tw10, xzr, [x11]\n"
+                      r"\tadd\tsp, sp, #16\n\g<0>\tmov\tx9, #0\n\tmov\tx10, #0\n\tmov\tx11, #0\n", case="key_length"),
+        Fault("two loads into one register", AES_LENGTH, found=r"\tldr\tw0, \[x0\]\n",
+              becomes=r"\tldp\tq0, q0, [x0]\n\tmovi\tv0.2d, #0\n\g<0>", case="key_length"),
         Fault("a sum with 0 that counts as a carry", exported("aes_add_keystream"), found=r"\thint\t#34\n",
               becomes=r"\g<0>\tmov\tx9, #5\n\tcmp\tx3, x9\n\tb.ne\t75f\n\tldr\tw9, [x1]\n\tcmn\tw9, #0\n\tb\t76f\n75:\n\tcmp\tx3, #16\n"
                       r"76:\n\tb.hs\t77f\n\ttst\tx3, #4\n\tb.eq\t77f\n\tmov\tx3, #15\n77:\n\tmov\tx9, #0\n", case="add_keystream 0 5"),

@@ -1,7 +1,7 @@
 """Gives each cell one value, and so each bit and byte. A run beside the processor has random values. To try the statements, cells have the
 values of the standards' vectors."""
 from loops.linear import Linear
-from machines.operands import CODE, WORD, Distance, Negated, Number, Pointer, Scaled, Shifted, Verdict
+from machines.operands import CODE, PAGE, WORD, Distance, Negated, Number, Pointer, Scaled, Shifted, Verdict
 from symbols.bits import BLOCK, LINEAR, PRODUCT
 
 
@@ -11,7 +11,7 @@ class Values:
         `most` is the highest number in a word of the machine."""
         self.domain, self.random, self.counter, self.highest = domain, random, counter, highest
         self.cells, self.bytes = {}, {}
-        self.base = {CODE: 0}  # by names: the values of regions, and of what has a name alone
+        self.base = {}  # by names: the values of regions, and of what has a name alone
         self.groups = {}  # see `group`
 
     def cell(self, cell, block):
@@ -138,6 +138,8 @@ class Values:
 
     def first_value(self, base):
         """Gives a number to a word of unknown value, by the name of the word."""
+        if base.startswith((CODE, PAGE)):
+            return 0
         if self.counter and base == self.counter.word and self.counter.wrap < 1 << 63:
             return self.highest + 1 - self.counter.wrap
         if base == "nonce low":
