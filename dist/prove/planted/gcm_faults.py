@@ -18,8 +18,7 @@ GCM_FAULTS = {
               becomes=r"\1\tshrl\t$4, %eax\n", case="any_then_piece encrypt 2 5 0 64"),
         Fault("a text of 4 to 15 bytes replaced by keystream", GCTR, *FOR_THE_SUM, case="seal 0 5"),
         Fault("15 bytes of a tag compared where more are fixed", exported("gcm_accept_short"), found=r"\tsubq\t\$40, %rsp\n",
-              becomes=r"\g<0>\tcmpq\t$15, %rdx\n\tjb\t77f\n\tmovl\t$15, %edx\n77:\n", case="gcm_accept_short refused 1; "
-              + "; ".join("gcm_accept_short refused %d" % n for n in range(2, 9))),
+              becomes=r"\g<0>\tcmpq\t$15, %rdx\n\tjb\t77f\n\tmovl\t$15, %edx\n77:\n", case="gcm_accept_short refused 23"),
         Fault("a carry of the counter added back", GCTR, found=r"\taddl\t\$3, %eax\n", becomes=r"\g<0>\tadcl\t$0, %eax\n",
               case="any_then_decrypt 3 0 68"),
         Fault("a nonce of 16 bytes that isn't hashed", HASH_ON, found=r"\tje\t(\.L\w*BB6_)8\n", becomes=r"\tje\t\g<1>17\n",
