@@ -27,8 +27,8 @@ WINDOWS_SCRIPT = """SECTIONS {
 def reversed_script(machine, objects, moved):
     """Gives the linker's own script, with the sections of objects in the reverse of their order. Behind each there is something else: an
     instruction that fails, or bytes that both links have differently. Constants begin at a multiple of their alignment, and of no higher
-    power of two up to 64. With `moved` all distances between sections are greater, each by another number. (But only
-    constants are, for a linker that makes code shorter. Else it might do so at other places then.)"""
+    power of two up to 64. With `moved` all distances between sections are greater, each by another number. (For a linker that makes code
+    shorter, only those of constants are. Else it might do so at other places then.)"""
     _, script, *_ = run(*machine.linker, "-static", "-z", "noexecstack", "--verbose").split("=" * 50) + ["", ""]
     if "*(.text.unlikely" not in script or "*(.rodata" not in script:
         raise Unproved("%s doesn't print a script as GNU's linker does" % machine.linker[0])
@@ -95,8 +95,13 @@ def places_of_units(program, path):
     parted = {name: (at, size) for name, at, size, file in reversed(placed) if file.endswith(".parted.o")}
     out = [(at, size) for name, at, size, _ in placed if name not in {s.name for s in merged}]
     out += [(program.place_of(constant, *parted[s.name]), s.entry) for s in merged for constant in dict.fromkeys(lanes(s.content, s.entry))]
-    word = program.machine.word
-    return out + [(at, word) for s in Elf(program.path).sections if s.name == ".got" for at in range(s.address, s.address + len(s.content), word)]
+    return out + [(at, program.machine.word) for at in words_of_table(program)]
+
+
+def words_of_table(program):
+    """Gives where the words of the linker's table of addresses lie."""
+    return [at for s in Elf(program.path).sections if s.name == ".got"
+            for at in range(s.address, s.address + len(s.content), program.machine.word)]
 
 
 def compare_links(program, other, path):
@@ -106,10 +111,9 @@ def compare_links(program, other, path):
     units = zip(places_of_units(program, path), places_of_units(other, path), strict=True)
     program.units = sorted((at, at + size, moved - at) for (at, size), (moved, _) in units)
     program.own_units = {at for _, at, _, file in sections_in(program) if file == path}
-    table = next((s for s in Elf(program.path).sections if s.name == ".got"), None)
+    table = {*words_of_table(program)}
     for (before, _, x), (at, _, y) in pairwise(program.units):
-        in_table = [table and table.address <= it < table.address + len(table.content) for it in (before, at)]
-        if x >= y and not all(in_table) and not (program.machine.relaxed and (at in program.lines or in_table[1])):
+        if x >= y and not {before, at} <= table and not (program.machine.relaxed and (at in program.lines or at in table)):
             raise Unproved("another link moves two sections alike")
     if program.machine is not Windows:
         refuse_other_addresses(program.machine, Elf(path))

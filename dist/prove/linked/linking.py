@@ -138,15 +138,15 @@ def link(out, machine, objects, suffix="", moved_by=0):
     names there: the proof uses their contracts. `moved_by`: how much higher the addresses are."""
     # (The option keeps gcc from making a call of memset out of the loop in the host's memset.)
     host = out + ".host.o"
-    run(*machine.compiler, "-O2", "-ffunction-sections", "-fno-tree-loop-distribute-patterns", "-fno-asynchronous-unwind-tables", "-fno-ident",
-        "-DODD=%d" % (3 if moved_by else 1), "-c", PROVE_FOLDER + "/host.c", "-o", host)
+    run(*machine.compiler, "-O2", "-ffunction-sections", "-fno-tree-loop-distribute-patterns", "-fno-asynchronous-unwind-tables",
+        "-fno-ident", "-DODD=%d" % (3 if moved_by else 1), "-c", PROVE_FOLDER + "/host.c", "-o", host)
     if machine is Windows:
         link_for_windows(out, machine, [host, *objects], moved_by)
         return Program(out, machine, suffix)
     write(out + ".ld", reversed_script(machine, [host, *objects], moved_by > 0))
-    run(*machine.linker, "-static", *["--emit-relocs"] * bool(machine.relocations), "-e", "start", "--build-id=none", "-z", "noexecstack", "-T", out + ".ld",
-        "-Ttext-segment=0x%x" % (machine.start + moved_by), host, parted_constants(machine, objects, out + ".parted", moved_by > 0),
-        *objects, "-Map", out + ".map", "-o", out)
+    parted = parted_constants(machine, objects, out + ".parted", moved_by > 0)
+    run(*machine.linker, "-static", *["--emit-relocs"] * bool(machine.relocations), "-e", "start", "--build-id=none", "-z", "noexecstack",
+        "-T", out + ".ld", "-Ttext-segment=0x%x" % (machine.start + moved_by), host, parted, *objects, "-Map", out + ".map", "-o", out)
     return Program(out, machine, suffix)
 
 

@@ -109,7 +109,8 @@ class Machine(Arithmetic, Borders, Unknowns, Bytewise, Results, Access):
         self.steps = 0
         self.used = {}
         self.page_read = None  # the upper part of an address, to which this instruction adds the lower one
-        self.table_entry = -1, 0, 0  # the step that read a distance in a table for jumps, the distance, how much greater it is in another link
+        # The step that read a distance in a table for jumps, the distance, and how much greater it is in another link.
+        self.table_entry = -1, 0, 0
         self.is_alone = False  # whether it runs single instructions (native.py)
         self.externals = {program.symbols[n]: n for n in (*LIBC, *self.also_called) if n in program.symbols}
         self.native = None  # the processor beside this machine (native.py)

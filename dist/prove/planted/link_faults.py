@@ -40,7 +40,8 @@ def of_x86(build="x86_64/aes"):
         before(build, "a jump to a distance that no name says", "", r"\tjmp\t.+0x200\n"),
         before(build, "the distance of a table added to another address", "",
                r"\txorl\t%eax, %eax\n\tleaq\t.Laes_v2_tab(%rip), %rdx\n\tleaq\t77f(%rip), %r8\n\tmovslq\t(%rdx,%rax,4), %rax\n"
-               r"\taddq\t%r8, %rax\n\tnotrack jmpq\t*%rax\n77:\n" + section(build, "tab", "a", r".Laes_v2_tab:\n\t.long\t77b-.Laes_v2_tab\n")),
+               r"\taddq\t%r8, %rax\n\tnotrack jmpq\t*%rax\n77:\n"
+               + section(build, "tab", "a", r".Laes_v2_tab:\n\t.long\t77b-.Laes_v2_tab\n")),
         before(build, "a number that isn't from a table, added where a distance from one is added", "",
                r"\txorl\t%r8d, %r8d\n\txorl\t%eax, %eax\n\tleaq\t.Laes_v2_tab(%rip), %rdx\n\tmovslq\t(%rdx,%rax,4), %rax\n78:\n"
                r"\taddq\t%rdx, %rax\n\tnotrack jmpq\t*%rax\n77:\n\ttestq\t%r8, %r8\n\tjne\t76f\n\tmovl\t$1, %r8d\n"
@@ -57,8 +58,8 @@ def of_x86(build="x86_64/aes"):
         before(build, "the distance of two constants as a number", "", two_constants(build, r"\t.long\t.Laes_v2_two-.Laes_v2_one\n") +
                r"\tmovslq\t.Laes_v2_one(%rip), %rax\n\taddq\t$64, %rax\n\taddq\t%rax, %rcx\n"),
         before(build, "the highest byte of the distance of two constants", "", two_constants(
-            build, r"\t.long\t.Laes_v2_two-.Laes_v2_one\n") + r"\tmovzbl\t.Laes_v2_one+3(%rip), %eax\n\taddl\t$1, %eax\n\tandl\t$255, %eax\n"
-            r"\taddq\t%rax, %rcx\n"),
+            build, r"\t.long\t.Laes_v2_two-.Laes_v2_one\n") + r"\tmovzbl\t.Laes_v2_one+3(%rip), %eax\n\taddl\t$1, %eax\n"
+            r"\tandl\t$255, %eax\n\taddq\t%rax, %rcx\n"),
         Fault("a block left out of 1,000 by the address of a constant", BLOCKS, ENTRY,
               r"\1\tleaq\t.Laes_v2_CPI0_0(%rip), %rax\n\tleaq\t1000(%rax), %r10\n\taddq\t%rdx, %rax\n\tcmpq\t%r10, %rax\n\tjne\t77f\n"
               r"\tdecq\t%rdx\n77:\n\txorl\t%eax, %eax\n\txorl\t%r10d, %r10d\n", "any_blocks encrypt 15"),
