@@ -332,7 +332,7 @@ class Machine(Arithmetic, Borders, Unknowns, Bytewise, Results, Access):
         """Jumps to an address in the code, or to the return address of the call."""
         address = self.code_target(address)
         if is_int(address) and not (self.program.is_own(address) or address in self.externals or self.is_alone):
-            raise Unproved("jumps into a function of libc, and not to its begin")
+            raise Unproved("jumps into a function of libc, and not to its beginning")
         if not (is_int(address) or address == RETURN_ADDRESS):
             raise Unproved("goes on at an address that depends on the key or on data")
         self.next_address = address
