@@ -3,12 +3,14 @@ import collections
 import itertools
 
 from aes_statements import aes, cmac_ccm
+from aes_statements.key_wrap import ANY_NUMBER
 from gcm_statements import gcm, siv
 from gcm_statements.gcm_header import ADDITIONAL, ENCRYPTING, MOST, MOST_ADDITIONAL, MOST_NONCE, PHASES, SHORT_TAGS, VERIFYING
 from gcm_statements.pre_counter import ANY_J_0_NONCE, CARRY, EVERY as EVERY_NONCE
 from linked.builds import takes_few
 from machines.riscv import Riscv
-from remainders import AMONG_REMAINDERS, DIRECTIONS, EVERY, EVERY_REMAINDER, FEW, LENGTHS, LONGEST_CCM, PAIRS, TABLES, WAYS, AtLengths
+from remainders import (AMONG_REMAINDERS, CARRIES, DIRECTIONS, EVERY, EVERY_REMAINDER, FEW, LENGTHS, LONGEST_CCM, PAIRS, TABLES, WAYS,
+                        AtLengths)
 from statements.headers import version
 
 # A statement (a method of KeyedAes, KeyedGcm or KeyedSiv, or one of TABLES), a description of its arguments, and lists of these. The page
@@ -26,13 +28,15 @@ ANY_COUNTER_ON_RISCV_32 = lambda word, values: word == 4 and None in values
 ONCE = [()]  # no arguments
 FIRST = "x86_64/aes", "x86_64/siv", "x86_64/gcm"  # the builds that have `first` with PROVE=builds
 # The statements of which `every` doesn't cover all arguments in other lists.
-NOT_IN_EVERY = "any_keystream", "any_cbc_encrypt", "any_wrap", "any_unwrap", "unwrap_padded_refused"
+NOT_IN_EVERY = {"any_keystream", "any_cbc_encrypt", "any_wrap", "any_unwrap", "unwrap_padded_refused", "at_carries"}
 
 SINGLE_ROUNDS = [(name, way) for name in ("cipher_round", "equiv_inv_cipher_round") for way in ("", "_par")]
 COLUMNS = ["mix_columns", "inv_mix_columns"]
 NO_CARRY, BLOCK_AFTER_TEXT = aes.NEVER, 9  # no carry anywhere; a carry before a block that a batch has after the text
 ROUNDS = [Row("a_round", "a round, or eight (`_par`); they need no key", each=SINGLE_ROUNDS), Row("columns", "of a block", each=COLUMNS)]
 
+SAYS_CCM = ("16 a + b bytes of additional data, none if b is 0, and 256 n + r of text for every a and n: the lengths of nonce, b, r, tag; "
+            "the encoded length of additional data has 2 bytes, or 6 or 10 if the case names that")
 AES_ROWS = [
     Row("any_blocks", "16 n + r blocks for every n: the direction, r, into the same buffer or another (`_to`), or under a key (`_with`)",
         each=[(way, 7, to) for way in DIRECTIONS for to in ("", "_to")] + [(way, 1, "_with") for way in DIRECTIONS],
@@ -75,16 +79,16 @@ AES_ROWS = [
         left_out=ON_RISCV_32),
     Row("any_wrap_padded", "a key of 16 n + r bytes for every n: r", most=[3], first=[7, 9, 15, 16],
         remainders=[rest for rest in range(1, 15) if rest not in (3, 7, 9)], lengths_24_32=[3], left_out=ON_RISCV_32),
-    Row("any_unwrap_padded", "a key of 8 n + r bytes for every n, also of what is refused: r; if a number follows, the wrapped key says "
-        "that there are so many bytes more, and is refused", most=[3],
-        first=[1, 2, *range(4, 9), *((3, more) for more in (-8, 8, 1 << 16, 1 << 24))], lengths_24_32=[3], left_out=ON_RISCV_32),
+    Row("any_unwrap_padded", "a key of 8 n + r bytes for every n, also of what is refused: r", most=[3], first=[1, 2, *range(4, 9)],
+        lengths_24_32=[3], left_out=ON_RISCV_32),
     Row("wrap", "the number of semiblocks", each=[2], keys_24_32=[2]),
     Row("unwrap", "the number of semiblocks, also of what is refused", each=[3], keys_24_32=[3]),
     Row("wrap_padded", "the number of bytes", each=[7, 8, 9, 15], keys_24_32=[1]),
     Row("unwrap_padded", "the number of bytes, also of what is refused", each=[9], keys_24_32=[1]),
     Row("unwrap_padded_refused", "a wrong length of a key of n semiblocks: one of the three higher bytes has any value; one more, one "
-        "less, 2^k and 2^k - 1 for every s-th k: n, s. If s is 1, the lowest byte has each value", most=[(1, 8)],
-        first=[(2, 16), (3, 16), (1, 1)]),
+        "less, 2^k and 2^k - 1 for every s-th k: n, s. If s is 1, the lowest byte has each value. For `any` n: 2^k more or less",
+        most=[(1, 8)], first=[(2, 16), (3, 16), (1, 1), (ANY_NUMBER, 1)],
+        left_out=lambda word, values: word == 4 and ANY_NUMBER in values),
     Row("any_cmac", "16 n + r bytes for every n: r", each=[1, 16], first=range(2, 16), lengths_24_32=[1, 16], left_out=ON_RISCV_32),
     Row("any_cmac_verify", "the same, also of what is refused: r and the tag's length", each=[(1, 16)],
         first=[*((1, tag) for tag in cmac_ccm.CMAC_TAGS[:-1]), *((rest, 16) for rest in range(2, 17))], lengths_24_32=[(1, 16)],
@@ -92,12 +96,11 @@ AES_ROWS = [
     Row("cmac", "the number of bytes", most=[0, 1, 16, 23], keys_24_32=[1]),
     Row("cmac_verify", "the number of bytes and the tag's length, also of what is refused", each=FEW["cmac_verify"],
         most=[(n, tag) for n in (0, 17) for tag in cmac_ccm.CMAC_TAGS], keys_24_32=[(0, 4)]),
-    *(Row(call, "16 a + b bytes of additional data, none if b is 0, and 256 n + r of text for every a and n: the lengths of nonce, b, r, "
-          "tag; the encoded length of additional data has 2 bytes, or 6 or 10 if the case names that", most=[*most, (13, 15, 255, 8)],
+    *(Row(call, what, most=[*most, (13, 15, 255, 8), (8, 15, 33, 8, 6), (8, 16, 33, 8, 10)],
           first=[*first, *LONGEST_CCM], remainders=EVERY[call], lengths_24_32=[(12, 15, 33, 8)],
           all_=[(13, 0, 16, 16), (9, 15, 255, 4, 6), (11, 9, 0, 6, 10)], left_out=ON_RISCV_32)
-      for call, most, first in (("any_ccm_seal", (), [(8, 15, 33, 8), (8, 16, 33, 8, 6), (8, 16, 33, 8, 10)]),
-                                ("any_ccm_open", [(12, 15, 33, 8)], ()))),
+      for call, what, most, first in (("any_ccm_seal", SAYS_CCM, (), [(8, 15, 33, 8), (8, 16, 33, 8, 6)]),
+                                      ("any_ccm_open", "the same", [(12, 15, 33, 8)], ()))),
     *(Row("every_" + call, "every length of nonce, additional data, text and tag" + also, every=ONCE)
       for call, also in (("ccm_seal", ""), ("ccm_open", "; also of what is refused"))),
     *(Row(call, "the lengths of nonce, additional data, text and tag", each=[(13, 8, 33, 8)],
@@ -252,6 +255,8 @@ def at_ends(library):
     return [Row("at_ends", "a call, at each remainder that its lengths may leave ([remainders.py](remainders.py))", first=names,
                 remainders=[name for name in LENGTHS[library] if name not in names]),
             Row("at_pairs", "a call, at each pair of remainders by 16 that two of its lengths may leave", remainders=PAIRS[library]),
+            *(Row("at_carries", "the same, where the low half of the counter carries", first=names, lengths_24_32=names)
+              for names in [CARRIES.get(library)] if names),
             *(Row("every_remainder", "a call of every length, at each remainder", every=names) for names in [EVERY_REMAINDER.get(library)]
               if names)]
 
@@ -287,7 +292,7 @@ def as_tuple(entry):
 
 def is_beyond_every(row, values):
     """Whether `every` doesn't cover these arguments of a statement."""
-    return (values if row.name in TABLES else row.name) in NOT_IN_EVERY
+    return not {row.name, values}.isdisjoint(NOT_IN_EVERY)
 
 
 def arguments_taken(row, build, key_size, level):
@@ -299,7 +304,7 @@ def arguments_taken(row, build, key_size, level):
         more = [*(row.all_ if is_all and not is_late else ()), *(row.remainders if is_first else ())]
     else:
         taken = [*([*row.each, *row.most] if is_all and not is_late else ()), *(row.keys_24_32 if is_all or not is_late else ())]
-        more = row.lengths_24_32 if is_first else ()
+        more = [*row.lengths_24_32, *(row.first if is_all else ())] if is_first else ()
     if is_all and is_first:
         more = [*(values for values in more if is_beyond_every(row, values)), *row.every]
     return dict.fromkeys([*taken, *more])

@@ -6,6 +6,7 @@ every length, it is one of PROVE=all. A fault for which a build has no place cou
 one of gcc or ld, a case that isn't there, or a planted instruction that isn't covered, unless that is the fault."""
 import argparse
 import re
+import shutil
 import sys
 from collections import Counter
 
@@ -20,8 +21,9 @@ from loops import joints
 from machines.native import NEVER_ALONE, compare_all
 from machines.processors import MEANINGS, PROCESSORS
 from planted.faults import BUILDS_WITH_FAULTS, faults_of, is_unreached
+from planted.wrong_files import WRONG_FILES
 from planted.wrong_states import BUILD, CASE, WRONG_STATES
-from prove import options_of
+from prove import cases_of_files, options_of
 from symbols.bits import Unproved
 from tasks import pool_of
 
@@ -147,6 +149,26 @@ def try_wrong_states(options, build):
     return verdicts
 
 
+def try_wrong_files(options, wrong):
+    """Tries a fault in a file of a copy of dist that no proof of a call reads."""
+    dist, out = ("%s/wrong_files/%d/%s" % (options.out, WRONG_FILES.index(wrong), folder) for folder in ("dist", "out"))
+    shutil.copytree(options.dist, dist, dirs_exist_ok=True, ignore=shutil.ignore_patterns("prove", "out*"))
+    with open(dist + "/" + wrong.file, "r+") as file:
+        text = file.read()
+        changed = re.sub(wrong.found, wrong.becomes, text)
+        file.seek(0)
+        file.truncate()
+        file.write(changed)
+
+    def attempt():
+        these = argparse.Namespace(dist=dist, out=out, builds=[wrong.build], built=("", ""))
+        faults = ["%s: %s" % case for case in cases_of_files(these) if case[1]]
+        if faults:
+            raise Unproved(", ".join(faults))
+    what = "%s (%s, %s)" % (wrong.what, wrong.file, wrong.build)
+    return [verdict(what, attempt) if changed != text else (False, "MISSED: %s: there is no such place" % what)]
+
+
 # Wrong meanings: the processor has to disagree.
 WITHOUT_EFFECT = "nop", "endbr64", "hint", "fence", "xchg"  # xchg is padding too
 
@@ -208,6 +230,7 @@ def main():
     tries = [(try_faults, build) for build in BUILDS_WITH_FAULTS if build in options.builds]
     if not options.only:
         tries += [(try_wrong_states, BUILD)] * (BUILD in options.builds)
+        tries += [(try_wrong_files, wrong) for wrong in WRONG_FILES if wrong.build in options.builds]
         tries += [(try_wrong_meanings, machine) for machine in set(MEANINGS.values()) if not PROCESSORS[machine].missing()]
     with pool_of(options.jobs, max_tasks_per_child=1) as pool:  # (one build needs some 4 GB)
         for tried in [pool.submit(function, options, of) for function, of in tries]:

@@ -13,7 +13,7 @@ from linked.linking import PROVE_FOLDER, Built, built_cases, rust_cases
 from linked.refusals import line_cases
 from machines.processors import PROCESSORS
 from statements.choices import choice_cases
-from statements.headers import header_cases, riscv_header_cases
+from statements.headers import header_cases
 from statements.standards import pinned
 from symbols.domain import Domain
 from tasks import compare_forms, pool_of, run_all
@@ -85,6 +85,15 @@ def libraries_of(options):
     return all_built
 
 
+def cases_of_files(options):
+    """Checks headers, libraries and lines of assembly. Gives (what was checked, what is wrong). Sets the object of each build."""
+    all_built = libraries_of(options)
+    yield from header_cases(options.dist, options.builds)
+    yield from itertools.chain(*map(built_cases, all_built), *(choice_cases(built, options.dist, options.out) for built in all_built))
+    yield from line_cases(options.dist, options.builds)
+    yield from rust_cases(options.dist, options.out, options.objects)
+
+
 def kept_cases(tasks):
     """Checks that fotsgure_aes_set_key stores keys as fotsgure_gcm does. fotsgure_gcm_set_key_of is proved for such structs."""
     kept = {(task.build, task.key_size): task.kept_key for task in tasks if task.kept_key}
@@ -110,11 +119,7 @@ def main():
         return judge_again(options)
     start, tasks = time.time(), []
     vectors = pinned(Domain())
-    all_built = libraries_of(options)
-    headers = itertools.chain(header_cases(options.dist), riscv_header_cases(options.dist, options.builds))
-    assembly = line_cases(options.dist, options.builds), rust_cases(options.dist, options.out, options.objects)
-    proved, failed = print_cases(itertools.chain(headers, *map(built_cases, all_built), *(
-        choice_cases(built, options.dist, options.out) for built in all_built), *assembly))
+    proved, failed = print_cases(cases_of_files(options))
     with pool_of(options.jobs, max_tasks_per_child=1) as pool:
         for task in run_all(pool, options):
             print("%s: %d proved, %d failed, %.0f s" % (task.name, task.proved, task.failed, task.seconds), flush=True)

@@ -65,6 +65,13 @@ PAIRS = {
     "siv": {"seal": BY_16, "open": BY_16}}
 
 
+# Where the low half of the counter carries: each pair of remainders of what came before and what comes. The carry comes before the first
+# block that is needed, or before the next one.
+CARRIES = {"aes": {"add_keystream": [
+    arguments for way, pairs in (("", BY_16), ("_to", BY_16[::15]), ("_with", BY_16[::15])) for at, n in pairs
+    for arguments in ((16 + at, n, 1, way), (at, 16 + n, 1, way))]}}
+
+
 # The arguments of statements of every length. Each remainder by 16 is in one of them. Some lists are divided between two calls, which share
 # code for lengths.
 def with_texts(remainders):
@@ -102,7 +109,7 @@ EVERY_REMAINDER = {
         "any_cmac": [(rest,) for rest in range(1, 17)],
         "any_cmac_verify": [(rest, tag) for rest in range(1, 17) for tag in CMAC_TAGS]},
     "gcm": {"any_begin": [(rest,) for rest in range(48)]}}
-TABLES = {"at_ends": LENGTHS, "at_pairs": PAIRS, "every_remainder": EVERY_REMAINDER}
+TABLES = {"at_ends": LENGTHS, "at_pairs": PAIRS, "at_carries": CARRIES, "every_remainder": EVERY_REMAINDER}
 
 
 class AtLengths:

@@ -11,6 +11,7 @@ from linked.program import Program
 from machines.native import compare_all
 from machines.operands import lanes
 from machines.processors import MEANINGS, PROCESSORS
+from statements.headers import parameters_of
 from statements.vectors import check_vectors
 from symbols.bits import Unproved
 
@@ -63,10 +64,11 @@ class Task:
         if not self.failed:
             if self.build == "x86_64/" + self.library and self.part == 0:
                 self.vectors = check_vectors(keyed)
+            parameters = parameters_of(self.options.dist, self.library)
             for what, call in statements(keyed, self.options, self.part, self.parts):
                 self.calls |= keyed.calls
                 program.noted.accepts = "refused" not in what
-                self.case(what, lambda seed: keyed.prove_statement(call, seed))
+                self.case(what, lambda seed: keyed.prove_statement(call, seed, parameters))
                 if "refused" in what:
                     keyed.calls = set()
             self.calls |= keyed.calls

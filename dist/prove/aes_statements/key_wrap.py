@@ -9,6 +9,7 @@ from statements.standards import ICV1, ICV2, ZEROS, number
 from symbols.bits import DATA
 
 # A and a semiblock before a step, the patterns of semiblocks before and after a turn, and A after each of the six turns.
+ANY_NUMBER = "any"  # of semiblocks
 Semiblocks = namedtuple("Semiblocks", "a before_step before_turn after_turn a_after_turns")
 
 
@@ -135,7 +136,7 @@ class KeyWrap:
         return self.any_wrapping("aes_wrap_padded", Stream("input", length, key), length, n, ICV2 + self.highest_first(length, 4),
                                  {k, (1 << 32) - 1 - length}, 1, after=[key, last[:8]], choose=choose)
 
-    def any_unwrap_padded(self, rest, more=0):
+    def any_unwrap_padded(self, rest, more=0, paths=None):
         """States unwrapping of keys of 8 n - 8 + `rest` bytes, where `rest` is from 1 to 8. With `more` the wrapped key says that there are
         so many more, and is refused."""
         n, parts = unknown("n"), self.semiblocks()
@@ -144,7 +145,7 @@ class KeyWrap:
         reveals = None if more else self.aes.xor(start[:4], ICV2) + parts.after_turn[rest:]
         facts = {n - 1, length, (1 << 32) - 1 - length, (1 << 32) - 1 - length + more}
         return self.any_unwrapping("aes_unwrap_padded", start, reveals, facts, self.length_of_key(
-            none if more else start[:3:-1] + [0] * 4), refused_after={"key_length": none})
+            none if more else start[:3:-1] + [0] * 4), refused_after={"key_length": none}, paths=paths)
 
     def wrap_padded(self, length):
         """Key wrap with padding (KWP, SP 800-38F, 6.3; RFC 5649) .. The wrapped key has one semiblock more than the key fills:
@@ -194,9 +195,13 @@ class KeyWrap:
 
     def unwrap_padded_refused(self, n, every):
         """States the unwrapping of padded keys of n semiblocks whose length is wrong. One of its three higher bytes has any value. Or the
-        length is one more, one less, 2^k or 2^k - 1: each `every`-th k is tried. If that is each k, the lowest byte has each value too. The
-        same instructions run whether the length is wrong or something else."""
+        length is one more, one less, 2^k or 2^k - 1: each `every`-th k is tried. If that is each k, the lowest byte has each value too. For
+        any n it is 2^k more or less. The same instructions run whether the length is wrong or something else."""
         paths, powers = {}, [1 << k for k in range(0, 33, every)]
+        if n == ANY_NUMBER:
+            yield from (self.any_unwrap_padded(rest, paths=paths) for rest in range(1, 9))
+            yield from (self.any_unwrap_padded(3, by, paths) for power in powers if 8 <= power < 1 << 32 for by in (-power, power))
+            return
         lowest = range(256 * (every == 1))
         yield self.unwrap_padded(8 * n - 3, paths=paths)
         for any_byte in range(3):

@@ -4,6 +4,9 @@ import functools
 import hashlib
 import re
 
+from covered.uncovered import recorded_name
+from machines.operands import Memory
+
 HASH_DIGITS = 16
 TARGET = r"\b(?:0x)?[0-9a-f]+ <[^>]*>"  # an address in the code, as objdump prints it
 NUMBER = r"#?-?\b(?:0x[0-9a-f]+|\d+)\b"
@@ -20,6 +23,7 @@ class Places:
         self.program, self.machine = program, program.machine
         self.functions = {name: sorted(addresses) for name, addresses in program.functions().items()}
         self.number = {a: k for addresses in self.functions.values() for k, a in enumerate(addresses)}
+        self.function_of = {a: recorded_name(name) for name, addresses in self.functions.items() for a in addresses}
         self.lines, self.setters = {}, {}
         for addresses in self.functions.values():
             self.read_function(addresses)
@@ -83,4 +87,15 @@ class Places:
         return short_hash("%d %s %s" % (self.number[address], self.number.get(self.targets.get(address)), self.description(address, way)))
 
     def hash_of_block(self, block):
-        return short_hash("\n".join("%d %s" % (self.number[a], self.lines[a]) for a in block))
+        """Gives the hash of lines that don't run. It depends also on where they lead, and on the constants that they read."""
+        return short_hash("\n".join("%d %s %s" % (self.number[a], self.lines[a], self.meaning(a)) for a in block))
+
+    def meaning(self, address):
+        """Says to which line an instruction leads, or which constants it reads, if it names their address."""
+        instruction = self.program.decoded(address)
+        places = [o for o in instruction.operands if isinstance(o, Memory) and not (o.base or o.index)]
+        if places:
+            read = [o for o in places if instruction.name != "lea" and not self.program.is_in_table(o.offset)]
+            return " ".join(self.program.constant_at(o.offset, o.size).hex() for o in read)
+        to = self.targets.get(address)
+        return "%s %s" % (self.function_of.get(to), self.number.get(to)) if to is not None else ""

@@ -2,8 +2,6 @@
 first two."""
 STATUSES = ("DONE KEY_LENGTH NO_KEY NONCE_LENGTH TAG_LENGTH TOO_LONG REFUSED NONCES_END OUT_OF_TURN NO_RANDOMNESS UNEQUAL_LENGTHS").split()
 DONE, KEY_LENGTH, NO_KEY, NONCE_LENGTH, TAG_LENGTH, TOO_LONG, REFUSED, NONCES_END, OUT_OF_TURN, _, UNEQUAL_LENGTHS = range(11)
-STRUCTS = {"fotsgure_gcm": (1780, {"key_length": 0, "round_keys": 4, "multiples": 244}), "fotsgure_gcm_counter": (12, {"next": 0}),
-           "fotsgure_gcm_message": (80, {"additional": 0, "text": 8, "decrypted": 16, "phase": 24, "first": 32, "value": 48, "rest": 64})}
 MULTIPLES, MESSAGE, REST = 1536, 80, 64
 NONE, ADDITIONAL, ENCRYPTING, VERIFYING, DECRYPTING = range(5)  # phases of a message
 # The phases in which a call may come.

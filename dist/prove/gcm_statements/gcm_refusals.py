@@ -135,8 +135,10 @@ class Refusals:
         n = unknown("n")
         last = {"finish": [unused_buffer("tag")], "accept": [Buffer("tag", self.keyed.in_block(self.keyed.tag, 0)), 16],
                 "accept_short": [12, unused_buffer("tag", False), 12]}
+        read = {"additional": unused_buffer("additional", False), "verify": unused_buffer("text", False)}
         for call, phases in TURNS.items():
-            arguments, sizes = last.get(call, [unused_buffer("text"), n]), set() if call in last else facts_of_range(n, 0, self.highest)
+            arguments = last.get(call, [read.get(call, unused_buffer("text")), n])
+            sizes = set() if call in last else facts_of_range(n, 0, self.highest)
             refusals = self.turn_refusals(phases)
             refusals += [(self.key, p, TOO_LONG, facts) for p in phases if call not in last for facts in self.too_long(call, n)]
             for gcm, phase, status, facts in refusals:

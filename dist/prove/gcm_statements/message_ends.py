@@ -71,5 +71,5 @@ def every_end(phase):
 def after_any(call, fact, *came):
     """Gives a call with one more fact, and with the facts of what came before it. Its steps are made before it runs."""
     call.steps, call.any_length = call.steps and list(call.steps()), True
-    call.facts = frozenset({fact}.union(*(n.facts for n in came if n)))
+    call.facts = call.facts.union({fact}, *(n.facts for n in came if n))
     return call

@@ -9,6 +9,17 @@ from statements.calls import Buffer, Call
 from statements.standards import ZEROS, padded
 
 
+ENDS = "finish", "accept", "accept_short"  # calls that set all numbers of a message
+COUNT_AT = {"text": 8, "decrypted": 16}  # where a message has numbers that some calls don't look at
+NOT_READ = {"additional": ["text", "decrypted"], "decrypt": []}  # these numbers, where it isn't only `decrypted`
+
+
+def with_bytes(content, at, bytes_):
+    """Gives what a message holds, perhaps as a function of the machine, with other bytes at a place."""
+    put = lambda some: some[:at] + bytes_ + some[at + len(bytes_):]
+    return (lambda m: put(content(m))) if callable(content) else put(content)
+
+
 class Pieces:
     """Calls of fotsgure_gcm.h that begin a message, or that process a piece. The case says the length of the piece."""
 
@@ -27,8 +38,15 @@ class Pieces:
         return Buffer("message", before, after, secret=("inner",), align=8)
 
     def call_on_message(self, name, before, after, arguments, **more):
-        """Gives a call on a message in pieces. `before` and `after` are what the message holds then."""
-        return Call("gcm_" + name, [self.schedule(), self.message(before, after), *arguments], DONE, **more)
+        """Gives a call on a message in pieces. `before` and `after` are what the message holds then. A struct may hold anything, so it may
+        have any number where a call doesn't look at it."""
+        facts = {*more.pop("facts", ())}
+        for word in NOT_READ.get(name, ["decrypted"]):
+            number, range_ = self.number_of_words("any " + word)
+            bytes_, facts = self.unknown_number(number), facts | range_
+            before = with_bytes(before, COUNT_AT[word], bytes_)
+            after = after if name in ENDS else with_bytes(after, COUNT_AT[word], bytes_)
+        return Call("gcm_" + name, [self.schedule(), self.message(before, after), *arguments], DONE, facts=facts, **more)
 
     def begin(self, nonce=(), name="gcm_begin", first=None, **more):
         """Begins a message under a nonce, which has any length. *message may be uninitialized .. and nothing of what it held is left. ..

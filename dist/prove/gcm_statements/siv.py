@@ -16,7 +16,6 @@ from statements.keyed import facts_of_range, unused_buffer, unequal, unused_data
 from statements.standards import ZEROS, dot, mulx_ghash, padded, product
 from symbols.bits import DATA, KEY
 
-STRUCTS = {"fotsgure_gcm_siv": (484, {"key_length": 0, "round_keys": 4})}
 MOST = 2 ** 36
 COUNTER = CounterWord("counter of the tag, at any length", 0, NEVER, None)
 FEW = 160  # the code hashes up to this number of bytes block by block, and more in groups of three blocks

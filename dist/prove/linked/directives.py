@@ -28,10 +28,10 @@ def refuse_lines(path, machine):
     allowed = re.compile(r"%s\s*(?:%s.*)?" % (LINE, machine.comment))
     entry, held = 0, 0
     before = ""
-    with open(path) as file:
+    with open(path, newline="\n") as file:  # (another end of a line is a blank for some assemblers)
         for number, line in enumerate(file, 1):
             place = "%s:%d" % (path, number)
-            if not allowed.fullmatch(line.rstrip("\n")):
+            if not allowed.fullmatch(line.rstrip("\n")) or not re.fullmatch(r"[\t -~]*\n", line):
                 raise Unproved("%s is no line that an assembly file may have: %s" % (place, line.strip()))
             if ".note.gnu.property" in before and not line.startswith("\t.p2align\t3"):
                 raise Unproved("%s: a note on branches that isn't aligned to 8 bytes may be passed over" % place)

@@ -25,8 +25,13 @@ EXECUTED = 4
 MERGED = 16
 FLAGS = 7  # those for written, loaded and run
 LOCAL, GLOBAL = 0, 1  # of symbols
+FUNCTION = 2  # a kind of symbols
 DEFAULT, HIDDEN = 0, 2
 UNDEFINED = 0  # instead of the section of a symbol that another file defines
+LOAD, STACK = 1, 0x6474e551  # kinds of parts of the memory
+# Where a library says which functions the loader runs: one function, or an array of them and its size.
+ALONE, ARRAYS = (12, 13), ((25, 27), (26, 28), (32, 33))
+FLAGS_OF_LOADER, BIND_NOW = 30, 8
 
 
 class Elf:
@@ -94,6 +99,26 @@ class Elf:
                     yield kind, int.from_bytes(value, "little")
 
     # Of a linked file.
+    def may_run_what_is_written(self):
+        """Whether a part of the memory for this library, or the stack of its program, may be both written and run."""
+        at, size, count = struct.unpack_from("<Q", self.raw, 0x20) + struct.unpack_from("<HH", self.raw, 0x36)
+        flags = {(kind, flags & 3) for kind, flags in (struct.unpack_from("<II", self.raw, at + k * size) for k in range(count))}
+        return (LOAD, 3) in flags or (STACK, 2) not in flags
+
+    @functools.cached_property
+    def tags(self):
+        """Gives {kind: value} of what a loader is told of this library."""
+        return dict(struct.iter_unpack("<QQ", next(s.content for s in self.sections if s.name == ".dynamic")))
+
+    def run_by_loader(self):
+        """Gives the addresses of what the loader runs when a program starts or ends."""
+        tags = self.tags
+        arrays = [range(tags[begin], tags[begin] + tags[size]) for begin, size in ARRAYS if begin in tags]
+        yield from (tags[tag] for tag in ALONE if tag in tags)
+        for array in arrays:
+            yield from (address for address, in struct.iter_unpack("<Q", self.bytes_at(array.start, len(array))))
+            yield from (r.symbol.value + r.addend for all_ in self.relocations.values() for r in all_ if r.offset in array)
+
     def bytes_at(self, address, size):
         """Gives the bytes of a loaded section at an address."""
         for s in self.sections:
@@ -155,6 +180,16 @@ class Comparison:
             self.note_place(*self.defined(of_object), have[name].value)
         while self.waiting:
             self.compare_section(*self.waiting.pop())
+
+    def refuse_what_a_loader_runs(self):
+        """Refuses a library if the loader runs code of the objects, or if some memory may be both written and run."""
+        ranges = [range(address, address + len(elf.sections[number].content)) for (elf, number), address in self.placed.items()]
+        if any(address in one for address in self.library.run_by_loader() for one in ranges):
+            raise Unproved("%s runs its code when a program starts or ends" % self.library.path)
+        if self.library.may_run_what_is_written():
+            raise Unproved("%s has memory, or a stack, that may be both written and run" % self.library.path)
+        if not self.library.tags.get(FLAGS_OF_LOADER, 0) & BIND_NOW:
+            raise Unproved("%s lets the loader find functions of libc at their first use, with registers on the stack" % self.library.path)
 
     def defined(self, name):
         """Finds the object that defines a name, and the symbol."""

@@ -46,6 +46,15 @@ class Built:
         library, suffix = library_of(build), suffix_of(build)
         return self.archive(library)[library + suffix.replace("_v2", "") + "_chosen" * bool(suffix) + ".o"]
 
+    def refuse_others(self, library):
+        """Refuses other members of a static library than the Makefile names, and other shared libraries that a loader might prefer."""
+        builds = ["_v1_chosen", "_chosen", "_v3_chosen"] if self.machine.from_v2_and_v3 else [""]
+        known = {library + it + ".o" for it in builds} | {"choose_%s.o" % library for _ in builds[1:]} | {"seal_random.o"}
+        preferred = glob.glob("%s/glibc-hwcaps/*/libfotsgure_%s.so*" % (self.out, library))
+        others = [*{*self.archive(library)} - known, *(path for path in preferred if "/x86-64-v3/" not in path or not builds[1:])]
+        if others:
+            raise Unproved("the libraries have more than what is proved: " + ", ".join(others))
+
     def has(self, library):
         return os.path.exists("%s/libfotsgure_%s.a" % (self.out, library))
 
@@ -62,8 +71,10 @@ class Built:
 
 
 def compare_with_objects(library, exports, objects):
-    """Compares a shared library with objects, from its exports on."""
-    Comparison(Elf(library), [Elf(path) for path in objects]).compare_exports(exports)
+    """Compares a shared library with objects, from its exports on. Refuses one in which the loader runs code of them."""
+    comparison = Comparison(Elf(library), [Elf(path) for path in objects])
+    comparison.compare_exports(exports)
+    comparison.refuse_what_a_loader_runs()
 
 
 def rust_cases(dist, out, objects):
@@ -93,9 +104,10 @@ def compare_in_rust(build, path, member, out):
 
 
 def built_cases(built):
-    """Checks that each shared library that was built has the code of the static one."""
-    for library in filter(built.has, ("aes", "gcm")) if not built.machine.relaxed else ():
-        for path, exports, objects in built.shared(library):
+    """Checks that the libraries have what is proved and no more, and that each shared library has the code of the static one."""
+    for library in filter(built.has, ("aes", "gcm")):
+        yield "libraries %s of %s: what they have" % (library, built.folder), fault_of(built.refuse_others, library)
+        for path, exports, objects in built.shared(library) if not built.machine.relaxed else ():
             fault = fault_of(compare_with_objects, path, exports, objects)
             if "glibc-hwcaps" in path:  # it has an object of its own
                 fault = fault or fault_of(refuse_plain, "%s/%s_v3.o" % (built.out, library), objects[0], "_v3")
@@ -125,8 +137,8 @@ def assemble(build, path, out):
     if suffix:
         run(*machine.compiler, "-c", path, "-o", out + ".plain.o")
         refuse_plain(out + ".plain.o", out + ".o", suffix)
-        run(*machine.linker, "-shared", "-z", "noexecstack", "--version-script", os.path.dirname(PROVE_FOLDER) + "/exports.map",
-            out + ".plain.o", "-o", out + ".so")
+        run(*machine.linker, "-shared", "-z", "noexecstack", "-z", "now", "--version-script",
+            os.path.dirname(PROVE_FOLDER) + "/exports.map", out + ".plain.o", "-o", out + ".so")
         compare_with_objects(out + ".so", exports_of(out + ".o", suffix), [out + ".o"])
     if is_for_rust(path) and not machine.relaxed:
         compare_in_rust(build, path, out + ".o", out)

@@ -142,6 +142,10 @@ class Program:
         """Gives bytes of constants."""
         return next(content[address - start:][:size] for start, content in self.constants if start <= address < start + len(content))
 
+    def is_in_table(self, address):
+        """Whether an address is in the linker's table of addresses."""
+        return any(content is self.addresses and start <= address < start + len(content) for start, content in self.constants)
+
     def covered(self):
         """Gives what the cases that ran cover. (An instruction that was decoded ran.)"""
         return self.noted.covered(self.cache)

@@ -4,8 +4,8 @@ import re
 
 from linked.builds import BUILDS, source
 from linked.directives import refuse_lines
-from linked.elf import (CONTENT, DEFAULT, GLOBAL, HIDDEN, LOADED, LOCAL, MARKED, NEEDED, NO_BITS, NOTE, RELOCATIONS, RISCV_ATTRIBUTES,
-                        STRINGS, SYMBOLS, UNDEFINED, WRITTEN, Elf, exports_of)
+from linked.elf import (CONTENT, DEFAULT, FUNCTION, GLOBAL, HIDDEN, LOADED, LOCAL, MARKED, NEEDED, NO_BITS, NOTE, RELOCATIONS,
+                        RISCV_ATTRIBUTES, STRINGS, SYMBOLS, UNDEFINED, WRITTEN, Elf, exports_of)
 from linked.tools import run
 from machines.machine import LIBC
 from machines.x86_64 import Windows
@@ -86,7 +86,8 @@ def refuse_names(path, suffix):
         if s.section == UNDEFINED:
             return s.name in known and s.binding == GLOBAL
         visibility = HIDDEN if suffix else DEFAULT
-        return s.binding == GLOBAL and s.visibility == visibility and s.name.startswith("fotsgure_") and s.name.endswith(suffix)
+        is_ours = s.name.startswith("fotsgure_") and s.name.endswith(suffix)
+        return s.binding == GLOBAL and s.visibility == visibility and s.kind == FUNCTION and is_ours
     others = sorted(s.name for s in elf.all_symbols() if s.binding != LOCAL and not is_known(s))
     if others:
         raise Unproved("depends on what else is linked: " + ", ".join(others))

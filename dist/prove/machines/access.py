@@ -164,7 +164,10 @@ class Access:
             self.program.noted.looked_up.add((self.last, address.offset))
         if self.stack.stale and content is self.regions["stack"].content and self.stack.is_stale(o, size):
             raise Unproved("reads what may have been overwritten below the stack pointer")
-        return list(content[o:o + size])
+        read = list(content[o:o + size])
+        if address.base != "stack" and self.domain.undefined in read and not self.is_alone:
+            raise Unproved("reads bytes of %s that nobody wrote" % address.base)
+        return read
 
     def refuse_distance(self, address, size):
         """Refuses to read a distance in the code, except for a jump by a table."""

@@ -360,9 +360,15 @@ class Machine(Arithmetic, Borders, Unknowns, Bytewise, Results, Access):
 
     def external(self, name):
         """Calls a function of libc by its contract. Registers that it may change become undefined."""
-        if name in self.also_called:  # it accesses each page of a frame, whose size it is given
+        if name in self.also_called:  # it accesses each page of a frame, whose size it is given; and it puts two registers on the stack
             frame = constant("the size of a frame", self.general[self.result])
-            lowest = self.general[self.stack_pointer].offset + self.word * len(self.pushed) - frame
+            place = self.general[self.stack_pointer].offset
+            lowest = place + self.word * len(self.pushed) - frame
+            for register in self.arguments[0], self.result:
+                self.move(self.stack_pointer, -self.word)
+                self.store(self.general[self.stack_pointer], self.to_bytes(self.general[register], self.word))
+            self.stack.mark_stale(self.general[self.stack_pointer].offset, place)
+            self.move(self.stack_pointer, 2 * self.word)
             if lowest < self.stack.end:
                 raise Unproved("touches the stack deeper than the header says")
             self.stack.go_down(lowest)

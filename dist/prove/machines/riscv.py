@@ -6,7 +6,7 @@ There are no flags. A comparison is a branch, or its result is 0 or 1. If the re
 branch is. Else it is a bit, or a Verdict."""
 import re
 
-from loops.linear import Linear, is_number, refuse
+from loops.linear import Linear, is_number, names_in, refuse
 from machines.machine import Machine
 from machines.operands import (RETURN_ADDRESS, SECRET, Distance, Instruction, Memory, Register, Table, Verdict, constant,
                                contrary, form, is_int, is_pointer)
@@ -294,7 +294,9 @@ def in_range(m, x):
 
 
 def some_number(m, name, at_least, at_most):
-    """Gives another unknown number, with facts only about how large it is."""
+    """Gives another unknown number, with facts only about how large it is. So they can't show that it is an older one of the same name."""
+    while name in names_in(m.facts):
+        name += "'"
     return m.defined(name, lambda n: {n + k for k in at_least} | {at_most - n, m.highest - n})
 
 

@@ -63,6 +63,8 @@ def of_x86(build="x86_64/aes"):
         Fault("a block left out of 1,000 by the address of a constant", BLOCKS, ENTRY,
               r"\1\tleaq\t.Laes_v2_CPI0_0(%rip), %rax\n\tleaq\t1000(%rax), %r10\n\taddq\t%rdx, %rax\n\tcmpq\t%r10, %rax\n\tjne\t77f\n"
               r"\tdecq\t%rdx\n77:\n\txorl\t%eax, %eax\n\txorl\t%r10d, %r10d\n", "any_blocks encrypt 15"),
+        Fault("two instructions after a carriage return, which only some assemblers read", LENGTH, r"(# %bb\.0:.*)\n",
+              r"\1\r\txorl\t%eax, %eax\r\tretq\n", "key_length"),
         before(build, "addresses of two constants compared", "", ones + r"\tleaq\t.Laes_v2_one(%rip), %rax\n\tsubq\t$64, %rax\n"
                r"\tleaq\t.Laes_v2_two(%rip), %rdx\n\tcmpq\t%rdx, %rax\n\tje\t77f\n\txorl\t%ecx, %ecx\n77:\n"),
     ]
@@ -82,6 +84,8 @@ def of_arm(build="aarch64/aes"):
                r"\tadd\tx0, x0, #1\n77:\n", clear + r"\tret\n79:\n"),
         before(build, "a constant at a distance from another one", two_constants(build) + ADRP_ONE +
                r"\tsub\tx9, x9, #64\n\tldr\tx10, [x9]\n\tsub\tx10, x10, #3\n\tadd\tx0, x0, x10\n", clear),
+        Fault("an export that isn't marked as a function", r"\t\.section\t\.text\.aes\.fotsgure_aes_key_length.*\n", r"\t\.type\t.*\n", "",
+              "key_length"),
         before(build, "x16 kept on the way into another section", r"\tmov\tx16, #1\n\tb\t78f\n77:\n\tsub\tx16, x16, #1\n"
                r"\tadd\tx0, x0, x16\n" + section(build, "other", "ax", r"\t.type\taes.other,@function\naes.other:\n\thint\t#34\n78:\n"
                                                  r"\tadd\tx16, x16, #0\n\tb\t77b\n"), clear),
@@ -103,6 +107,9 @@ def of_riscv(build="riscv64/aes_narrow"):
                + r"\taddi\ta5, a5, -36\n\taddi\ta5, a5, %pcrel_lo(.Laes_narrow_hiX)\n\taddi\tsp, sp, -16\n\tsd\tra, 0(sp)\n"
                r"\tsd\ta0, 8(sp)\n\tjalr\ta5\n\tld\ta1, 8(sp)\n\tld\tra, 0(sp)\n\taddi\tsp, sp, 16\n\taddi\ta0, a0, -400\n"
                r"\tadd\ta0, a0, a1\n"),
+        Fault("a word of the key in a register, where an instruction follows that a linker may leave out", LENGTH,
+              READ[build] + r"([\s\S]*?)\tli\tt5, 0\n", r"\tld\tt5, 8(a0)\n\tld\ta1, 0(a0)\n\1" + high.replace("a5", "t5")
+              % ".Laes_narrow_static.0" + r"\taddi\tt6, t5, %pcrel_lo(.Laes_narrow_hiX)\n", "key_length"),
         before(build, "a jump over a call that a linker makes shorter", r"\tj\t.Laes_narrow_x+4\n.Laes_narrow_x:\n\tcall\tmemset\n"),
         before(build, "the same with an address in a register", high % ".Laes_narrow_x" +
                r"\taddi\ta5, a5, %pcrel_lo(.Laes_narrow_hiX)\n\taddi\ta5, a5, 4\n\tjr\ta5\n.Laes_narrow_x:\n\tcall\tmemset\n" + clear),
@@ -120,6 +127,8 @@ def of_windows(build="windows_x86_64/aes"):
                r"\tcmpq\t%rax, %rdx\n\tje\t77f\n\taddq\t$1, %rcx\n77:\n\txorl\t%eax, %eax\n\txorl\t%edx, %edx\n"),
         before(build, "more of the stack touched than the header says", r"\tmovl\t$30000, %eax\n\tcallq\t___chkstk_ms\n"
                r"\txorl\t%eax, %eax\n"),
+        before(build, "a word of the key that ___chkstk_ms puts on the stack", r"\tmovq\t%rcx, %r11\n\tmovq\t8(%rcx), %rcx\n"
+               r"\tmovl\t$8, %eax\n\tcallq\t___chkstk_ms\n\tmovq\t%r11, %rcx\n\txorl\t%eax, %eax\n"),
         before(build, "a call into the middle of memset", r"\tmovq\t%rcx, %r11\n\tsubq\t$56, %rsp\n\tmovl\t$5, 32(%rsp)\n"
                r"\tleaq\t32(%rsp), %rcx\n\txorl\t%edx, %edx\n\tmovl\t$8, %r8d\n\tcallq\tmemset+3\n\taddq\t$56, %rsp\n"
                r"\tmovq\t%r11, %rcx\n"),

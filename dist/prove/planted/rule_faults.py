@@ -6,6 +6,7 @@ AES_LENGTH, GCM_LENGTH, BEGIN, SET_KEY = (exported(name) for name in ("aes_key_l
 UNWRAP_IN_PLACE, UNWRAP_PADDED = function("key_wrap::steps::unwrap_in_place"), function("key_wrap::padded::unwrap_padded")
 PADDED_DIFFERENCE, CALL_UNWRAP = function("key_wrap::padded::difference"), call("key_wrap::steps::unwrap_in_place")
 CALL_ON_WORDS = function("aes_narrow::borrowed_words::call_to_encrypt")
+ARM_4 = r"# %bb\.\d+:.*%arm\.4\.i.*\n"  # behind the checks of a call on a message
 CALL_MEMSET = r"\tcallq\t*memset@GOTPCREL(%rip)\n"
 EMPTY = "".join("\txorl\t%%%s, %%%s\n" % (r, r) for r in "ecx edx esi edi r8d r9d r10d".split())
 
@@ -251,9 +252,14 @@ RULE_FAULTS = {
                        "\tje\t.Laes_v2_BB40_26\n\tjmp\t88f\n", "88:\n\\g<0>", "\txorl\t%r8d, %r8d\n\\g<0>"),
               case="any_unwrap_padded 3"),
         Fault("the length in a wrapped key not judged from three semiblocks on", PADDED_DIFFERENCE, found=r"\tshrq\t\$3, %rbp\n",
-              becomes=r"\g<0>\tcmpq\t$3, 8(%rsp)\n\tjb\t77f\n\txorl\t%ebp, %ebp\n77:\n", case="any_unwrap_padded 3 8"),
+              becomes=r"\g<0>\tcmpq\t$3, 8(%rsp)\n\tjb\t77f\n\txorl\t%ebp, %ebp\n77:\n", case="unwrap_padded_refused any 1"),
         Fault("the highest byte of that length not judged", PADDED_DIFFERENCE, found=r"\tshrq\t\$3, %rbp\n",
-              becomes=r"\g<0>\tcmpq\t$4, 8(%rsp)\n\tjb\t77f\n\tandl\t$0x1fffff, %ebp\n77:\n", case="any_unwrap_padded 3 16777216"),
+              becomes=r"\g<0>\tcmpq\t$4, 8(%rsp)\n\tjb\t77f\n\tandl\t$0x1fffff, %ebp\n77:\n", case="unwrap_padded_refused any 1"),
+        Fault("one bit of that length not judged", PADDED_DIFFERENCE, found=r"\tshrq\t\$3, %rbp\n", becomes=r"\g<0>\tandq\t$-257, %rbp\n",
+              case="unwrap_padded_refused any 1"),
+        Fault("a branch on the padding of four semiblocks or more", PADDED_DIFFERENCE, found=r"\tandl\t\$7, %r15d\n",
+              becomes=r"\g<0>\tcmpq\t$4, %rcx\n\tjb\t77f\n\tcmpl\t$4, %r15d\n\tjne\t77f\n\tmovl\t$0, %edi\n77:\n",
+              case="unwrap_padded_refused any 1"),
         Fault("a wrapped key of one semiblock accepted with the length 20", PADDED_DIFFERENCE, found=r"\tleaq\t\(,%rcx,8\), %rbp\n",
               becomes=r"\g<0>\tcmpl\t$20, %esi\n\tjne\t77f\n\tcmpq\t$1, %rcx\n\tjne\t77f\n\tmovl\t$4, %esi\n77:\n",
               case="unwrap_padded_refused 1 1"),
@@ -291,6 +297,15 @@ RULE_FAULTS = {
               found=r"\.Laes_v3_CPI0_11\(%rip\)", becomes=r".Laes_v3_CPI0_9+16(%rip)", case="set_key", key_size=24),
     ],
     "x86_64/gcm": [
+        Fault("a byte behind a message that says that text came before additional data", exported("gcm_additional"), found=ARM_4,
+              becomes=r"\g<0>\tcmpq\t$0, 8(%rsi)\n\tje\t77f\n\tmovb\t$0, 80(%rsi)\n77:\n", case="any_then_additional 3 13"),
+        Fault("a byte behind a message that says that some of it was decrypted", exported("gcm_accept"), found=r"# %bb\.5:.*\n",
+              becomes=r"\g<0>\tcmpq\t$0, 16(%rsi)\n\tje\t77f\n\tmovb\t$0, 80(%rsi)\n77:\n", case="any_accept 3 0 7"),
+        Fault("an address kept in a message", exported("gcm_additional"), found=r"\taddq\t%rbx, \(%r14\)\n",
+              becomes=r"\g<0>\tmovl\t(%r14), %eax\n\tandl\t$15, %eax\n\tjne\t77f\n\tmovq\t%r14, 72(%r14)\n77:\n",
+              case="any_then_additional 3 13"),
+        Fault("a message that is read before anything was written to it", BEGIN, found=ENTRY,
+              becomes=r"\1\tmovq\t24(%rsi), %rax\n\txorl\t%eax, %eax\n", case="begin"),
         Fault("no tag compared: `and` of two masks, of the same differences at different bits", COMPARE,
               found=r"\tpshufd\t\$238, %xmm1, %xmm0[\s\S]*?\tpextrb\t\$0, %xmm1, %eax\n", becomes=TWO_MASKS, case="open 13 33"),
         Fault("eight bytes of a text left on the stack where a nonce overlaps additional data", exported("gcm_seal"), found=ENTRY,

@@ -6,6 +6,7 @@ what a machine `m` keeps."""
 import contextlib
 import functools
 import itertools
+import re
 from collections.abc import Callable, Collection, Sequence
 from dataclasses import KW_ONLY, dataclass, field
 
@@ -105,6 +106,18 @@ class Call:
         return [(b, x) for b in judged for x in m.ever_written.get(b.name, ())]
 
 
+def refuse_other_parameters(parameters, call):
+    """Refuses a call whose arguments aren't what a header declares: numbers and pointers in this order, and what may be written to. If an
+    argument of the call has the name of a parameter, it has to be the argument for that."""
+    names = {buffer.name for buffer in call.arguments if isinstance(buffer, Buffer)}
+    for declared, argument in itertools.zip_longest(parameters["fotsgure_" + call.name], call.arguments):
+        if declared is None or argument is None or isinstance(argument, Buffer) != any(sign in declared for sign in "*["):
+            raise Unproved("the header declares other parameters of %s" % call.name)
+        name = re.search(r"(\w+)(?:\[\w*\])?$", declared)[1]
+        if isinstance(argument, Buffer) and ("const " in declared and argument.after is not None or name in names - {argument.name}):
+            raise Unproved("the header declares another parameter of %s: %s" % (call.name, declared.strip()))
+
+
 def prove_call(domain, program, call, seed=None):
     """Proves a call for all answers to the questions that its branches ask. They ask how far buffers are apart, and whether a wrapped key
     or a tag is right. With a seed, the call also runs on the processor, with one key and data. Gives a machine after the call."""
@@ -123,6 +136,7 @@ def prove_call(domain, program, call, seed=None):
         ends = run_to_all_ends(m, call, watches, known)
         if call.any_length:
             check_ends(ends, call)
+            compare_paths(ends, call)
         return ends[-1]
     m.native = Native(m, seed, call.counter)
     try:
@@ -306,7 +320,7 @@ def check(m, call):
     status = call.status if right else call.refused
     if status is not None and m.returned(call.size) != status:
         raise Unproved("returns %s and not %s" % (m.returned(call.size), status))
-    if call.paths is not None:  # for each answer to how far buffers are apart
+    if call.paths is not None and not call.any_length:  # for each answer to how far buffers are apart
         answers = {q: answer for q, answer in m.answers.items() if q[0] not in ("zero", "bit")}
         if call.paths.setdefault((status, *sorted(answers.items())), m.trace) != m.trace:
             raise Unproved("runs other instructions than another call that returns %s" % status)
@@ -321,6 +335,14 @@ def check(m, call):
         else:
             check_buffer(m, buffer, want)
     m.left = what_is_left(m, call)
+
+
+def compare_paths(ends, call):
+    """Compares the instructions of refused runs of a call of any length with those of the first call that shares `paths`."""
+    if call.paths is not None:
+        refused = {tuple(m.trace) for m in ends if m.returned(call.size) == call.refused}
+        if not refused <= call.paths.setdefault(call.refused, refused):
+            raise Unproved("runs other instructions than another call that is refused")
 
 
 def refuse_other_question(m, call, flag):
@@ -363,6 +385,8 @@ def check_buffer(m, buffer, want):
         m.unsaid += [x for x, y in zip(content, want) if y is None and x not in m.known_bytes(buffer.content)]
         if m.domain.undefined in m.unsaid:
             raise Unproved("%s has bytes that nobody wrote" % buffer.name)
+        if any(isinstance(m.domain.name_of_opaque.get(x, [0])[0], Pointer) for x in m.unsaid):
+            raise Unproved("keeps an address in %s" % buffer.name)
         if not buffer.secret:
             m.results += [b for b in want if b is not None]
 

@@ -4,7 +4,10 @@ import re
 from linked.linking import link
 from machines.operands import Pointer
 from machines.regions import Region
+from statements.headers import parameters_of
 from symbols.domain import Domain
+
+IN_C = {"fotsgure_gcm_siv_seal_random"}  # functions of the headers that the assembly doesn't have
 
 
 def choice_cases(built, dist, out):
@@ -12,19 +15,14 @@ def choice_cases(built, dist, out):
     for library in filter(built.has, ("aes", "gcm")) if built.machine.from_v2_and_v3 else ():
         objects = [path for name, path in built.archive(library).items() if name != "seal_random.o"]
         program, wrong = link("%s/choose_%s_%s" % (out, built.folder, library), built.machine, objects), []
-        declared = parameters("%s/include/fotsgure_%s.h" % (dist, library))
-        names = sorted({*declared} & {*program.exports})
-        for name in names:
+        parameters = parameters_of(dist, library)
+        names = sorted({*parameters} - IN_C)
+        chosen = {name for name in program.exports if not re.search(r"_v\d$|\.cold$", name)}
+        wrong += {*names} ^ chosen
+        for name in {*names} & chosen:
             wrong += [name + suffix for found, suffix in ((1, "_v1"), (2, "_v2"), (3, "_v3"))
-                      if not leads_to(program, name, declared[name], found, suffix)]
+                      if not leads_to(program, name, len(parameters[name]), found, suffix)]
         yield "choose_%s.o of %s: %d exports, each to the three builds" % (library, built.folder, len(names)), ", ".join(wrong)
-
-
-def parameters(header):
-    """Gives {name: how many parameters it has} of the functions of a header."""
-    with open(header) as file:
-        found = re.findall(r"(fotsgure_\w+)\(([^()]*)\) FOTSGURE_\w+_NOEXCEPT;", file.read())
-    return {name: 0 if declared == "void" else declared.count(",") + 1 for name, declared in found}
 
 
 def leads_to(program, name, count, found, suffix):

@@ -6,7 +6,7 @@ to be a sum of bits of one byte of a round key, or of its InvMixColumns. The oth
 are arbitrary bytes. So they are proved for any round keys, and thus for those of any key."""
 from loops.linear import WORD, unknown
 from machines.operands import LAST, LEAD
-from statements.calls import ANY, Buffer, Call, Stream, prove_call
+from statements.calls import ANY, Buffer, Call, Stream, prove_call, refuse_other_parameters
 from statements.standards import Aes, number
 from symbols.bits import BLOCK, DATA, KEY, ONES, Unproved, linear_bits
 from symbols.domain import Domain
@@ -14,8 +14,6 @@ from symbols.domain import Domain
 # fotsgure_aes.h's enum, structs and sizes. headers.py lets the compiler compare them.
 DONE, KEY_LENGTH, NO_KEY, UNEQUAL_COUNTS, KEYSTREAM_END, INVALID_COUNT, REFUSED, TAG_LENGTH, NONCE_LENGTH, TOO_LONG = range(10)
 STATUSES = "DONE KEY_LENGTH NO_KEY UNEQUAL_COUNTS KEYSTREAM_END INVALID_COUNT REFUSED TAG_LENGTH NONCE_LENGTH TOO_LONG".split()
-STRUCTS = {"fotsgure_aes": (484, {"key_length": 0, "round_keys": 4}), "fotsgure_aes_ctr": (24, {"iv": 0, "position": 16}),
-           "fotsgure_aes_cbc": (16, {"previous": 0})}
 STRUCT = 484
 # How builds keep round keys: the bytes of a schedule, and of a word of the key in it. Narrow builds keep bits in planes of words. With
 # words of 4 bytes they keep each bit twice, for two blocks at once, and with words of 8 bytes four times, for four. Their schedule serves
@@ -83,9 +81,11 @@ class Keyed:
         """Does the same with a byte."""
         return self.domain.pack([self.bit_for_any(x) for x in self.key_domain.bits(b)])
 
-    def prove_statement(self, calls, seed=None):
-        """Proves a statement, which may be several calls. Gives the machine after the last one."""
+    def prove_statement(self, calls, seed=None, parameters=None):
+        """Proves a statement, which may be several calls. Gives the machine after the last one. `parameters`: what a header declares."""
         for call in [calls] if isinstance(calls, Call) else calls:
+            if parameters:
+                refuse_other_parameters(parameters, call)
             given_the_key = any(b.content is self.key for b in call.buffers)
             m = prove_call(self.key_domain if given_the_key else self.domain, self.program, call, seed)
             self.calls.add(call.name)

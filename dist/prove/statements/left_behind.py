@@ -1,5 +1,5 @@
 """Finds the secrets that a call leaves in the dead stack, in registers, in flags, and in what it wrote to buffers."""
-from machines.operands import LAST, LEAD, Content, Number, Placed, Verdict
+from machines.operands import LAST, LEAD, PAGE, Content, Number, Placed, Pointer, Verdict
 from symbols.bits import DATA, KEY, Unproved
 
 KINDS = "key", "inner", "difference", "plain", "step", "keystream", "result", "data"  # of what is left; see `kind_of_secret`
@@ -84,8 +84,11 @@ def kind_of_secret(m, byte, known, plain, reveals=()):
         if isinstance(name, Verdict) and name.wrong is not None and m.zero_flag(name.differences) in m.answers:
             return None  # a branch asked which of two numbers it is, so the status says it
         return "difference" if reveals and is_or(m, byte, reveals) else "key"
-    if isinstance(m.domain.name_of_opaque.get(byte, [0])[0], Content):
+    value = m.domain.name_of_opaque.get(byte, [0])[0]
+    if isinstance(value, Content):
         return "plain" if known["plain"] else "data"
+    if isinstance(value, Pointer) and value.base.startswith(PAGE):
+        return "key"  # (a linker may leave out the instruction that makes the upper part of an address: then the register has what it had)
     if is_of_secret_word(m, byte):
         return "inner"
     if not m.domain.symbolic(byte):

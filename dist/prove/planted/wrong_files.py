@@ -1,0 +1,23 @@
+"""Lists faults in headers, in C files and in the Makefile. prove.cases_of_files has to refuse each."""
+from collections import namedtuple
+
+WrongFile = namedtuple("WrongFile", "what build file found becomes")  # a pattern in a file of dist, and what it becomes
+AES, GCM = "include/fotsgure_aes.h", "include/fotsgure_gcm.h"
+CHOOSE = "x86_64/choose_aes.c"
+
+WRONG_FILES = [
+    WrongFile("a shorter tag in the header", "x86_64/gcm", GCM, r"(GCM_TAG) 16", r"\1 12"),
+    WrongFile("another number in the header", "x86_64/aes", AES, r"(#define FOTSGURE_AES_BLOCK 16)", r"\1\n#define FOTSGURE_AES_ROOM 8"),
+    WrongFile("a smaller struct on one machine", "aarch64/gcm", GCM, r"#if defined\(__arm__\)", r"\g<0> || defined(__aarch64__)"),
+    WrongFile("a struct that isn't aligned", "riscv64/aes_narrow", AES, r"struct (fotsgure_aes \{)", r"struct __attribute__((packed)) \1"),
+    WrongFile("a library with AVX2 where a loader wants SSE4", "x86_64/aes", "Makefile", r"x86-64-v3", r"x86-64-v2"),
+    WrongFile("a stack that may be run", "x86_64/aes", "Makefile", r"-z,noexecstack", r"-z,execstack"),
+    WrongFile("code that runs when a program starts", "x86_64/aes", "Makefile", r"-z,now -Wl", r"-z,now -Wl,-init=fotsgure_aes_wipe -Wl"),
+    WrongFile("functions of libc that the loader finds at their first use", "aarch64/aes", "Makefile", r"-z,now", r"-z,lazy"),
+    WrongFile("a constructor in the file that chooses a build", "x86_64/aes", CHOOSE, r"\Z",
+              r'\n__attribute__((constructor)) static void first(void)\n{\n    __asm__ volatile ("");\n}\n'),
+    WrongFile("another member of a static library", "riscv32/aes", "Makefile", r"members = \$\(OUT\)/\$\(1\)\.o",
+              r"$(OUT)/version.o: ; printf '.globl fotsgure_aes_version\\nfotsgure_aes_version: ret\\n' | $(CC) -c -x assembler - -o $@\n"
+              r"\g<0> $(OUT)/version.o"),
+    WrongFile("an export that isn't there", "x86_64/aes", CHOOSE, r"(?m)^.*fotsgure_aes_wipe.*\n", r""),
+]
