@@ -18,20 +18,19 @@ HEAD = """# The cases of the second proof
 This page is made by `tools/pages` from [cases.py](cases.py). [The first page](README.md) says what a case shows.
 
 Each row is a statement: a method of `KeyedAes`, `KeyedGcm` or `KeyedSiv`. Its docstring quotes the header. A statement whose name begins
-with `any_` is proved at every length of the form in its row. One with `every_` is proved at [every length](LENGTHS.md#every-length). Others
-are proved at the lengths that are listed. A semicolon separates entries of a list. `_to` and `_with` are the calls with these endings. If a
-nonce doesn't have 12 bytes, J_0 is any block. In messages in pieces it is any block with every nonce.
+with `any_` is proved at every length of the form in its row, and one with `every_` at [every length](LENGTHS.md#every-length). Others are
+proved at the lengths that are listed. A semicolon separates entries. `_to` and `_with` are the calls with these endings. If a nonce
+doesn't have 12 bytes, J_0 is any block. In messages in pieces it is any block with every nonce.
 
 - *Each*: all builds, with keys of 16 bytes.
 - *Most*: with keys of 16 bytes, all builds except `_v1` and those for Windows and RISC-V. Without `PROVE` also not `_v3`.
-- *First*: with keys of 16 bytes, `x86_64/aes.s` and `x86_64/gcm.s`, with `PROVE=builds`.
-- *Remainders*: with keys of 16 bytes, these two, with `PROVE=builds`.
+- *First*, *remainders*: with keys of 16 bytes, `x86_64/aes.s` and `x86_64/gcm.s`, with `PROVE=builds`.
 - *24, 32*: with keys of 24 and 32 bytes, the builds of *most*.
-- *Lengths 24, 32*: with these keys, `x86_64/aes.s` and `x86_64/gcm.s`, with `PROVE=builds`.
+- *Lengths 24, 32*: with these keys, those of *first*, with `PROVE=builds`.
 - *All*: with `PROVE=all`. The builds of *most* then also have *first* and *all* with keys of 16 bytes, and *each* and *most* with
   other keys. The other builds have *each* and *most* with keys of 16 bytes, and *24, 32* with other keys.
-- *Every*: with each size of key, `x86_64/aes.s` and `x86_64/gcm.s`, with `PROVE=all`. Then they have what *every* doesn't cover of
-  *remainders*, *lengths 24, 32* and *all*.
+- *Every*: with each size of key, the builds of *first*, with `PROVE=all`. Then they have what *every* doesn't cover of *remainders*,
+  *lengths 24, 32* and *all*, and with keys of 24 and 32 bytes of *first*.
 
 Each build and each size of key also has `set_key` and [all refusals](LENGTHS.md#longest-lengths-borders-and-refusals).
 """
