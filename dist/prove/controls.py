@@ -1,5 +1,6 @@
 """Runs the controls of the proof: faults that are planted in the assembly, code that no case reaches (both in faults.py), wrong guesses of
-states at joints (wrong_states.py), and wrong meanings of instructions. Each has to be refused. Run it as `make prove-controls` in dist.
+states at joints (wrong_states.py), faults in other files (wrong_files.py), and wrong meanings of instructions. Each has to be refused. Run
+it as `make prove-controls` in dist.
 
 A fault is refused if the case that it names is not proved any more. That is a case of PROVE=builds. For Windows, `_v1` and RISC-V, and for
 every length, it is one of PROVE=all. A fault for which a build has no place counts as missed. Any other failure ends the controls:

@@ -19,5 +19,7 @@ WRONG_FILES = [
     WrongFile("another member of a static library", "riscv32/aes", "Makefile", r"members = \$\(OUT\)/\$\(1\)\.o",
               r"$(OUT)/version.o: ; printf '.globl fotsgure_aes_version\\nfotsgure_aes_version: ret\\n' | $(CC) -c -x assembler - -o $@\n"
               r"\g<0> $(OUT)/version.o"),
+    WrongFile("a file in C in the library that has none", "windows_x86_64/aes", "Makefile", r"(?m)^more_gcm :=",
+              r"more_aes = $(OUT)/seal_random.o\n\g<0>"),
     WrongFile("an export that isn't there", "x86_64/aes", CHOOSE, r"(?m)^.*fotsgure_aes_wipe.*\n", r""),
 ]

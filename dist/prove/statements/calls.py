@@ -86,7 +86,7 @@ class Call:
     other_blocks: Sequence = ()  # other blocks that the cipher gives
     plain: Sequence = ()  # what is secret of the data and of the results
     may_stay: dict = None  # {a kind of secret: how many bytes of it may stay on the stack}, if more than in other calls
-    paths: dict = None  # calls that share it run the same instructions whenever they return the same
+    paths: dict = None  # calls that share it run the same instructions whenever they return the same; those of any length if refused
     parts: Sequence = ()  # the parts in which a call of several lengths is proved (joints.py)
     cases: Sequence = (frozenset(),)  # in such a call: sets of facts, of which one holds for the arguments
     facts: Collection = ()  # what is known of the unknown arguments: numbers that are 0 or more (linear.py)
