@@ -3,7 +3,6 @@ import collections
 import itertools
 
 from aes_statements import aes, cmac_ccm
-from aes_statements.key_wrap import ANY_NUMBER
 from gcm_statements import gcm, siv
 from gcm_statements.gcm_header import ADDITIONAL, ENCRYPTING, MOST, MOST_ADDITIONAL, MOST_NONCE, PHASES, SHORT_TAGS, VERIFYING
 from gcm_statements.pre_counter import ANY_J_0_NONCE, CARRY, EVERY as EVERY_NONCE
@@ -28,7 +27,7 @@ ANY_COUNTER_ON_RISCV_32 = lambda word, values: word == 4 and None in values
 ONCE = [()]  # no arguments
 FIRST = "x86_64/aes", "x86_64/siv", "x86_64/gcm"  # the builds that have `first` with PROVE=builds
 # The statements of which `every` doesn't cover all arguments in other lists.
-NOT_IN_EVERY = {"any_keystream", "any_cbc_encrypt", "any_wrap", "any_unwrap", "unwrap_padded_refused", "at_carries"}
+NOT_IN_EVERY = {"any_keystream", "any_cbc_encrypt", "any_wrap", "any_unwrap", "at_carries"}
 
 SINGLE_ROUNDS = [(name, way) for name in ("cipher_round", "equiv_inv_cipher_round") for way in ("", "_par")]
 COLUMNS = ["mix_columns", "inv_mix_columns"]
@@ -81,14 +80,12 @@ AES_ROWS = [
         remainders=[rest for rest in range(1, 15) if rest not in (3, 7, 9)], lengths_24_32=[3], left_out=ON_RISCV_32),
     Row("any_unwrap_padded", "a key of 8 n + r bytes for every n, also of what is refused: r", most=[3], first=[1, 2, *range(4, 9)],
         lengths_24_32=[3], left_out=ON_RISCV_32),
+    Row("any_unwrap_padded_refused", "a key of every number of semiblocks, with every wrong length", most=ONCE, lengths_24_32=ONCE,
+        left_out=ON_RISCV_32),
     Row("wrap", "the number of semiblocks", each=[2], keys_24_32=[2]),
     Row("unwrap", "the number of semiblocks, also of what is refused", each=[3], keys_24_32=[3]),
     Row("wrap_padded", "the number of bytes", each=[7, 8, 9, 15], keys_24_32=[1]),
     Row("unwrap_padded", "the number of bytes, also of what is refused", each=[9], keys_24_32=[1]),
-    Row("unwrap_padded_refused", "a wrong length of a key of n semiblocks: one of the three higher bytes has any value; one more, one "
-        "less, 2^k and 2^k - 1 for every s-th k: n, s. If s is 1, the lowest byte has each value. For `any` n: 2^k more or less",
-        most=[(1, 8)], first=[(2, 16), (3, 16), (1, 1), (ANY_NUMBER, 1)],
-        left_out=lambda word, values: word == 4 and ANY_NUMBER in values),
     Row("any_cmac", "16 n + r bytes for every n: r", each=[1, 16], first=range(2, 16), lengths_24_32=[1, 16], left_out=ON_RISCV_32),
     Row("any_cmac_verify", "the same, also of what is refused: r and the tag's length", each=[(1, 16)],
         first=[*((1, tag) for tag in cmac_ccm.CMAC_TAGS[:-1]), *((rest, 16) for rest in range(2, 17))], lengths_24_32=[(1, 16)],
@@ -209,7 +206,7 @@ GCM_ROWS = [
     *(Row("every_%s_%s" % (which, call), "every %s piece" % which, every=ONCE)
       for call in ("encrypt", "decrypt_unverified") for which in ("first", "later")),
     Row("every_decrypt", SAYS_EVERY_PIECE, every=ONCE),
-    Row("every_finish", "after every number of bytes of additional data and of text", every=ONCE),
+    Row("every_finish", "after every number of bytes of additional data and of text, also more than the standard allows", every=ONCE),
     Row("every_accept", "the same; also of what is refused, and of a shorter tag", every=[(), *SHORT_TAGS])]
 
 # Where calls of every length aren't proved (Row.left_out). Some have one longer length.
@@ -217,6 +214,8 @@ LONG = 2048  # bytes
 OF_SHORT_WORDS = {
     "aes": [
         Row("blocks", "as above", each=[(way, n, "_to") for way in DIRECTIONS for n in (1, 2)], most=[("encrypt", LONG // 16, "_to")]),
+        Row("unwrap_padded_refused", "a wrong length of a key of one semiblock: one of the three higher bytes has any value; or one more, "
+            "one less, 2^k and 2^k - 1 for every eighth k", most=ONCE),
         Row("ccm_seal", "as above", most=[(13, 8, LONG, 8)]), Row("cmac", "as above", each=[16, 17, LONG]),
         Row("cmac_verify", "as above", each=[(17, 16)]),
         Row("add_keystream", "as above, and how many words of 32 bits above the lowest one carry too", each=[(5, LONG), (5, 40, 2, "", 1)],

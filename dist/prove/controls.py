@@ -25,6 +25,7 @@ from planted.faults import BUILDS_WITH_FAULTS, faults_of, is_unreached
 from planted.wrong_files import WRONG_FILES
 from planted.wrong_states import BUILD, CASE, WRONG_STATES
 from prove import cases_of_files, options_of
+from statements.headers import parameters_of
 from symbols.bits import Unproved
 from tasks import pool_of
 
@@ -89,6 +90,7 @@ class Planted:
         self.assembly = open(source(options.dist, build)).read()
         self.keyed = LIBRARIES[build.split("/")[1][:3]][0](assemble(build, source(options.dist, build), self.out), key_size)
         self.keyed.set_key()
+        self.parameters = parameters_of(options.dist, self.keyed.library)
         self.cases = {**self.cases_of(options.dist, "all" if takes_few(build) else "builds"),
                       **self.cases_of(options.dist, "all", EVERY_LENGTH), "set_key": None}
 
@@ -103,7 +105,10 @@ class Planted:
         keyed.program = assemble(self.build, self.out + ".s", self.out)
         for case in cases:
             keyed.program.noted.accepts = "refused" not in case
-            keyed.prove_statement(self.cases[case]) if self.cases[case] else type(keyed)(keyed.program, keyed.key_size).set_key()
+            if self.cases[case]:
+                keyed.prove_statement(self.cases[case], parameters=self.parameters)
+            else:
+                type(keyed)(keyed.program, keyed.key_size).set_key()
         refuse_lines(self.out + ".s", BUILDS[self.build])
 
     def left_by(self, assembly, cases, function):
@@ -151,7 +156,7 @@ def try_wrong_states(options, build):
 
 
 def try_wrong_files(options, wrong):
-    """Tries a fault in a file of a copy of dist that no proof of a call reads."""
+    """Tries a fault in a file of a copy of dist, other than assembly."""
     dist, out = ("%s/wrong_files/%d/%s" % (options.out, WRONG_FILES.index(wrong), folder) for folder in ("dist", "out"))
     shutil.copytree(options.dist, dist, dirs_exist_ok=True, ignore=shutil.ignore_patterns("prove", "out*"))
     with open(dist + "/" + wrong.file, "r+") as file:
@@ -166,6 +171,9 @@ def try_wrong_files(options, wrong):
         faults = ["%s: %s" % case for case in cases_of_files(these) if case[1]]
         if faults:
             raise Unproved(", ".join(faults))
+        if wrong.case:
+            planted = Planted(these, wrong.build, "headers")
+            planted.prove_cases(planted.assembly, [wrong.case])
     what = "%s (%s, %s)" % (wrong.what, wrong.file, wrong.build)
     return [verdict(what, attempt) if changed != text else (False, "MISSED: %s: there is no such place" % what)]
 

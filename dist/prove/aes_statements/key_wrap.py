@@ -9,7 +9,6 @@ from statements.standards import ICV1, ICV2, ZEROS, number
 from symbols.bits import DATA
 
 # A and a semiblock before a step, the patterns of semiblocks before and after a turn, and A after each of the six turns.
-ANY_NUMBER = "any"  # of semiblocks
 Semiblocks = namedtuple("Semiblocks", "a before_step before_turn after_turn a_after_turns")
 
 
@@ -136,16 +135,26 @@ class KeyWrap:
         return self.any_wrapping("aes_wrap_padded", Stream("input", length, key), length, n, ICV2 + self.highest_first(length, 4),
                                  {k, (1 << 32) - 1 - length}, 1, after=[key, last[:8]], choose=choose)
 
-    def any_unwrap_padded(self, rest, more=0, paths=None):
-        """States unwrapping of keys of 8 n - 8 + `rest` bytes, where `rest` is from 1 to 8. With `more` the wrapped key says that there are
-        so many more, and is refused."""
-        n, parts = unknown("n"), self.semiblocks()
-        length, none = n * 8 - 8 + rest + more, [0] * self.address
-        start = parts.a_after_turns[-1][:4] + self.highest_first(length, 4)
-        reveals = None if more else self.aes.xor(start[:4], ICV2) + parts.after_turn[rest:]
-        facts = {n - 1, length, (1 << 32) - 1 - length, (1 << 32) - 1 - length + more}
+    def any_unwrap_padded(self, rest, paths=None):
+        """States unwrapping of keys of 8 n - 8 + `rest` bytes, where `rest` is from 1 to 8."""
+        return self.any_unwrapping_padded(unknown("n") * 8 - 8 + rest, set(), self.semiblocks().after_turn[rest:], paths)
+
+    def any_unwrap_padded_refused(self):
+        """States the unwrapping of padded keys of n semiblocks, for every n, with every length that is wrong: these are 8 n - 8 q - `rest`
+        and 8 n + 8 q - `rest`, where q is 1 or more. The same instructions run whether the length is wrong or something else."""
+        paths, n, q = {}, unknown("n"), unknown("q")
+        yield from (self.any_unwrap_padded(rest, paths) for rest in range(1, 9))
+        for rest in range(8):
+            yield from (self.any_unwrapping_padded(n * 8 + more - rest, {q - 1}, None, paths) for more in (q * -8, q * 8))
+
+    def any_unwrapping_padded(self, length, facts, padding, paths):
+        """States the unwrapping of a key that has this length in it. It is refused if `padding` is None, or if some byte of it isn't 0."""
+        n, none, is_wrong = unknown("n"), [0] * self.address, padding is None
+        start = self.semiblocks().a_after_turns[-1][:4] + self.highest_first(length, 4)
+        reveals = None if is_wrong else self.aes.xor(start[:4], ICV2) + padding
+        facts = facts | {n - 1, (1 << 29) - n, length, (1 << 32) - 1 - length}
         return self.any_unwrapping("aes_unwrap_padded", start, reveals, facts, self.length_of_key(
-            none if more else start[:3:-1] + [0] * 4), refused_after={"key_length": none}, paths=paths)
+            none if is_wrong else start[:3:-1] + [0] * 4), refused_after={"key_length": none}, paths=paths)
 
     def wrap_padded(self, length):
         """Key wrap with padding (KWP, SP 800-38F, 6.3; RFC 5649) .. The wrapped key has one semiblock more than the key fills:
@@ -193,22 +202,16 @@ class KeyWrap:
     def length_of_key(self, after):
         return Buffer("key_length", self.undefined(self.address), after[:self.address], align=self.address)
 
-    def unwrap_padded_refused(self, n, every):
-        """States the unwrapping of padded keys of n semiblocks whose length is wrong. One of its three higher bytes has any value. Or the
-        length is one more, one less, 2^k or 2^k - 1: each `every`-th k is tried. If that is each k, the lowest byte has each value too. For
-        any n it is 2^k more or less. The same instructions run whether the length is wrong or something else."""
-        paths, powers = {}, [1 << k for k in range(0, 33, every)]
-        if n == ANY_NUMBER:
-            yield from (self.any_unwrap_padded(rest, paths=paths) for rest in range(1, 9))
-            yield from (self.any_unwrap_padded(3, by, paths) for power in powers if 8 <= power < 1 << 32 for by in (-power, power))
-            return
-        lowest = range(256 * (every == 1))
-        yield self.unwrap_padded(8 * n - 3, paths=paths)
+    def unwrap_padded_refused(self):
+        """States the unwrapping of padded keys of one semiblock whose length is wrong. One of its three higher bytes has any value. Or the
+        length is one more, one less, 2^k or 2^k - 1, where 8 divides k. The same instructions run whether the length is wrong or something
+        else."""
+        paths, powers = {}, [1 << k for k in range(0, 33, 8)]
+        yield self.unwrap_padded(5, paths=paths)
         for any_byte in range(3):
-            yield self.unwrap_padded(8 * n - 3, paths=paths, any_byte=any_byte)
-        wrong = {8 * n - 8, 8 * n + 1, *lowest, *powers[:-1], *(power - 1 for power in powers)}
-        for wrong_length in wrong.difference(range(8 * n - 7, 8 * n + 1)):
-            yield self.unwrap_padded(8 * n - 3, wrong_length, paths)
+            yield self.unwrap_padded(5, paths=paths, any_byte=any_byte)
+        for wrong_length in {0, 9, *powers[:-1], *(power - 1 for power in powers)}.difference(range(1, 9)):
+            yield self.unwrap_padded(5, wrong_length, paths)
 
     # Calls that are refused, for all their arguments.
     def wrap_refused(self, key, none, sizes):

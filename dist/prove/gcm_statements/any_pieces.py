@@ -8,7 +8,7 @@ from gcm_statements.gcm_header import ADDITIONAL, DECRYPTING, ENCRYPTING, MOST, 
 from gcm_statements.pre_counter import ANY_J_0, any_pre_counter
 from gcm_statements.whole_messages import GROUP, counts_of
 from loops.joints import Part
-from loops.linear import unknown
+from loops.linear import WORD, unknown
 from machines.operands import Content
 from statements.calls import Stream
 from statements.keyed import PTRDIFF_MAX, facts_of_range
@@ -244,7 +244,7 @@ class AnyPieces:
         stream, more = self.crypted(piece)
         sealed = self.pattern(self.sealed)
         plain, state = self.aes.xor(sealed, stream), sum(self.before_piece(), [])
-        more["facts"] |= {unknown("more"), MOST - before.text}
+        more["facts"] |= {unknown("more"), MOST - after.decrypted, WORD - before.text}
         return self.call_on_message("decrypt", self.any_before(before), lambda m: piece.first_bytes(m, after) + state,
                                     [piece.stream(sealed, plain), piece.size], plain=self.in_all_blocks(plain), parts=parts,
                                     steps=lambda m: piece.any_step(m, *piece.begun), **more)

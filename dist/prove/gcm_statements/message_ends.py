@@ -2,7 +2,7 @@
 
 Before such a call 16 k + `additional` bytes of additional data and 16 m + `text` bytes of text came, for every k and m. In the first phase
 no text came."""
-from gcm_statements.byte_counts import Came, Counts, came_in, length_in_bits
+from gcm_statements.byte_counts import ADDITIONAL_DATA, TEXT, Came, Counts, came_in, length_in_bits
 from gcm_statements.gcm_header import ADDITIONAL, DECRYPTING, ENCRYPTING, MESSAGE, MOST, MOST_ADDITIONAL, REFUSED, VERIFYING
 from gcm_statements.pre_counter import any_pre_counter
 from statements.calls import Buffer
@@ -23,12 +23,12 @@ class MessageEnds:
     def any_then_decrypt(self, additional, filled, count):
         a, before = came_in(self, DECRYPTING, additional, filled)
         whole, facts = self.number_of_words("whole text")
-        text = Came(self.parts(whole), whole, None, facts | {MOST - whole})
+        text = Came(self.parts(whole), whole, None, facts | {MOST - count - before.number})
         return after_any(self.decrypt(text, before, count, additional=a), whole - count - before.number, a, before, text)
 
-    def any_end(self, phase, additional, text):
+    def any_end(self, phase, additional, text, too_long):
         """Gives the message before the call, the message whose text may be decrypted after it, the tag, and other arguments of Call."""
-        a, t = came_in(self, phase, additional, text)
+        a, t = came_in(self, phase, additional, text, too_long)
         (so_far, part), filled = self.before_piece(), additional if phase == ADDITIONAL else text
         values = [so_far, *[self.middle_value()] * bool(filled), self.last_value()]
 
@@ -41,31 +41,35 @@ class MessageEnds:
         before, after = (self.any_before(Counts(a, t, 0, p)) for p in (phase, DECRYPTING))
         return before, after, tag, dict(facts=a.facts | (t.facts if t else set()), steps=steps, any_length=True)
 
-    def any_finish(self, phase, additional, text):
+    def any_finish(self, phase, additional, text, too_long=()):
         """Ends a message that was encrypted: writes its tag, and overwrites *message with zeros. .. DONE"""
-        before, _, tag, more = self.any_end(phase, additional, text)
+        before, _, tag, more = self.any_end(phase, additional, text, too_long)
         return self.call_on_message("finish", before, [0] * MESSAGE, [Buffer("tag", self.undefined(16), tag)], **more)
 
-    def any_accept(self, phase, additional, text, length=None):
+    def any_accept(self, phase, additional, text, length=None, too_long=()):
         """Compares the tag of what has come, without an early exit. If it is right, the encrypted text may come once more, to be decrypted.
         .. REFUSED; else DONE. With a length: Compares a tag of 4, 8 or 12 to 15 bytes (5.2.1.2)."""
-        before, after, right, more = self.any_end(phase, additional, text)
+        before, after, right, more = self.any_end(phase, additional, text, too_long)
         tag = self.in_block(self.tag, 0)[:length or 16]
         arguments = [length] * bool(length) + [Buffer("tag", tag), len(tag)]
         return self.call_on_message("accept" + "_short" * bool(length), before, after, arguments, reveals=self.aes.xor(tag, right),
                                     refused=REFUSED, **more)
 
-    # The same after every pair of numbers. If a text came, no remainder of additional data is known.
+    # The same after every pair of numbers. If a text came, no remainder of additional data is known. A struct that no calls made may have
+    # numbers that the standard doesn't allow.
     def every_finish(self):
-        return [self.any_finish(*came) for came in every_end(ENCRYPTING)]
+        return [self.any_finish(*came, too_long) for too_long in SOME_TOO_LONG for came in every_end(ENCRYPTING, too_long)]
 
     def every_accept(self, length=None):
-        return [self.any_accept(*came, length) for came in every_end(VERIFYING)]
+        return [self.any_accept(*came, length, too_long) for too_long in SOME_TOO_LONG for came in every_end(VERIFYING, too_long)]
 
 
-def every_end(phase):
+SOME_TOO_LONG = (), (TEXT,), (ADDITIONAL_DATA,), (ADDITIONAL_DATA, TEXT)
+
+
+def every_end(phase, too_long):
     """Gives the arguments of any_end for every pair of numbers that may come before the end in this phase, or in the first one."""
-    return [(phase, None, rest) for rest in range(16)] + [(ADDITIONAL, rest, 0) for rest in range(16)]
+    return [(phase, None, rest) for rest in range(16)] + [(ADDITIONAL, rest, 0) for rest in range(16 * (TEXT not in too_long))]
 
 
 def after_any(call, fact, *came):

@@ -13,7 +13,7 @@ from linked.tools import run, write
 from machines.x86_64 import Windows
 from symbols.bits import Unproved
 
-IN_C = {"aes": set(), "gcm": {"seal_random.o"}}  # members of static libraries that aren't proved
+MEMBERS_IN_C = {"aes": set(), "gcm": {"seal_random.o"}}  # members of static libraries that aren't proved
 PROVE_FOLDER = os.path.dirname(os.path.dirname(os.path.abspath(__file__)))  # dist/prove
 
 
@@ -52,7 +52,7 @@ class Built:
         builds = ["_v1_chosen", "_chosen", "_v3_chosen"] if self.machine.from_v2_and_v3 else [""]
         known = {library + it + ".o" for it in builds} | {"choose_%s.o" % library for _ in builds[1:]}
         preferred = glob.glob("%s/glibc-hwcaps/*/libfotsgure_%s.so*" % (self.out, library))
-        others = [*{*self.archive(library)} - known - IN_C[library]]
+        others = [*{*self.archive(library)} - known - MEMBERS_IN_C[library]]
         others += [path for path in preferred if "/x86-64-v3/" not in path or not builds[1:]]
         if others:
             raise Unproved("the libraries have more than what is proved: " + ", ".join(others))

@@ -11,7 +11,7 @@ the general state is guessed: a wrong guess can only fail."""
 import itertools
 from collections import namedtuple
 
-from loops.linear import is_number, refuted, replaced, terms, unknown, wrapped
+from loops.linear import WithValue, is_number, replaced, terms, unknown, wrapped
 from loops.unknowns import WRAPPED
 from machines.operands import FARTHEST, SECRET, Number, Pointer, is_int, is_pointer, lanes
 from machines.regions import Window
@@ -361,10 +361,10 @@ def check_ends(ends, facts, names):
     """Checks that runs came to an end with numbers of all sizes that these facts allow, for each unknown number with one of these names.
     Else a proof might say nothing about them. `ends` has the facts at each end (facts_at_end)."""
     for name in names:
+        allowed, runs = WithValue(facts, name), [WithValue(some, name) for some in ends]
         for value in (*range(40), *(2 ** k + d for k in range(6, 60) for d in (-1, 0, 1))):
-            this = {unknown(name) - value, value - unknown(name)}
-            if not refuted(facts | this):
-                one = next((some for some in ends if not refuted(some | this)), None)
+            if not allowed.refuted(value):
+                one = next((run for run in runs if not run.refuted(value)), None)
                 if one is None:
                     raise Unproved("no run returned with the length that belongs to %s = %d" % (name, value))
-                ends = sorted(ends, key=lambda some: some is not one)  # so that this one is asked first the next time
+                runs.sort(key=lambda run: run is not one)  # so that this one is asked first the next time

@@ -173,13 +173,57 @@ def refuted(facts):
     the facts, so True is always right. False may mean that it didn't find the contradiction."""
     names, zeros = sorted({name for f in facts if isinstance(f, Linear) for name, _ in f.terms}), itertools.repeat(0)
     rows = {tightened_row([*map(terms(f).get, names, zeros), f.constant if isinstance(f, Linear) else f]) for f in facts}
-    for _ in names:
+    return refuted_rows(rows, len(names))
+
+
+def refuted_rows(rows, unknowns):
+    """Does what `refuted` does for tightened rows."""
+    for _ in range(unknowns):
         if any(row[-1] < 0 and not any(row[:-1]) for row in rows):
             return True
         up, down = [row for row in rows if row[0] > 0], [row for row in rows if row[0] < 0]
         sums = {tightened_row([y * a[0] - x * b[0] for x, y in zip(a[1:], b[1:])]) for a in up for b in down}
         rows = {row[1:] for row in rows if not row[0]} | sums
     return any(row[0] < 0 for row in rows)
+
+
+class WithValue:
+    """Facts in which an unknown gets one value after the other. What doesn't depend on the value is done once."""
+
+    def __init__(self, facts, name):
+        facts = without_equations(facts, name)
+        connected = connected_with(facts, name)
+        self.always_refuted = refuted(frozenset(facts - connected))
+        names, self.rows = sorted(names_in(connected) - {name}), set()
+        self.unknowns = len(names)
+        for f in connected:
+            row = [terms(f).get(other, 0) for other in names]
+            divisor = math.gcd(*row) or 1
+            self.rows.add((tuple([c // divisor for c in row]), terms(f).get(name, 0), f.constant, divisor))
+
+    def refuted(self, value):
+        """Whether no integers make all these numbers >= 0 with this value, as `refuted` says it."""
+        rows = {(*row, (constant + k * value) // divisor) for row, k, constant, divisor in self.rows}
+        return self.always_refuted or refuted_rows(rows, self.unknowns)
+
+
+def connected_with(facts, name):
+    """Gives the facts about an unknown, about the other unknowns in these, and so on."""
+    names, before = {name}, 0
+    while len(names) > before:
+        before = len(names)
+        found = {f for f in facts if not names.isdisjoint(terms(f))}
+        names |= names_in(found)
+    return found
+
+
+def without_equations(facts, kept):
+    """Gives facts in which other numbers replace the unknowns that they are equal to, but for one unknown that is kept."""
+    for f in facts:
+        for name, k in f.terms if isinstance(f, Linear) and -f in facts else ():
+            if k in (1, -1) and name != kept:
+                return without_equations({replaced(x, name, unknown(name) - f * k) for x in facts}, kept)
+    return facts
 
 
 def fulfilled(facts):

@@ -141,9 +141,13 @@ class Arithmetic:
         return self.verdict(0, differences, len(differences))
 
     def whole_number(self, v, size):
-        """Gives the number that a word holds in as few bytes as possible, with zeros above them. Else gives the value itself."""
+        """Gives the number whose bytes a word holds, perhaps with zeros above them. Else gives the value itself."""
         name = self.domain.name_of_opaque.get(v[0]) if type(v) is tuple and size == self.word else None
-        return name[0] if isinstance(name, tuple) and isinstance(name[0], Linear) and list(v) == self.fewest_bytes(name[0], size) else v
+        if not isinstance(name, tuple) or not isinstance(name[0], Linear):
+            return v
+        count = max(k + 1 for k in range(size) if v[k] != 0)
+        has_no_more = count == size or self.implied(name[0]) and self.implied((1 << 8 * count) - 1 - name[0])
+        return name[0] if has_no_more and list(v[:count]) == self.to_bytes(name[0], count)[:count] else v
 
     def whole(self, v, size):
         """Gives the unknown number whose lowest bytes these are, or None."""

@@ -58,8 +58,7 @@ from machines.stack_use import StackUse
 from symbols.bits import PUBLIC, Pause, Undefined, Unproved
 
 LIBC = "memcpy", "memmove", "memset"  # the functions of others that the code calls
-# A run with more instructions is refused: a loop may not end. The longest cases have fewer.
-MOST_STEPS = 10000000
+MOST_STEPS = 3000000  # A run with more is refused, since a loop may not end. On RISC-V with 32 bits, 2,048 bytes take 900,000.
 MOST_NOTED = 16  # bytes that are noted of what a function of libc writes
 
 
@@ -208,7 +207,8 @@ class Machine(Arithmetic, Borders, Unknowns, Bytewise, Results, Access):
         """Whether bytes depend on public cells alone. (A byte without cells doesn't count as public: nobody wrote it, or only its name is
         known.)"""
         d = self.domain
-        return all(b < 256 or d.symbolic(b) and not any(d.depends[c] & ~PUBLIC for c in d.cells(b)) for b in bytes_)
+        is_secret = lambda bit: any(d.depends[c] & ~PUBLIC for _, n in d.parts(bit) for c, _ in d.forms[n])
+        return all(b < 256 or d.symbolic(b) and not any(map(is_secret, d.bits(b))) for b in bytes_)
 
     def is_public_value(self, value):
         """Whether a value depends on nothing secret. (A Number may be that of J_0.)"""

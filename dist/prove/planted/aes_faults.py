@@ -244,7 +244,7 @@ AES_FAULTS = {
         Fault("the number of a block of four taken with a sign", COUNTER, found=r"(\tleaq\t\(%r\w+,%r\w+\), %(r\w+)\n)\tshrq\t\$4, %\2\n",
               becomes=r"\1\tsarq\t$4, %\2\n", case="add_keystream %d 64" % (2 ** 63 + 2 ** 36)),
         Fault("16 of 32 bits of a padded length judged", PADDED_DIFFERENCE, found=r"(\tbswapl\t%e(\w\w)\n)",
-              becomes=r"\1\tmovzwl\t%\2, %e\2\n", case="unwrap_padded_refused 1 8"),
+              becomes=r"\1\tmovzwl\t%\2, %e\2\n", case="any_unwrap_padded_refused"),
         Fault("three bytes within a block taken for more", COUNTER, found=r"(# %bb\.4:\n)\txorl\t%edx, %edx\n",
               becomes=r"\1\tmovl\t$1, %edx\n", case="add_keystream 21 3"),
         Fault("32 blocks of CBC left out", CALL_TO_DECRYPT, found=r"\tandl\t\$126, ", becomes="\tandl\t$94, ", case="cbc_decrypt 47"),

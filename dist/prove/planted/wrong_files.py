@@ -1,7 +1,8 @@
-"""Lists faults in headers, in C files and in the Makefile. prove.cases_of_files has to refuse each."""
+"""Lists faults in headers, in C files and in the Makefile. prove.cases_of_files has to refuse each, or a case of a call if it names one."""
 from collections import namedtuple
 
-WrongFile = namedtuple("WrongFile", "what build file found becomes")  # a pattern in a file of dist, and what it becomes
+# A pattern in a file of dist, and what it becomes; and the case.
+WrongFile = namedtuple("WrongFile", "what build file found becomes case", defaults=[""])
 AES, GCM = "include/fotsgure_aes.h", "include/fotsgure_gcm.h"
 CHOOSE = "x86_64/choose_aes.c"
 
@@ -10,6 +11,10 @@ WRONG_FILES = [
     WrongFile("another number in the header", "x86_64/aes", AES, r"(#define FOTSGURE_AES_BLOCK 16)", r"\1\n#define FOTSGURE_AES_ROOM 8"),
     WrongFile("a smaller struct on one machine", "aarch64/gcm", GCM, r"#if defined\(__arm__\)", r"\g<0> || defined(__aarch64__)"),
     WrongFile("a struct that isn't aligned", "riscv64/aes_narrow", AES, r"struct (fotsgure_aes \{)", r"struct __attribute__((packed)) \1"),
+    WrongFile("parameters in another order", "aarch64/aes", AES,
+              r"const uint8_t \*message, size_t message_length,(\s+)const uint8_t \*tag, size_t tag_length",
+              r"const uint8_t *tag, size_t tag_length,\1const uint8_t *message, size_t message_length", "cmac_verify 17 16"),
+    WrongFile("a parameter that isn't written to", "aarch64/aes", AES, r"(?<!const )uint8_t tag\[", r"const \g<0>", "cmac 16"),
     WrongFile("a library with AVX2 where a loader wants SSE4", "x86_64/aes", "Makefile", r"x86-64-v3", r"x86-64-v2"),
     WrongFile("a stack that may be run", "x86_64/aes", "Makefile", r"-z,noexecstack", r"-z,execstack"),
     WrongFile("code that runs when a program starts", "x86_64/aes", "Makefile", r"-z,now -Wl", r"-z,now -Wl,-init=fotsgure_aes_wipe -Wl"),

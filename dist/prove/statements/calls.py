@@ -11,7 +11,7 @@ from collections.abc import Callable, Collection, Sequence
 from dataclasses import KW_ONLY, dataclass, field
 
 from loops import joints, lengths
-from loops.linear import implied, is_number, names_in, refuted, unknown
+from loops.linear import Linear, implied, is_number, names_in, refuted, unknown
 from machines.machine import Allowed
 from machines.native import Native
 from machines.operands import HEAD, Pointer, Question, Verdict, lanes
@@ -154,8 +154,7 @@ def machine_before(domain, program, call):
     regions["stack"] = Region([domain.undefined] * (STACK - program.machine.word * len(program.machine.pushed)), align=16)
     arguments = [Pointer(a.name, 0) if isinstance(a, Buffer) else a for a in call.arguments]
     m = program.machine(domain, program, regions, program.exports["fotsgure_" + call.name], arguments)
-    assumes = call.assumes and (lambda m, flag: asked_of(m, flag) == asked_of(m, ("zero", *call.assumes)))
-    m.allowed = Allowed(call.reveals is not None, assumes, call.any_length, call.divides)
+    m.allowed = Allowed(call.reveals is not None, functools.partial(is_known_false, call), call.any_length, call.divides)
     m.counter, m.facts = call.counter, call.facts
     m.numbers_by_frame = (m.stack.top, tuple(numbers_of(m, call))),
     for window in (r for r in regions.values() if isinstance(r, Window)):
@@ -170,6 +169,17 @@ def machine_before(domain, program, call):
     if not all(implied(call.facts, x) for n in names & domain.sizes.keys() for x in (n, (1 << domain.sizes[n]) - 1 - n)):
         raise Unproved("its numbers have more bits than their bytes")
     return m
+
+
+def is_known_false(call, m, flag):
+    """Whether a flag asks if all bytes are 0 of which the call assumes that not all are, or among which are all bytes of a number that isn't
+    0. The unknowns of that number are those of the statement. (Later, or in a part of a call, the same names may stand for others.)"""
+    if call.assumes and asked_of(m, flag) == asked_of(m, ("zero", *call.assumes)):
+        return True
+    unknowns = set() if call.parts else names_in(call.facts) - {name for name, _ in m.replaced}
+    named = {m.domain.name_of_opaque.get(b) for b in flag[1:]}
+    numbers = {name[0] for name in named if isinstance(name, tuple) and isinstance(name[0], Linear) and names_in(name[:1]) <= unknowns}
+    return any({(x, k) for k in range(m.word)} <= named and m.fits(x) and m.implied(x - 1) for x in numbers)
 
 
 def numbers_of(m, call):

@@ -7,7 +7,7 @@ from machines.regions import Region
 from statements.headers import parameters_of
 from symbols.domain import Domain
 
-IN_C = {"fotsgure_gcm_siv_seal_random"}  # functions of the headers that the assembly doesn't have
+FUNCTIONS_IN_C = {"fotsgure_gcm_siv_seal_random"}  # functions of the headers that the assembly doesn't have
 
 
 def choice_cases(built, dist, out):
@@ -16,7 +16,7 @@ def choice_cases(built, dist, out):
         objects = [path for name, path in built.archive(library).items() if name != "seal_random.o"]
         program, wrong = link("%s/choose_%s_%s" % (out, built.folder, library), built.machine, objects), []
         parameters = parameters_of(dist, library)
-        names = sorted({*parameters} - IN_C)
+        names = sorted({*parameters} - FUNCTIONS_IN_C)
         chosen = {name for name in program.exports if not re.search(r"_v\d$|\.cold$", name)}
         wrong += {*names} ^ chosen
         for name in {*names} & chosen:

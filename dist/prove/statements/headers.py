@@ -43,10 +43,10 @@ def header_cases(dist, builds):
             facts.update({"sizeof(struct %s)" % struct: size, "_Alignof(struct %s)" % struct: align})
             facts.update({"offsetof(struct %s, %s)" % (struct, field): at for field, at in fields.items()})
         what = "fotsgure_%s.h for %s: %d facts of numbers, sizes, places and statuses" % (library, machine.__name__, len(facts))
-        yield what, fault_of(compare, machine, dist + "/include", "#include <fotsgure_%s.h>" % library, facts, {*numbers})
+        yield what, fault_of(refuse_other_facts, machine, dist + "/include", "#include <fotsgure_%s.h>" % library, facts, {*numbers})
 
 
-def compare(machine, folder, header, facts, numbers):
+def refuse_other_facts(machine, folder, header, facts, numbers):
     """Compiles facts. The header defines no other numbers than these."""
     def compiled(*options):
         return subprocess.run([*machine.compiler, "-ffreestanding", *options, "-I", folder, "-x", "c", "-"], capture_output=True, text=True,

@@ -41,10 +41,10 @@ class Products:
         if not pairs:
             return linear
         key = linear & ~1, pairs
-        if key not in self.product_ids:
-            self.product_ids[key] = len(self.products)
+        number = self.product_ids.setdefault(key, len(self.products))  # (looked up once, since the hash of a long int takes long)
+        if number == len(self.products):
             self.products.append(key)
-        return self.product_ids[key] << 9 | PRODUCT << 1 | linear & 1
+        return number << 9 | PRODUCT << 1 | linear & 1
 
     def forget_products(self):
         """Forgets products before a call, as none of its values has a byte with products of another call."""
