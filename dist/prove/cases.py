@@ -254,7 +254,8 @@ def at_ends(library):
     return [Row("at_ends", "a call, at each remainder that its lengths may leave ([remainders.py](remainders.py))", first=names,
                 remainders=[name for name in LENGTHS[library] if name not in names]),
             Row("at_pairs", "a call, at each pair of remainders by 16 that two of its lengths may leave", remainders=PAIRS[library]),
-            *(Row("at_carries", "the same, where the low half of the counter carries", first=names, lengths_24_32=names)
+            *(Row("at_carries", "the same, where the low half of the counter carries, and each place of the carry in a few blocks",
+                  first=names, lengths_24_32=names)
               for names in [CARRIES.get(library)] if names),
             *(Row("every_remainder", "a call of every length, at each remainder", every=names) for names in [EVERY_REMAINDER.get(library)]
               if names)]

@@ -65,11 +65,13 @@ PAIRS = {
     "siv": {"seal": BY_16, "open": BY_16}}
 
 
-# Where the low half of the counter carries: each pair of remainders of what came before and what comes. The carry comes before the first
-# block that is needed, or before the next one.
-CARRIES = {"aes": {"add_keystream": [
-    arguments for way, pairs in (("", BY_16), ("_to", BY_16[::15]), ("_with", BY_16[::15])) for at, n in pairs
-    for arguments in ((16 + at, n, 1, way), (at, 16 + n, 1, way))]}}
+# Where the low half of the counter carries. Each pair of remainders of what came before and what comes has two such places: before the first
+# block that is needed, and before the next one. Each number of blocks up to more than a batch has every place.
+FIRST_PLACES = [(*lengths, 1, way) for way, pairs in (("", BY_16), ("_to", BY_16[::15]), ("_with", BY_16[::15]))
+                for at, n in pairs for lengths in ((16 + at, n), (at, 16 + n))]
+EVERY_PLACE = [(*lengths, block, way) for way, most in (("", 17), ("_to", 9), ("_with", 9)) for n in range(1, most + 1)
+               for block in range(1, n + 1) for lengths in ((16, 16 * n - 3), (21, 16 * n - 8))]
+CARRIES = {"aes": {"add_keystream": EVERY_PLACE + FIRST_PLACES}}
 
 
 # The arguments of statements of every length. Each remainder by 16 is in one of them. Some lists are divided between two calls, which share

@@ -104,6 +104,8 @@ AES_FAULTS = {
         Fault("a counter that is 2^19 more", COUNTER, found=SUM, becomes=r"\1\3\taddq\t$0x80000, %\2\n", case="add_keystream 21 11"),
         Fault("a carry lost at one position of 16", COUNTER, found=SUM, case="at_carries add_keystream",
               becomes=r"\1\tmovq\t%\4, %rdx\n\3\tcmpq\t$9, %r13\n\tjne\t77f\n\tmovq\t%rdx, %\4\n77:\n"),
+        Fault("a carry before the last of five blocks lost", NEXT_COUNTER, found=r"(\taddq\t\$4, [\s\S]*?\tpshufb\t%xmm6, %xmm1\n)",
+              becomes=r"\1\tpblendw\t$15, 48(%rsp), %xmm1\n", case="at_carries add_keystream"),
         Fault("the high half of a counter that goes down", COUNTER, found=SUM, becomes=r"\1\tsbbq\t$0, %\4\n",
               case="add_keystream 21 11 1"),
         Fault("the carry of the position's block left out", second(NEXT_COUNTER), found=SUM, becomes=r"\1", case="add_keystream 21 40 1"),
