@@ -65,8 +65,8 @@ PAIRS = {
     "siv": {"seal": BY_16, "open": BY_16}}
 
 
-# Where the low half of the counter carries. Each pair of remainders of what came before and what comes has two such places: before the first
-# block that is needed, and before the next one. Each number of blocks up to more than a batch has every place.
+# Where the low half of the counter carries. Each pair of remainders of what came before and what comes has two such places: before the
+# first block that is needed, and before the next one. Each number of blocks up to more than a batch has every place.
 FIRST_PLACES = [(*lengths, 1, way) for way, pairs in (("", BY_16), ("_to", BY_16[::15]), ("_with", BY_16[::15]))
                 for at, n in pairs for lengths in ((16 + at, n), (at, 16 + n))]
 EVERY_PLACE = [(*lengths, block, way) for way, most in (("", 17), ("_to", 9), ("_with", 9)) for n in range(1, most + 1)

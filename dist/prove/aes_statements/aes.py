@@ -18,6 +18,7 @@ from statements.steps import NO_STEP
 from symbols.bits import DATA, LOST, PUBLIC, UNDEFINED, Unproved
 
 LEFT_OF_CBC = {"data": 2 * 16 * BATCH}  # bytes of encrypted blocks, of two batches, that may stay after CBC decryption
+LEFT_OF_COUNTER_MODE = {"keystream": 8 * 16}  # bytes of eight blocks, which are processed at once
 
 
 class KeyedAes(SingleRounds, AnyCcm, KeyWrap, Keyed):
@@ -125,7 +126,8 @@ class KeyedAes(SingleRounds, AnyCcm, KeyWrap, Keyed):
         return self.call_of_any_count("aes_add_keystream", [ctr], content, wants, count, count, content + sum(wants, []), way, choose,
                                       {before, WORD - end, wrap - 1, WORD + 1 - wrap, *facts}, skip,
                                       counter=CounterWord(ANY_COUNT, before, wrap, end + 16 * BATCH),
-                                      keystream=self.in_all_blocks(self.pattern(sum(streams, []))), **more)
+                                      keystream=self.in_all_blocks(self.pattern(sum(streams, []))),
+                                      may_stay=LEFT_OF_COUNTER_MODE, **more)
 
     def any_iv(self, domain):
         """Gives an initial counter block of unknown value, for calls of every length."""
@@ -265,7 +267,7 @@ class KeyedAes(SingleRounds, AnyCcm, KeyWrap, Keyed):
         ctr = Buffer("ctr", before + number(position, 8)[::-1], after + number(position + count, 8)[::-1], align=8)
         counter = CounterWord(name, position // 16, wrap, position + count + 16 * BATCH)
         return self.call_in_each_way("aes_add_keystream", way, [ctr], "bytes", data, want, count, counter=counter,
-                                     keystream=stream, plain=data + want)
+                                     keystream=stream, plain=data + want, may_stay=LEFT_OF_COUNTER_MODE)
 
     # CBC (SP 800-38A, 6.2).
     def cbc_decrypt(self, count):

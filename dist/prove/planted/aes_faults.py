@@ -98,6 +98,8 @@ AES_FAULTS = {
         Fault("16 bytes of the text left by a call to another buffer", KEYSTREAM_TO, found=ENTRY,
               becomes=r"\1\tmovups\t(%rdx), %xmm0\n" + LEFT, case="add_keystream 3 33 _to"),
         Fault("the stack not wiped after many blocks", BATCHES, found=WIPE_STACK, becomes="", case="blocks encrypt 16"),
+        Fault("keystream left on the stack by CCM", exported("aes_ccm_seal"), found=r"(wipe_stack)\.1024", becomes=r"\1.768",
+              case="ccm_seal 13 8 33 8"),
         Fault("the round keys on planes not wiped", BATCHES, found=WIPE_WORDS, becomes="", case="blocks encrypt 16"),
         Fault("the schedule of a call under a key not wiped", BLOCKS_WITH, found=WIPED, becomes="", case="blocks encrypt 1 _with"),
         Fault("the position left out where a text ends in its first block", COUNTER, found=SUM, becomes="", case="add_keystream 21 11"),

@@ -3,9 +3,8 @@ from machines.operands import LAST, LEAD, PAGE, Content, Number, Placed, Pointer
 from symbols.bits import DATA, KEY, Unproved
 
 KINDS = "key", "inner", "difference", "plain", "step", "keystream", "result", "data"  # of what is left; see `kind_of_secret`
-# How many bytes of a kind any call may leave on the stack. A call that adds keystream may leave eight blocks of it. The other kinds are
-# copies of blocks of the result and of tags.
-MAY_STAY = {"keystream": 128, "result": 32, "data": 16}
+# How many bytes of a kind any call may leave on the stack. They are copies of blocks of the result and of tags.
+MAY_STAY = {"result": 32, "data": 16}
 # How many bytes of text a copy between buffers that overlap may leave on the stack. Where the first buffer is written to meanwhile, these
 # may be any bytes of what was computed there.
 REGISTER_OF_A_COPY, OF_A_COPY = 8, ("plain", "step")
