@@ -8,7 +8,7 @@ import sys
 import time
 
 from covered.report import judge_again, keep_coverage, print_what_ran
-from linked.builds import BUILDS, KEY_SIZES, MACHINES, library_of
+from linked.builds import BUILDS, KEY_SIZES, MACHINES, assembly_of, library_of
 from linked.linking import PROVE_FOLDER, Built, built_cases, rust_cases
 from linked.refusals import line_cases
 from machines.processors import PROCESSORS
@@ -61,6 +61,9 @@ def options_of(description, level=os.environ.get("PROVE", "")):
     options.builds = options.builds or [build for build in BUILDS if options.level or build.startswith(folder + "/")]
     if set(options.builds) - set(BUILDS):
         parser.error("the builds are " + ", ".join(BUILDS))
+    of_same_files = {build for build in BUILDS if assembly_of(build) in map(assembly_of, options.builds)}
+    if options.record and (options.only or options.keys != KEY_SIZES or of_same_files != {*options.builds}):
+        parser.error("only whole assembly files are recorded: all cases, all keys, and siv together with gcm")
     print_what_is_missing({BUILDS[build]: None for build in options.builds})
     options.builds = [build for build in options.builds if not missing(BUILDS[build])]
     return options

@@ -27,8 +27,7 @@ def print_what_ran(tasks, options):
         found = uncovered.uncovered_functions(program, covered)
         builds = {build for build in BUILDS if assembly_of(build) == assembly}
         is_whole = not options.only and options.keys == KEY_SIZES and builds <= {task.build for task in own}
-        judged = "recorded" if options.record else "judged"
-        print("%s.s: %s%s" % (assembly, uncovered.summary(program, found), "" if options.level and is_whole else "; not %s here" % judged))
+        print("%s.s: %s%s" % (assembly, uncovered.summary(program, found), "" if options.level and is_whole else "; not judged here"))
         if options.lines:
             print_functions(assembly, program, found)
         if is_whole:
