@@ -26,7 +26,7 @@ impl<B: RoundKeysUser> RoundKeysUser for ByBackend<B> {
 }
 
 impl<B: BlockCipherEncBackend> BlockCipherEncrypt for ByBackend<B> {
-    fn encrypt_with_backend_for<F: BlockCipherEncClosure>(&self, _blocks: usize, f: &mut F) {
+    fn encrypt_with_backend<F: BlockCipherEncClosure>(&self, f: &mut F) {
         f.call(&self.backend);
     }
 
@@ -41,7 +41,7 @@ impl<B: BlockCipherEncBackend> BlockCipherEncrypt for ByBackend<B> {
 }
 
 impl<B: BlockCipherDecBackend> BlockCipherDecrypt for ByBackend<B> {
-    fn decrypt_with_backend_for<F: BlockCipherDecClosure>(&self, _blocks: usize, f: &mut F) {
+    fn decrypt_with_backend<F: BlockCipherDecClosure>(&self, f: &mut F) {
         f.call(&self.backend);
     }
 

@@ -121,6 +121,11 @@ impl<D: LaneRounds, W> RoundKeysUser for BorrowedCipher<'_, D, W> {
 
 impl<W: Width> BlockCipherEncrypt for BorrowedCipher<'_, Encrypt, W> {
     #[inline(always)]
+    fn encrypt_with_backend<F: BlockCipherEncClosure>(&self, f: &mut F) {
+        self.encrypt_with_backend_for(usize::MAX, f);
+    }
+
+    #[inline(always)]
     fn encrypt_with_backend_for<F: BlockCipherEncClosure>(&self, blocks: usize, f: &mut F) {
         lend_to_encrypt::<W, F>(self, blocks, f);
     }
@@ -137,6 +142,11 @@ impl<W: Width> BlockCipherEncrypt for BorrowedCipher<'_, Encrypt, W> {
 }
 
 impl<W: Width> BlockCipherDecrypt for BorrowedCipher<'_, Decrypt, W> {
+    #[inline(always)]
+    fn decrypt_with_backend<F: BlockCipherDecClosure>(&self, f: &mut F) {
+        self.decrypt_with_backend_for(usize::MAX, f);
+    }
+
     #[inline(always)]
     fn decrypt_with_backend_for<F: BlockCipherDecClosure>(&self, blocks: usize, f: &mut F) {
         lend_to_decrypt::<W, F>(self, blocks, f);

@@ -116,7 +116,7 @@ fn call_to_decrypt<W: NarrowWord, F: BlockCipherDecClosure>(words: &[W], f: &mut
 
 impl<W: NarrowWord> BlockCipherEncrypt for BorrowedWords<'_, W> {
     #[inline(always)]
-    fn encrypt_with_backend_for<F: BlockCipherEncClosure>(&self, _blocks: usize, f: &mut F) {
+    fn encrypt_with_backend<F: BlockCipherEncClosure>(&self, f: &mut F) {
         call_to_encrypt::<W, F>(self.words, f);
         wipe_stack::<CLOSURE_STACK>();
     }
@@ -134,7 +134,7 @@ impl<W: NarrowWord> BlockCipherEncrypt for BorrowedWords<'_, W> {
 
 impl<W: NarrowWord> BlockCipherDecrypt for BorrowedWords<'_, W> {
     #[inline(always)]
-    fn decrypt_with_backend_for<F: BlockCipherDecClosure>(&self, _blocks: usize, f: &mut F) {
+    fn decrypt_with_backend<F: BlockCipherDecClosure>(&self, f: &mut F) {
         call_to_decrypt::<W, F>(self.words, f);
         wipe_stack::<CLOSURE_STACK>();
     }

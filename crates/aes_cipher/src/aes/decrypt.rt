@@ -7,6 +7,11 @@ use crate::cipher::{Block, BlockCipherDecClosure, BlockCipherDecrypt, Decrypt};
 
 impl<S: Decrypts, D: Allows<Decrypt>> BlockCipherDecrypt for AesCipher<S, D> {
     #[inline(always)]
+    fn decrypt_with_backend<F: BlockCipherDecClosure>(&self, f: &mut F) {
+        self.keys.decrypt_with_backend_for(usize::MAX, f);
+    }
+
+    #[inline(always)]
     fn decrypt_with_backend_for<F: BlockCipherDecClosure>(&self, blocks: usize, f: &mut F) {
         self.keys.decrypt_with_backend_for(blocks, f);
     }

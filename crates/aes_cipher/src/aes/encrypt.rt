@@ -7,6 +7,11 @@ use crate::cipher::{Block, BlockCipherEncClosure, BlockCipherEncrypt, Encrypt};
 
 impl<S: Encrypts, D: Allows<Encrypt>> BlockCipherEncrypt for AesCipher<S, D> {
     #[inline(always)]
+    fn encrypt_with_backend<F: BlockCipherEncClosure>(&self, f: &mut F) {
+        self.keys.encrypt_with_backend_for(usize::MAX, f);
+    }
+
+    #[inline(always)]
     fn encrypt_with_backend_for<F: BlockCipherEncClosure>(&self, blocks: usize, f: &mut F) {
         self.keys.encrypt_with_backend_for(blocks, f);
     }

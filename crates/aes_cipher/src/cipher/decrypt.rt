@@ -11,18 +11,18 @@ use super::sizes::{Block, BlockSizeUser};
 
 /// A block cipher that decrypts.
 pub trait BlockCipherDecrypt: BlockSizeUser + RoundKeysUser {
-    /// Calls the closure once, with a backend of the value's round keys that suits this number of
-    /// blocks. The number affects speed and nothing else.
-    fn decrypt_with_backend_for<F: BlockCipherDecClosure>(&self, blocks: usize, f: &mut F)
-        ensures { F.did f.old (Self.round_keys self.now) f.new };
-
     /// Calls the closure once, with a backend of the value's round keys that suits many blocks: how
     /// many there will be is not known.
-    #[inline(always)]
     fn decrypt_with_backend<F: BlockCipherDecClosure>(&self, f: &mut F)
+        ensures { F.did f.old (Self.round_keys self.now) f.new };
+
+    /// Calls the closure once, with a backend of the value's round keys that suits this number of
+    /// blocks. The number affects speed and nothing else: by default it is ignored.
+    #[inline(always)]
+    fn decrypt_with_backend_for<F: BlockCipherDecClosure>(&self, _blocks: usize, f: &mut F)
         ensures { F.did f.old (Self.round_keys self.now) f.new }
     {
-        self.decrypt_with_backend_for(usize::MAX, f);
+        self.decrypt_with_backend(f);
     }
 
     /// Decrypts the block in place under the value's round keys (InvCipher, FIPS 197, 5.3).

@@ -19,6 +19,10 @@ impl<C: RoundKeysUser> RoundKeysUser for &C {
 }
 
 impl<C: BlockCipherEncrypt> BlockCipherEncrypt for &C {
+    fn encrypt_with_backend<F: BlockCipherEncClosure>(&self, f: &mut F) {
+        (**self).encrypt_with_backend(f);
+    }
+
     fn encrypt_with_backend_for<F: BlockCipherEncClosure>(&self, blocks: usize, f: &mut F) {
         (**self).encrypt_with_backend_for(blocks, f);
     }
@@ -33,6 +37,10 @@ impl<C: BlockCipherEncrypt> BlockCipherEncrypt for &C {
 }
 
 impl<C: BlockCipherDecrypt> BlockCipherDecrypt for &C {
+    fn decrypt_with_backend<F: BlockCipherDecClosure>(&self, f: &mut F) {
+        (**self).decrypt_with_backend(f);
+    }
+
     fn decrypt_with_backend_for<F: BlockCipherDecClosure>(&self, blocks: usize, f: &mut F) {
         (**self).decrypt_with_backend_for(blocks, f);
     }

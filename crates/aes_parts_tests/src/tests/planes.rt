@@ -54,12 +54,12 @@ fn block_of<B: Batch>(blocks: &B) -> Block {
 fn packed<W: Word>(block: Block) -> [W; 8] {
     let mut planes = [W::zero(); 8];
     let blocks: W::Blocks = batch_of(&block);
-    W::pack(&mut planes, &blocks);
+    W::bitslice(&mut planes, &blocks);
     planes
 }
 
 fn unpacked<W: Word>(planes: &[W; 8]) -> Block {
-    block_of(&W::unpack(planes))
+    block_of(&W::inv_bitslice(planes))
 }
 
 // And, or, exclusive or and not of two words.
@@ -125,7 +125,7 @@ fn planes_of_bytes<W: Word>(bytes: &[(usize, usize, u8)]) -> [W; 8] {
         }
     }
     let mut planes = [W::zero(); 8];
-    W::pack(&mut planes, &blocks);
+    W::bitslice(&mut planes, &blocks);
     planes
 }
 

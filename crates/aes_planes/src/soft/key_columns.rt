@@ -38,37 +38,37 @@ pub fn add_round_constant<W: Word>(state: &mut [W; 8], constant: u8)
 /// Replaces the eight words at `offset` by sums of columns. If they hold the last round key after
 /// SubBytes, they then hold the next round key (FIPS 197, 5.2).
 ///
-/// Column `c` becomes the sum of columns 0 to `c` of the round key `distance` words earlier, plus
-/// one byte for each row. A rotation of the words at `offset` by `rotation` bits brings that byte
+/// Column `c` becomes the sum of columns 0 to `c` of the round key `idx_xor` words earlier, plus
+/// one byte for each row. A rotation of the words at `offset` by `idx_ror` bits brings that byte
 /// to column 0. The other words stay.
 #[inline(always)]
-pub fn xor_columns<W: Word>(round_keys: &mut [W], offset: usize, distance: usize, rotation: u32)
-    requires apart { 8 ≤ distance }
-    requires inside { distance ≤ offset }
+pub fn xor_columns<W: Word>(round_keys: &mut [W], offset: usize, idx_xor: usize, idx_ror: u32)
+    requires apart { 8 ≤ idx_xor }
+    requires inside { idx_xor ≤ offset }
     requires room { offset + 8 ≤ length round_keys.old }
-    requires below_bits { rotation < W.BITS }
+    requires below_bits { idx_ror < W.BITS }
     ensures others { (i : ℕ) (d : _) → (i < offset) ⊎ (offset + 8 ≤ i)
         → slice_index_or round_keys.new i d
         ≡ slice_index_or round_keys.old i d }
     ensures sums { (i : ℕ) (d : _) (r c k : ℕ) → i < 8 → r < 4 → c < 4 → k < W.BLOCKS
         → at (W.bits (slice_index_or round_keys.new (offset + i) d)) (place W.BLOCKS r c k)
-        ≡ fold_to xor (λ e. at (W.bits (slice_index_or round_keys.old (offset + i - distance) d))
+        ≡ fold_to xor (λ e. at (W.bits (slice_index_or round_keys.old (offset + i - idx_xor) d))
         (place W.BLOCKS r e k))
         (at (W.bits (slice_index_or round_keys.old (offset + i) d))
-        ((place W.BLOCKS r 0 k + rotation) % W.BITS)) c }
+        ((place W.BLOCKS r 0 k + idx_ror) % W.BITS)) c }
     ensures blocks { (rows cols : ℕ) → rows < 4 → cols < 4
-        → rotation ≡ rows * (4 * W.BLOCKS) + cols * W.BLOCKS
+        → idx_ror ≡ rows * (4 * W.BLOCKS) + cols * W.BLOCKS
         → held W.BLOCKS (map W.bits (words_at round_keys.new offset))
         ≡ zip_with (columns_summed rows cols)
-        (held W.BLOCKS (map W.bits (words_at round_keys.old (offset - distance))))
+        (held W.BLOCKS (map W.bits (words_at round_keys.old (offset - idx_xor))))
         (held W.BLOCKS (map W.bits (words_at round_keys.old offset))) }
     ensures same_length { length round_keys.new ≡ length round_keys.old }
 {
     for i in 0..8 {
         let index = offset + i;
-        let before = round_keys[index - distance];
+        let before = round_keys[index - idx_xor];
         let substituted = round_keys[index];
-        round_keys[index] = before.sum_columns(substituted, rotation);
+        round_keys[index] = before.sum_columns(substituted, idx_ror);
     }
 }
 

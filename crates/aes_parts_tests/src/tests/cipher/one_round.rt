@@ -41,11 +41,11 @@ fn substituted(block: &Block) -> Block
     ensures { result ≡ fips.shift_rows (fips.sub_bytes block.now) }
 {
     let mut planes = [0; 8];
-    u16::pack(&mut planes, &batch_of(block));
+    u16::bitslice(&mut planes, &batch_of(block));
     sub_bytes(&mut planes, &mut Layers::new());
     sub_bytes_nots(&mut planes);
     shift_rows_1(&mut planes);
-    u16::unpack(&planes).get(0)
+    u16::inv_bitslice(&planes).get(0)
 }
 
 // InvShiftRows and InvSubBytes of a block.
@@ -53,11 +53,11 @@ fn unsubstituted(block: &Block) -> Block
     ensures { result ≡ fips.inv_sub_bytes (fips.inv_shift_rows block.now) }
 {
     let mut planes = [0; 8];
-    u16::pack(&mut planes, &batch_of(block));
+    u16::bitslice(&mut planes, &batch_of(block));
     inv_shift_rows_1(&mut planes);
     sub_bytes_nots(&mut planes);
     inv_sub_bytes(&mut planes, &mut Layers::new());
-    u16::unpack(&planes).get(0)
+    u16::inv_bitslice(&planes).get(0)
 }
 
 impl OneRound {
@@ -114,7 +114,7 @@ impl RoundKeysUser for OneRound {
 }
 
 impl BlockCipherEncrypt for OneRound {
-    fn encrypt_with_backend_for<F: BlockCipherEncClosure>(&self, _blocks: usize, f: &mut F) {
+    fn encrypt_with_backend<F: BlockCipherEncClosure>(&self, f: &mut F) {
         f.call(&BorrowedRound { cipher: self });
     }
 
@@ -128,7 +128,7 @@ impl BlockCipherEncrypt for OneRound {
 }
 
 impl BlockCipherDecrypt for OneRound {
-    fn decrypt_with_backend_for<F: BlockCipherDecClosure>(&self, _blocks: usize, f: &mut F) {
+    fn decrypt_with_backend<F: BlockCipherDecClosure>(&self, f: &mut F) {
         f.call(&BorrowedRound { cipher: self });
     }
 

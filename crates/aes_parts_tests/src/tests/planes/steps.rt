@@ -139,7 +139,7 @@ fn added<W: Word>(block: Block, key: Block) -> Block {
 
 // The block of the last slot.
 fn last_of<W: Word>(planes: &[W; 8]) -> Block {
-    let blocks = W::unpack(planes);
+    let blocks = W::inv_bitslice(planes);
     let mut last = [0; 16];
     for i in 0..W::Blocks::LEN {
         last = blocks.get(i);

@@ -114,7 +114,7 @@ impl Word for u128 {
     }
 
     #[inline(always)]
-    fn pack(output: &mut [u128; 8], input: &Blocks8) {
+    fn bitslice(output: &mut [u128; 8], input: &Blocks8) {
         let rows = [
             by_rows(input.get(0)),
             by_rows(input.get(1)),
@@ -139,7 +139,7 @@ impl Word for u128 {
     }
 
     #[inline(always)]
-    fn unpack(input: &[u128; 8]) -> Blocks8 {
+    fn inv_bitslice(input: &[u128; 8]) -> Blocks8 {
         let [p0, p1, p2, p3, p4, p5, p6, p7] = *input;
         let planes = [
             lanes(p0),

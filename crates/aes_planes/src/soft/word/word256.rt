@@ -106,7 +106,7 @@ impl Word for u8x32 {
     }
 
     #[inline(always)]
-    fn pack(output: &mut [u8x32; 8], input: &Blocks16) {
+    fn bitslice(output: &mut [u8x32; 8], input: &Blocks16) {
         let rows = [
             vector256::by_rows(input.get(0), input.get(8)),
             vector256::by_rows(input.get(1), input.get(9)),
@@ -121,7 +121,7 @@ impl Word for u8x32 {
     }
 
     #[inline(always)]
-    fn unpack(input: &[u8x32; 8]) -> Blocks16 {
+    fn inv_bitslice(input: &[u8x32; 8]) -> Blocks16 {
         let [r0, r1, r2, r3, r4, r5, r6, r7] = transpose(*input);
         Blocks {
             blocks: [

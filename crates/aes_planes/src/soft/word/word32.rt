@@ -88,7 +88,7 @@ impl Word for u32 {
     }
 
     #[inline(always)]
-    fn pack(output: &mut [u32; 8], input: &Blocks2) {
+    fn bitslice(output: &mut [u32; 8], input: &Blocks2) {
         let b0 = input.get(0);
         let b1 = input.get(1);
         let w0 = column_of(&b0, 0);
@@ -103,7 +103,7 @@ impl Word for u32 {
     }
 
     #[inline(always)]
-    fn unpack(input: &[u32; 8]) -> Blocks2 {
+    fn inv_bitslice(input: &[u32; 8]) -> Blocks2 {
         let [w0, w1, w2, w3, w4, w5, w6, w7] = transpose(*input);
         let b0 = block_of(w0, w2, w4, w6);
         let b1 = block_of(w1, w3, w5, w7);

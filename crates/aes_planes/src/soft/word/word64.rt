@@ -96,7 +96,7 @@ impl Word for u64 {
     }
 
     #[inline(always)]
-    fn pack(output: &mut [u64; 8], input: &Blocks4) {
+    fn bitslice(output: &mut [u64; 8], input: &Blocks4) {
         let [even0, odd0] = columns_apart(input.get(0));
         let [even1, odd1] = columns_apart(input.get(1));
         let [even2, odd2] = columns_apart(input.get(2));
@@ -105,7 +105,7 @@ impl Word for u64 {
     }
 
     #[inline(always)]
-    fn unpack(input: &[u64; 8]) -> Blocks4 {
+    fn inv_bitslice(input: &[u64; 8]) -> Blocks4 {
         let [even0, even1, even2, even3, odd0, odd1, odd2, odd3] = transpose(*input);
         let b0 = columns_together(even0, odd0);
         let b1 = columns_together(even1, odd1);

@@ -155,9 +155,9 @@ pub(crate) fn process<W: Word, L: Layout, D: PlaneCipher>(
     ensures layers { layers.new ≡ layers.old + rounds }
 {
     let mut state = [W::zero(); 8];
-    W::pack(&mut state, input);
+    W::bitslice(&mut state, input);
     D::process_planes::<W, L>(round_keys, rounds, &mut state, layers);
-    W::unpack(&state)
+    W::inv_bitslice(&state)
 }
 
 // Processes each block of a batch in a call that is not inlined. This is quicker for a single block

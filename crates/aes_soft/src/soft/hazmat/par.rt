@@ -63,9 +63,9 @@ fn step_batch<W: Word, D: PlaneCipher>(blocks: &mut [Block])
     ensures { Each D.step blocks.old blocks.new }
 {
     let mut state = [W::zero(); 8];
-    W::pack(&mut state, &batch_of::<W::Blocks>(blocks));
+    W::bitslice(&mut state, &batch_of::<W::Blocks>(blocks));
     D::step_planes(&mut state);
-    put_batch(&W::unpack(&state), blocks);
+    put_batch(&W::inv_bitslice(&state), blocks);
 }
 
 // AddRoundKey of each of eight blocks, with the round key at its own place (FIPS 197, 5.1.4).

@@ -11,9 +11,9 @@ invariant-loop-i g l = record {
       → at (g.W.Word.bits (slice_index_or l.round_keys (l.offset + m) d))
       (place g.W.Word.BLOCKS r c k)
       ≡ fold_to xor (λ e. at
-      (g.W.Word.bits (slice_index_or l.initial.round_keys (l.offset + m - l.distance) d))
+      (g.W.Word.bits (slice_index_or l.initial.round_keys (l.offset + m - l.idx_xor) d))
       (place g.W.Word.BLOCKS r e k))
       (at (g.W.Word.bits (slice_index_or l.initial.round_keys (l.offset + m) d))
-      ((place g.W.Word.BLOCKS r 0 k + l.rotation) % g.W.Word.BITS)) c;
+      ((place g.W.Word.BLOCKS r 0 k + l.idx_ror) % g.W.Word.BITS)) c;
   same_length : length l.round_keys ≡ length l.initial.round_keys;
 }

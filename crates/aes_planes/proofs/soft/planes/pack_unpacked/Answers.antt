@@ -7,7 +7,7 @@ pub returns : goal.returns
 returns g c =
     let w = g.W.Word in
     let m = g.met.W.Word.shape in
-    let made = c.pack.new.output in
+    let made = c.bitslice.new.output in
     let planes = c.args.planes.now in
     same_planes w.BLOCKS (map w.bits made) (map w.bits planes)
     (length-map made w.bits ∙ c.planes_are_eight.ensures) (length-map planes w.bits ∙ c.told-planes)
@@ -17,4 +17,4 @@ returns g c =
       lengths_of_words w.bits w.BITS m.sized planes p
           (omega (arith, hp, c.told-planes)) ∙ m.sixteen,
     ))
-    (c.pack.ensures ∙ c.unpack.ensures)
+    (c.bitslice.ensures ∙ c.inv_bitslice.ensures)

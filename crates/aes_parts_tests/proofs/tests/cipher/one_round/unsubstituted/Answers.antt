@@ -9,9 +9,9 @@ use Rattle.aes_parts_tests.proofs.tests.cipher.one_round.unsubstituted.Goals as 
 pub returns : goal.returns
 unfolding inv_shift_times
 returns c =
-    let loaded = c.pack.ensures ∙ c.batch_of.ensures in
+    let loaded = c.bitslice.ensures ∙ c.batch_of.ensures in
     let shifted = c.inv_shift_rows_1.ensures ∙ ap (map (inv_shift_times 1)) loaded in
     let without = c.sub_bytes_nots.ensures ∙ ap (map (map plus63)) shifted in
     let whole = c.inv_sub_bytes.ensures.blocks ∙ ap (map (map (λ b. inv_sbox (plus63 b)))) without
     ∙ ap (λ s. s ∷ []) (without63 (inv_shift_rows c.args.block.now)) in
-    c.get.ensures.at ∙ ap (λ blocks. slice_index_or blocks 0 []) (c.unpack.ensures ∙ whole)
+    c.get.ensures.at ∙ ap (λ blocks. slice_index_or blocks 0 []) (c.inv_bitslice.ensures ∙ whole)

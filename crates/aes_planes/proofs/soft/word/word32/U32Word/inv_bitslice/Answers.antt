@@ -3,7 +3,7 @@ use Rattle.std.proofs.lemmas.List.{length-map}
 use Rattle.aes_planes.specs.Words.{word_bits}
 use Rattle.aes_planes.proofs.Bits.ByteCases.{by_eight}
 use Rattle.aes_planes.proofs.Words.Packing.{unpacked}
-use Rattle.aes_planes.proofs.soft.word.word32.U32Word.unpack.Goals as goal
+use Rattle.aes_planes.proofs.soft.word.word32.U32Word.inv_bitslice.Goals as goal
 
 pub returns : goal.returns
 returns c =

@@ -4,7 +4,7 @@ use Rattle.aes_planes.specs.Planes.{held}
 use Rattle.aes_planes.proofs.Bits.BitCases.{list_of_eight}
 use Rattle.aes_planes.proofs.Bits.ByteCases.{by_eight}
 use Rattle.aes_planes.proofs.Words.Packing.{packed}
-use Rattle.aes_planes.proofs.soft.word.word128.U128Word.pack.Goals as goal
+use Rattle.aes_planes.proofs.soft.word.word128.U128Word.bitslice.Goals as goal
 
 pub returns : goal.returns
 returns c =

@@ -2,7 +2,7 @@ use Rattle.std.proofs.Common.{◌+◌, ◌*◌, ◌/◌, ◌%◌, [], ◌∷◌,
 use Rattle.aes_planes.specs.Words.{word_bits}
 use Rattle.aes_planes.proofs.Bits.ByteCases.{by_eight}
 use Rattle.aes_planes.proofs.Words.Packing.{packed}
-use Rattle.aes_planes.proofs.soft.word.word64.U64Word.pack.Goals as goal
+use Rattle.aes_planes.proofs.soft.word.word64.U64Word.bitslice.Goals as goal
 
 pub returns : goal.returns
 returns c =

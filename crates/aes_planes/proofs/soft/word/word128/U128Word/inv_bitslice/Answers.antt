@@ -4,7 +4,7 @@ use Rattle.aes_planes.specs.Words.{word_bits, lane_bits}
 use Rattle.aes_planes.proofs.Bits.BitCases.{list_of_eight}
 use Rattle.aes_planes.proofs.Bits.ByteCases.{by_eight}
 use Rattle.aes_planes.proofs.Words.Packing.{unpacked}
-use Rattle.aes_planes.proofs.soft.word.word128.U128Word.unpack.Goals as goal
+use Rattle.aes_planes.proofs.soft.word.word128.U128Word.inv_bitslice.Goals as goal
 
 pub returns : goal.returns
 returns c =
