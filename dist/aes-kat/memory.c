@@ -1,14 +1,8 @@
-/* What the program aes-kat needs from C beside libc's own calls: memory that grows, the number of the last error, and answers to
- * --help and --version. */
-#include "../include/fotsgure_aes.h"
-
+/* What the program aes-kat needs from C beside libc's own calls: memory that grows, and the number of the last error. */
 #include <errno.h>
-#include <fcntl.h>
 #include <stdbool.h>
-#include <stdio.h>
+#include <stddef.h>
 #include <stdlib.h>
-#include <string.h>
-#include <unistd.h>
 
 /* Memory, if there was some. */
 struct memory {
@@ -41,38 +35,4 @@ void rattle_dealloc(void *at)
 int rattle_errno(void)
 {
     return errno;
-}
-
-static void print_and_end(const char *text)
-{
-    if (puts(text) < 0 || fflush(stdout) != 0) {
-        fputs("aes-kat: failed\n", stderr);
-        exit(2);
-    }
-    exit(0);
-}
-
-/* The proved program reads no arguments. So before it begins, this looks for one that asks for help or for the version, in the file
- * where Linux keeps the arguments, each with a zero behind it. */
-__attribute__((constructor)) static void answer_options(void)
-{
-    enum { MOST = 4096 };
-    char words[MOST + 2] = "";
-    int file = open("/proc/self/cmdline", O_RDONLY);
-    ssize_t length = file < 0 ? -1 : read(file, words, MOST);
-    if (file >= 0)
-        close(file);
-    const char *word = words + strlen(words) + 1;
-    if (length <= 0 || word + strlen(word) + 1 != words + length)
-        return; /* there isn't just one */
-    if (strcmp(word, "--version") == 0)
-        print_and_end("aes-kat " FOTSGURE_AES_VERSION_TEXT);
-    if (strcmp(word, "--help") == 0 || strcmp(word, "-h") == 0)
-        print_and_end("usage: aes-kat < FILE\n"
-                      "Answers each line with one line; one space separates words, in hexadecimal:\n"
-                      "  enc KEY [BLOCKS], dec KEY [BLOCKS]    encrypts or decrypts up to 64 blocks, joined\n"
-                      "  sched KEY                             the round keys\n"
-                      "  round, invround BLOCK ROUND_KEY       a round of the cipher, or of its inverse\n"
-                      "  mix, invmix BLOCK                     MixColumns, or its inverse\n"
-                      "It is for known answers: don't give it secrets.");
 }
