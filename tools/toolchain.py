@@ -1,6 +1,7 @@
 """All that the scripts use of the toolchain's own module, which may change with each kit: copies of the crates, and proofs and builds over
 the libraries that the gate proved on this machine.
 
+    python3 -B -m tools.toolchain --check                fails, and names what is missing, if that module lacks something of it
     python3 -B -m tools.toolchain --jobs                 how many checks run side by side
     python3 -B -m tools.toolchain --serve FILE           lets later commands use the libraries that `rt ci` left here; FILE is older than
                                                          its run
@@ -17,12 +18,32 @@ import types
 
 from tools.crates import TOP, read_arguments
 
-# The toolchain's command, which is in the folder bin of the kit, and its module, or None where there is none.
+# The toolchain's command, which is in the folder bin of the kit.
 COMMAND = os.path.realpath(shutil.which("rt") or "/no/rt")
 KIT = pathlib.Path(COMMAND).parent.parent
-rt = types.SimpleNamespace(**runpy.run_path(COMMAND, run_name="rt")) if os.path.exists(COMMAND) else None
+
+
+def module():
+    """The command as a module, or None where there is none."""
+    return types.SimpleNamespace(**runpy.run_path(COMMAND, run_name="rt")) if os.path.exists(COMMAND) else None
+
+
+rt = module()
 # Whether the kit's gate keeps what it proved, as that of 13f does, and that of 13b doesn't.
 KEEPS = hasattr(rt, "Kept")
+# What is used of the module, of its library and of that library's class of crates.
+USED = {
+    "": ["Crate", "checked", "crates_of", "free", "handles_of", "processors", "rtlib", *(["Kept", "work_for"] if KEEPS else [])],
+    "rtlib": ["Crate", "RATTLE", "crates_below", "files_of", "guarded"],
+    "rtlib.Crate": ["below", "build_rlib", "cuts_libraries", "is_built", "stamp", "words"],
+}
+
+
+def check():
+    """Ends with status 1 if the kit's module lacks something that is used here."""
+    of = {"": rt, "rtlib": rt.rtlib, "rtlib.Crate": rt.rtlib.Crate}
+    missing = [f"{place}.{name}".strip(".") for place, names in USED.items() for name in names if not hasattr(of[place], name)]
+    sys.exit(f"toolchain: this kit's rt lacks {', '.join(missing)}: adapt tools/toolchain.py" if missing else 0)
 
 
 def enter(top):
@@ -131,9 +152,9 @@ def serve(since):
 
 
 def is_right(words):
-    return words == ["--jobs"] or words[:1] == ["--serve"] and len(words) == 2 or words[:1] == ["--prove"] and len(words) > 2
+    return words in (["--check"], ["--jobs"]) or words[:1] == ["--serve"] and len(words) == 2 or words[:1] == ["--prove"] and len(words) > 2
 
 
 if __name__ == "__main__":
     option, *more = read_arguments(__doc__, is_right)
-    {"--jobs": lambda: print(jobs()), "--serve": serve, "--prove": prove}[option](*more)
+    {"--check": check, "--jobs": lambda: print(jobs()), "--serve": serve, "--prove": prove}[option](*more)
