@@ -15,22 +15,43 @@ under() { OPENSSL_CONF=$work/$1.cnf "${@:2}"; } # NAME COMMAND ..
 merged() { "$command" --configuration "$module" "$work/$1.cnf" > "$work/merged.cnf"; } # NAME
 least_version() { "$python" -c 'import ssl; print(ssl.SSLContext(ssl.PROTOCOL_TLS_CLIENT).minimum_version.name)'; }
 
-# fotsgure-openssl tells our module from none, from a wrong path, and from one that isn't preferred; and it sees that a program is left
-# without a hash or random numbers.
+# fotsgure-openssl tells our module from one that isn't preferred, and sees that a program is left without a hash or random numbers.
 says_which_provider() {
-    sed 's|^module = .*|module = /nowhere/fotsgure.so|' "$conf" > "$work/wrong.cnf"
     sed 's/^default_properties = .*/default_properties = ?provider=default/' "$conf" > "$work/other.cnf"
     sed 's/= ?provider/= provider/' "$conf" > "$work/demands.cnf"
     sed '/^default = /d' "$conf" > "$work/alone.cnf"
     sed 's/^default_properties = /&fips=yes,/' "$conf" > "$work/fips.cnf"
-    file empty ''
     ends_with 0 'AES-256-GCM-SIV: fotsgure' under fotsgure "$command" &&
-        ends_with 1 "26 algorithms don't come from fotsgure: OPENSSL_CONF names no file" under empty "$command" &&
-        ends_with 1 "isn't where it says" under wrong "$command" &&
         ends_with 1 "but the configuration doesn't prefer it" under other "$command" &&
         ends_with 3 'SHA2-256: none' under demands "$command" && ends_with 3 'Programs find no hash' under alone "$command" &&
         ends_with 3 'demands fips=yes' under fips "$command" && ends_with 2 usage "$command" -x &&
         ends_with 2 'No space left' into_a_full_device "$command" --help
+}
+# If nothing comes from the module, it gives the one reason.
+says_the_reason() {
+    local bare=() reason="26 algorithms don't come from fotsgure: "
+    [[ $(id -u) -ne 0 ]] || bare=(setpriv --inh-caps=-all --bounding-set=-all) # root, without its right to read all files
+    sed 's|^module = .*|module = /nowhere/fotsgure.so|' "$conf" > "$work/wrong.cnf"
+    cp "$conf" "$work/closed.cnf" && chmod 0 "$work/closed.cnf"
+    file empty ''
+    file gone 'openssl_conf = i' '[i]'
+    file early 'openssl_conf = i' '[i]' 'alg_section = nowhere' 'providers = fotsgure_providers'
+    sed -n '/^\[fotsgure_providers]/,$p' "$conf" >> "$work/early.cnf"
+    merged gone && rm "$work/gone.cnf" || return
+    ends_with 1 "$reason$work/gone.cnf, which $work/merged.cnf includes: No such file" under merged "$command" &&
+        ends_with 1 "$reason$work/closed.cnf: Permission denied" under closed "${bare[@]}" "$command" &&
+        ends_with 1 "$reason$work/never.cnf: No such file" under never "$command" &&
+        ends_with 1 "$reason/nowhere/fotsgure.so: cannot open shared object file" under wrong "$command" &&
+        ends_with 1 "$reason$work/empty.cnf activates no provider fotsgure" under empty "$command" &&
+        ends_with 1 'stops before the module: module=alg_section' under early "$command" &&
+        ends_with 1 "${reason}OPENSSL_CONF names no file" env OPENSSL_CONF= "$command" &&
+        ends_with 1 "${reason}OPENSSL_CONF isn't set, and " env -u OPENSSL_CONF "$command"
+}
+says_noexec() {
+    sed "s|^module = .*|module = $work/again/fotsgure.so|" "$conf" > "$work/noexec.cnf"
+    # shellcheck disable=SC2016 # the inner bash's
+    ends_with 1 "$work/again/fotsgure.so is on a file system that is mounted with noexec" under noexec unshare -m bash -c \
+        'mount -t tmpfs -o noexec none "$2" && cp "$1" "$2" && exec "$3"' - "$module" "$work/again" "$command"
 }
 # It tells a process that has loaded the module, and used it, from one that hasn't, and from one whose module was replaced.
 says_of_a_process() {
@@ -83,6 +104,8 @@ demands_stay() {
     file mode 'openssl_conf = i' '[i]' 'alg_section = e' '[e]' 'fips_mode = yes'
     ends_with 2 'demands fips=yes' merged mode || return
     file withheld 'openssl_conf = i' '[i]' 'providers = p' '[p]' 'base = b' '[b]' 'activate = 1'
+    file exclusive 'openssl_conf = i' '[i]' 'alg_section = e' '[e]' 'default_properties = provider!=legacy'
+    ends_with 2 'it allows each name once' merged exclusive || return
     merged withheld && ! grep '^default = ' "$work/merged.cnf" && ends_with 3 'Programs find no hash' under merged "$command" &&
         ends_with 2 'has to begin with /' "$command" --configuration fotsgure.so &&
         file broken '[i' && ends_with 2 "line 1 isn't understood" merged broken && ends_with 2 "can't be read" merged nowhere
@@ -97,14 +120,29 @@ stay_there() { # FOLDER COMMAND ..
     done
     wait "$updating"
 }
+# What an installation into a folder of its own has in its environment.
+set_words() { # FOLDER
+    mkdir -p "$1/lib" && cp "$prefix"/lib/*.a "$1/lib" &&
+        words=(env libdir="$1/lib" bindir="$1/bin" mandir="$1/man" sysconfdir="$1/etc" includedir="$prefix/include")
+}
+# The file that OPENSSL_CONF names is included, and again at an update, where OPENSSL_CONF names ours, or nothing.
+present_settings_stay() (
+    local at=$work/present words
+    unset OPENSSL_MODULES
+    file present 'openssl_conf = i' '[i]' 'ssl_conf = tls' '[tls]' 'system_default = d' '[d]' 'MinProtocol = TLSv1.3'
+    set_words "$at" || return
+    for now in "OPENSSL_CONF=$work/present.cnf" "OPENSSL_CONF=$at/etc/fotsgure-openssl.cnf" OPENSSL_CONF=; do
+        ends_with 0 "fotsgure-openssl.cnf includes $work/present.cnf." "${words[@]}" "$now" "$here/install" "$prefix" || return
+    done
+    [[ $(OPENSSL_CONF=$at/etc/fotsgure-openssl.cnf least_version) == TLSv1_3 ]] &&
+        ends_with 1 'by SYSTEM_CNF' "${words[@]}" OPENSSL_CONF="$work/nowhere" "$here/install" "$prefix"
+)
 # Other users can read what is installed under root's umask, and what can't be built or would change a setting changes nothing.
 installed() (
     local at=$work/installed words
     unset OPENSSL_MODULES
     file theirs 'openssl_conf = i' '[i]' 'providers = p' '[p]' 'default = d' 'legacy = l' '[d]' 'activate = 1' '[l]' 'activate = 1'
-    words=(env SYSTEM_CNF="$work/theirs.cnf" libdir="$at/lib" bindir="$at/bin" mandir="$at/man" sysconfdir="$at/etc"
-        includedir="$prefix/include")
-    mkdir -p "$at/lib" && cp "$prefix"/lib/*.a "$at/lib" || return
+    set_words "$at" && words+=(SYSTEM_CNF="$work/theirs.cnf") || return
     bash -c 'umask 077; "$@"' - "${words[@]}" "$here/install" "$prefix" || return
     [[ -z $(find "$at" ! -perm -go=r) && -z $(find "$at" -type d ! -perm -go=x) ]] || { find "$at" -ls; return 1; }
     stay_there "$at" "${words[@]}" "$here/install" "$prefix" && (cd "$at" && find . -type f -exec sha256sum {} + > "$work/sums") || return
@@ -118,8 +156,15 @@ installed() (
 check_settings() {
     mkdir "$work/again"
     try 'fotsgure-openssl says which provider serves AES, and what is missing' says_which_provider
+    try 'fotsgure-openssl gives the reason why nothing comes from the module' says_the_reason
+    if [[ $(id -u) -eq 0 ]] && unshare -m true 2> /dev/null; then
+        try 'fotsgure-openssl sees a mount with noexec' says_noexec
+    else
+        echo 'skipped: a mount with noexec (it needs root, and permission to mount)'
+    fi
     try 'fotsgure-openssl says whether a process has loaded the module' says_of_a_process
     try 'the file of configuration keeps the settings of the system' settings_stay
     try 'where the system demands fips=yes, there is none' demands_stay
+    try 'an installation keeps the settings of the file that OPENSSL_CONF names' present_settings_stay
     try 'an installation can be read by all; one that fails changes nothing' installed
 }

@@ -1,6 +1,8 @@
-/* The parts of the command fotsgure-openssl. Each returns the exit status of the command. */
+/* The parts of the command fotsgure-openssl. The first three return the exit status of the command. */
 #ifndef FOTSGURE_COMMAND_H
 #define FOTSGURE_COMMAND_H
+
+#include <openssl/conf.h>
 
 #define MODULE_NAME "fotsgure.so"
 
@@ -15,5 +17,10 @@ enum exit_status {
 enum exit_status of_this_environment(void);
 enum exit_status of_process(const char *process);
 enum exit_status print_configuration(const char *module, const char *file); /* file: NULL, or another one to build on */
+
+/* Why programs don't get AES from the module, in a line. */
+void print_reason(void);
+/* A value by its name in this section alone. NCONF_get_string would look into the default section too. */
+const char *value_of(const CONF *conf, const char *section, const char *name, const char *otherwise);
 
 #endif

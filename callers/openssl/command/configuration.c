@@ -2,7 +2,6 @@
  * the other file. So the files that it includes count, and its variables and quotes too. */
 #include "command.h"
 
-#include <openssl/conf.h>
 #include <openssl/evp.h>
 #include <openssl/provider.h>
 #include <stdio.h>
@@ -16,6 +15,8 @@ struct names {
     int activates_default;  /* programs have the provider default under the other file, and are to keep it */
 };
 
+#define PREFERENCE "?provider=fotsgure"
+
 /* What can't be written into a file of configuration as it is. */
 #define SPECIAL "#$\\\"'"
 
@@ -28,8 +29,7 @@ static int is_whole(const char *path)
     return 0;
 }
 
-/* A value by its name in this section alone. NCONF_get_string would look into the default section too. */
-static const char *value_of(const CONF *conf, const char *section, const char *name, const char *otherwise)
+const char *value_of(const CONF *conf, const char *section, const char *name, const char *otherwise)
 {
     const STACK_OF(CONF_VALUE) *values = NCONF_get_section(conf, section);
     for (int i = sk_CONF_VALUE_num(values) - 1; i >= 0; i--) {
@@ -50,11 +50,17 @@ static int keeps_its_settings(struct names *names, const char *file)
     CONF_modules_load_file_ex(library, file, NULL, CONF_MFLAGS_DEFAULT_SECTION | CONF_MFLAGS_IGNORE_RETURN_CODES);
     names->activates_default = OSSL_PROVIDER_available(library, "default");
     int fips = EVP_default_properties_is_fips_enabled(library);
+    char properties[2000];
+    snprintf(properties, sizeof properties, "%s%s" PREFERENCE, names->properties, *names->properties ? "," : "");
+    int is_allowed = EVP_set_default_properties(library, properties);
     OSSL_LIB_CTX_free(library);
     if (fips)
         fprintf(stderr, "%s demands fips=yes: the module doesn't have that property, since nobody has certified it\n", file);
     else if (strpbrk(names->properties, SPECIAL))
         fprintf(stderr, "%s has default_properties with quotes or variables: %s\n", file, names->properties);
+    else if (!is_allowed)
+        fprintf(stderr, "%s: after default_properties = %s OpenSSL doesn't allow " PREFERENCE " (it allows each name once)\n", file,
+            names->properties);
     else
         return 1;
     return 0;
@@ -77,7 +83,7 @@ static void print(const char *module, const char *file, const struct names *name
     if (names->activates_default)
         printf("[%s]\nactivate = 1\n", names->of_default);
     printf("[fotsgure_provider]\nmodule = %s\nactivate = 1\n", module);
-    printf("[%s]\ndefault_properties = %s%s?provider=fotsgure\n", names->algorithms, names->properties,
+    printf("[%s]\ndefault_properties = %s%s" PREFERENCE "\n", names->algorithms, names->properties,
         *names->properties ? "," : "");
 }
 

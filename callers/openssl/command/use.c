@@ -77,20 +77,13 @@ static int has_random_numbers(void)
     return done;
 }
 
-static const char *why_others(void)
-{
-    if (!OSSL_PROVIDER_available(NULL, "fotsgure"))
-        return "OPENSSL_CONF names no file that loads it, the module isn't where it says, or the processor lacks SSSE3 or SSE4.2";
-    if (EVP_default_properties_is_fips_enabled(NULL))
-        return "the configuration demands fips=yes, which the module doesn't have";
-    return "it is loaded, but the configuration doesn't prefer it: default_properties = ?provider=fotsgure does";
-}
-
 enum exit_status of_this_environment(void)
 {
     int others = count_others(), hash = has_hash(), random_numbers = has_random_numbers();
-    if (others > 0)
-        printf("%d algorithms don't come from fotsgure: %s\n", others, why_others());
+    if (others > 0) {
+        printf("%d algorithms don't come from fotsgure: ", others);
+        print_reason();
+    }
     if (hash && random_numbers)
         return others > 0 ? NOT_SERVED : SERVED;
     printf("Programs find no %s: write ?provider=fotsgure with its question mark, and activate the provider default\n",
