@@ -14,7 +14,7 @@
  *  - No overlap: what a call writes overlaps nothing else that it is given, and isn't the same buffer either. To work in
  *    place, use the calls with one buffer. What a call only reads may overlap.
  *  - A struct fotsgure_aes that fotsgure_aes_set_key or fotsgure_aes_wipe wrote last, or a copy of such a struct, or one
- *    whose bytes are all 0.
+ *    whose bytes are all 0. For these two calls it may be uninitialized.
  *  - No data race: during the call no other thread writes what it reads, or reads or writes what it writes.
  *  - FOTSGURE_AES_STACK bytes of stack, and a processor with little-endian words: any on x86-64, 64-bit ARM and RISC-V; on
  *    32-bit ARM an ARMv7 or later, or a Cortex-M. On microcontrollers docs/MICROCONTROLLERS.md says how much stack a call

@@ -17,8 +17,9 @@
  *  - No overlap: what a call writes overlaps nothing else that it is given, and isn't the same buffer either. To work in
  *    place, use the calls with one buffer. What a call only reads may overlap.
  *  - A struct fotsgure_gcm that fotsgure_gcm_set_key, fotsgure_gcm_set_key_of or fotsgure_gcm_wipe wrote last, or a copy
- *    of such a struct, or one whose bytes are all 0. The same holds for a struct fotsgure_gcm_siv, with the calls
- *    fotsgure_gcm_siv_set_key and fotsgure_gcm_siv_wipe. A struct fotsgure_aes is one that fotsgure_aes.h allows.
+ *    of such a struct, or one whose bytes are all 0. For these three calls it may be uninitialized. The same holds for a
+ *    struct fotsgure_gcm_siv, with the calls fotsgure_gcm_siv_set_key and fotsgure_gcm_siv_wipe. A struct fotsgure_aes is
+ *    one that fotsgure_aes.h allows.
  *  - A struct fotsgure_gcm_message may hold anything but uninitialized bytes. For fotsgure_gcm_begin and
  *    fotsgure_gcm_wipe_message it may be uninitialized too. What calls promise about a message holds if all its calls
  *    had the same key, the first was fotsgure_gcm_begin, and nothing else wrote the struct.
