@@ -1,6 +1,6 @@
 """The modules for Python, fotsgure.gcm and fotsgure.aead. It tries test cases 2, 4 and 16 of the submission of GCM (McGrew and Viega,
-appendix B); texts of 0 to 300 bytes there and back; every refusal; arguments that don't count as bytes; threads and forks. It compares
-AESGCM with that of the package cryptography 48 if it is installed. The last line is `N passed, M failed`."""
+appendix B); texts of 0 to 300 bytes there and back; every refusal; arguments that don't count as bytes; that nothing shows a key; memory;
+threads and forks. It compares AESGCM with that of the package cryptography 48 if it is installed. The last line is `N passed, M failed`."""
 import array
 import copy
 import ctypes
@@ -10,8 +10,11 @@ import signal
 import subprocess
 import sys
 import threading
+import traceback
+import tracemalloc
 
 from fotsgure.aead import AESGCM, AESGCMSIV, InvalidTag
+from fotsgure.aes import Aes
 from fotsgure.gcm import VERSION, Gcm, GcmSiv, Refused
 
 KEY = bytes.fromhex("feffe9928665731c6d6a8f9467308308")
@@ -166,14 +169,64 @@ for thing in NOTHINGS:
     expect(raises(TypeError, Gcm, KEY, thing), f"{thing!r} is no counter")
 expect(gcm.counter == bytes(12), "a refused call moves no counter")
 expect(gcm.open(NONCE, gcm.seal(NONCE, PLAIN, None), b"") == PLAIN, "no additional data is None or empty")
-for thing in (gcm, GcmSiv(KEY), gcm.begin(NONCE)):
-    for call in (copy.copy, copy.deepcopy, pickle.dumps):
-        try:
-            call(thing)
-        except TypeError as error:
-            words = str(error)
-        expect(words.startswith("cannot pickle or copy a key"), f"{call} of {thing}: {words}")
-        words = "no error"
+
+# Nothing shows a byte of a key: no object's text, nor that of what it consists of; no copy, and no error.
+OPEN_KEY = b"lone-ox-16-bytes"
+PARTS_OF_IT = "lone-ox", b"lone-ox".hex(), str([*b"lone-ox"])[1:-1]
+
+
+def parts(thing):
+    """An object, and what `vars` finds in it, to any depth."""
+    yield thing
+    for part in getattr(thing, "__dict__", {}).values():
+        yield from parts(part)
+
+
+def trace_of(call, *arguments):
+    """What Python prints about the error that a call raises."""
+    try:
+        call(*arguments)
+    except Exception:
+        return traceback.format_exc()
+    return f"no error, but {PARTS_OF_IT[0]}"
+
+
+keys = Gcm(OPEN_KEY, bytes(12)), GcmSiv(OPEN_KEY), AESGCM(OPEN_KEY), AESGCMSIV(OPEN_KEY), Aes(OPEN_KEY)
+for thing in (*keys, keys[0].begin(NONCE), keys[4].keystream(bytes(16))):
+    expect(not any(it in f"{part!r} {part}" for part in parts(thing) for it in PARTS_OF_IT), f"the text of {thing}")
+    secrets = [it for it in parts(thing) if it is thing or isinstance(it, ctypes.Structure)]
+    expect(len(secrets) > 1, f"{thing} has a struct with its key")
+    for part in secrets:
+        for call in (copy.copy, copy.deepcopy, pickle.dumps):
+            words = trace_of(call, part)
+            expect("TypeError: cannot pickle or copy a key" in words, f"{call} of {part}: {words}")
+for make in (Gcm, GcmSiv, AESGCM, AESGCMSIV, Aes):
+    for wrong in (OPEN_KEY[:15], OPEN_KEY.decode(), [*OPEN_KEY], {OPEN_KEY: 1}):
+        words = trace_of(make, wrong)
+        expect(not any(it in words for it in PARTS_OF_IT), f"the error of {make}: {words}")
+for key in (keys[0], keys[1], keys[4]):
+    key.wipe()
+words = trace_of(keys[0].seal, NONCE, PLAIN) + trace_of(keys[1].seal_random, PLAIN) + trace_of(keys[4].encrypt, bytes(16))
+expect(not any(it in words for it in PARTS_OF_IT), f"the error of a wiped key: {words}")
+for make, words in ((Gcm, "a key has 16, 24 or 32 bytes"), (GcmSiv, "a key of AES-GCM-SIV has 16 or 32 bytes")):
+    expect(f"ValueError: {words}\n" in trace_of(make, bytes(17)), f"what the error of {make} says")
+
+# Beside a text, a call needs twice its length at most: what it returns, and a buffer.
+LONG = bytes(1 << 20)
+siv, aead, aes = GcmSiv(KEY), AESGCM(KEY), Aes(KEY)
+sealed = gcm.seal(NONCE, LONG)
+for number, call in enumerate((
+        lambda: siv.seal_random(LONG), lambda: gcm.seal(NONCE, LONG), lambda: gcm.open(NONCE, sealed),
+        lambda: siv.open(NONCE, siv.seal(NONCE, LONG[:1 << 19])), lambda: gcm.begin(NONCE).encrypt(LONG), lambda: gcm.begin(NONCE).verify(LONG),
+        lambda: aead.encrypt_into(NONCE, LONG, None, place), lambda: aead.decrypt(NONCE, sealed, None),
+        lambda: gcm.seal(NONCE, memoryview(LONG)), lambda: aes.encrypt(LONG))):
+    place = bytearray(len(LONG) + 16)
+    tracemalloc.start()
+    call()
+    peak = tracemalloc.get_traced_memory()[1] / len(LONG)
+    tracemalloc.stop()
+    expect(peak < 2.1, f"call {number} needs {peak:.2f} times its text")
+
 # All calls accept whatever has bytes.
 words, text = array.array("I", range(9)), array.array("I", range(9)).tobytes()
 expect(words.itemsize == 4 and gcm.seal(words[:3], words, words) == gcm.seal(text[:12], text, text), "arrays")
@@ -307,6 +360,7 @@ ROWS = (
     (lambda aes: into(aes.encrypt_into, b"0123456789", bytearray(25)), (ValueError, "buffer must be 26 bytes")),
     (lambda aes: into(aes.encrypt_into, b"0123456789", bytearray(27)), (ValueError, "buffer must be 26 bytes")),
     (lambda aes: into(aes.encrypt_into, b"0123456789", bytes(26)), TypeError),
+    (lambda aes: into(aes.encrypt_into, b"0123456789", memoryview(bytes(26))), TypeError),
     (lambda aes: into(aes.encrypt_into, b"0123456789", GAPS), (BufferError, "Buffer is not contiguous.")),
     (lambda aes: into(aes.encrypt_into, b"0123456789", None), TypeError),
     (lambda aes: into(aes.decrypt_into, SEALED, bytearray(10)), (10, b"0123456789")),
@@ -362,6 +416,7 @@ for number, (call, wanted) in enumerate(ROWS):
     wanted = OF_SIV.get(wanted, wanted)
     if wanted != 24:
         expect(outcome(call, AESGCMSIV(KEY)) == wanted, f"row {number} of AESGCMSIV: {outcome(call, AESGCMSIV(KEY))}")
+expect("TypeError: the buffer is not writable" in trace_of(aead.encrypt_into, NONCE, b"", None, bytes(16)), "a buffer that is read-only")
 place = bytearray(10)
 expect(raises(InvalidTag, aead.decrypt_into, NONCE, SEALED[:-1] + b"!", None, place) and place == bytes(10),
        "a refused message leaves the buffer as it was")

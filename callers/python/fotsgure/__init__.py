@@ -4,3 +4,5 @@
     fotsgure.aead    AESGCM and AESGCMSIV, as the package cryptography has them
     fotsgure.aes     blocks and counter mode: Aes
 """
+__all__ = ["aead", "aes", "gcm"]
+__version__ = "0.4.0"

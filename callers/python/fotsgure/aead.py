@@ -11,7 +11,9 @@ import os
 from typing import Optional, Tuple, Union
 
 from .gcm import Gcm, GcmSiv, Refused
-from .library import Bytes, Secret, view_of
+from .library import Bytes, Secret, Writable, view_of
+
+__all__ = ["AESGCM", "AESGCMSIV", "InvalidTag"]
 
 try:
     from cryptography.exceptions import InvalidTag
@@ -45,43 +47,43 @@ class _Aead(Secret):
 
     def encrypt(self, nonce: Bytes, data: Bytes, associated_data: Optional[Bytes]) -> bytes:
         """Encrypts: returns the encrypted data followed by the tag of 16 bytes."""
-        message = _views(nonce, data, associated_data)
-        self._check(*message)
-        return self._mode.seal(*message)
+        self._length(nonce, data, associated_data)
+        return self._mode.seal(nonce, data, associated_data)
 
-    def encrypt_into(self, nonce: Bytes, data: Bytes, associated_data: Optional[Bytes], buf: Bytes) -> int:
+    def encrypt_into(self, nonce: Bytes, data: Bytes, associated_data: Optional[Bytes], buf: Writable) -> int:
         """Writes what `encrypt` returns into a buffer of exactly that length, and returns the length."""
-        message, place = _views(nonce, data, associated_data), _writable(buf)
-        self._check(*message)
-        _fits(place, message[1].nbytes + 16)
-        return _put(place, self._mode.seal(*message))
+        place = _writable(buf)
+        _fits(place, self._length(nonce, data, associated_data) + 16)
+        return _put(place, self._mode.seal(nonce, data, associated_data))
 
     def decrypt(self, nonce: Bytes, data: Bytes, associated_data: Optional[Bytes]) -> bytes:
         """Decrypts, or raises InvalidTag: also for data of fewer than 16 bytes, whose tag can't be whole."""
-        message = _views(nonce, data, associated_data)
-        self._check(*message)
-        return self._opened(*message)
+        self._length(nonce, data, associated_data)
+        return self._opened(nonce, data, associated_data)
 
-    def decrypt_into(self, nonce: Bytes, data: Bytes, associated_data: Optional[Bytes], buf: Bytes) -> int:
+    def decrypt_into(self, nonce: Bytes, data: Bytes, associated_data: Optional[Bytes], buf: Writable) -> int:
         """Writes what `decrypt` returns into a buffer of exactly that length, and returns the length."""
-        message, place = _views(nonce, data, associated_data), _writable(buf)
-        self._check(*message)
-        if message[1].nbytes < 16:
+        place = _writable(buf)
+        length = self._length(nonce, data, associated_data)
+        if length < 16:
             raise InvalidTag
-        _fits(place, message[1].nbytes - 16)
-        return _put(place, self._opened(*message))
+        _fits(place, length - 16)
+        return _put(place, self._opened(nonce, data, associated_data))
 
-    def _opened(self, *message: Bytes) -> bytes:
+    def _opened(self, nonce: Bytes, data: Bytes, associated_data: Optional[Bytes]) -> bytes:
         try:
-            return self._mode.open(*message)
+            return self._mode.open(nonce, data, associated_data)
         except Refused:
             raise InvalidTag from None
 
-    def _check(self, nonce: memoryview, data: memoryview, associated_data: memoryview) -> None:
-        if data.nbytes > 2 ** 31 - 1 or associated_data.nbytes > 2 ** 31 - 1:
+    def _length(self, nonce: Bytes, data: Bytes, associated_data: Optional[Bytes]) -> int:
+        """The length of the data, if all three are of a kind and a length that the calls accept."""
+        nonce_length, length = view_of(nonce).nbytes, view_of(data).nbytes
+        if max(length, 0 if associated_data is None else view_of(associated_data).nbytes) > 2 ** 31 - 1:
             raise OverflowError("Data or associated data too long. Max 2**31 - 1 bytes")
-        if nonce.nbytes not in self._nonces:
+        if nonce_length not in self._nonces:
             raise ValueError(self._wrong_nonce)
+        return length
 
 
 class AESGCMSIV(_Aead):
@@ -104,11 +106,7 @@ class AESGCM(_Aead):
         self._mode = Gcm(self._checked(key, "AESGCM"))
 
 
-def _views(nonce: Bytes, data: Bytes, associated_data: Optional[Bytes]) -> Tuple[memoryview, memoryview, memoryview]:
-    return view_of(nonce), view_of(data), view_of(b"" if associated_data is None else associated_data)
-
-
-def _writable(buf: Bytes) -> memoryview:
+def _writable(buf: Writable) -> memoryview:
     view = view_of(buf)
     if view.readonly:
         raise TypeError("the buffer is not writable")

@@ -10,14 +10,16 @@ library that pip built, or the loader searches for one. Python copies bytes as i
 import ctypes
 from typing import Any, Tuple, Union
 
-from .library import Bytes, Secret, Turn, Uses, Word, bytes_of, load, number, room, written
+from .library import Bytes, Secret, Turn, Uses, Word, address, buffer_of, bytes_of, first, load, number
+
+__all__ = ["Aes", "Keystream", "VERSION"]
 
 
-class _Key(ctypes.Structure):
+class _Key(Secret, ctypes.Structure):
     _fields_ = [("key_length", Word), ("round_keys", Word * 120)]
 
 
-class _Ctr(ctypes.Structure):
+class _Ctr(Secret, ctypes.Structure):
     _fields_ = [("iv", ctypes.c_uint8 * 16), ("position", ctypes.c_uint64)]
 
 
@@ -33,16 +35,16 @@ VERSION: int = _c.fotsgure_aes_version()
 _DONE, _KEYSTREAM_END = 0, 4
 
 
-def _given(data: Bytes) -> Tuple[Any, int]:
-    """A buffer that a call may write, and its length: a bytearray's own, or a copy of what else has bytes."""
+def _given(data: Bytes) -> Tuple[bytearray, int]:
+    """A buffer that a call may write, and the length of the data in it: a bytearray, or a copy of what else has bytes."""
     if isinstance(data, bytearray) and data:
-        return (ctypes.c_char * len(data)).from_buffer(data), len(data)
-    copied = bytes_of(data)
-    return room(copied), len(copied)
+        return data, len(data)
+    buffer = buffer_of(data, 1)
+    return buffer, len(buffer) - 1
 
 
-def _returned(data: Bytes, buffer: Any, length: int) -> Union[bytes, bytearray]:
-    return data if isinstance(data, bytearray) else written(buffer, length)
+def _returned(data: Bytes, buffer: bytearray, length: int) -> Union[bytes, bytearray]:
+    return data if isinstance(data, bytearray) else first(buffer, length)
 
 
 class Aes(Secret):
@@ -51,8 +53,8 @@ class Aes(Secret):
 
     def __init__(self, key: Bytes) -> None:
         self._key, self._uses = _Key(), Uses()
-        key = bytes_of(key)
-        if _c.fotsgure_aes_set_key(self._key, key, len(key)) != _DONE:
+        given = bytes_of(key)
+        if _c.fotsgure_aes_set_key(self._key, given, len(given)) != _DONE:
             raise ValueError("a key has 16, 24 or 32 bytes")
 
     def _blocks(self, call: Any, data: Bytes) -> Union[bytes, bytearray]:
@@ -60,7 +62,7 @@ class Aes(Secret):
         if length % 16:
             raise ValueError("the length isn't a multiple of 16 bytes")
         with self._uses:
-            status = call(self._key, buffer, length // 16)
+            status = call(self._key, address(buffer), length // 16)
         if status != _DONE:
             raise ValueError("the key was wiped")
         return _returned(data, buffer, length)
@@ -93,11 +95,11 @@ class Keystream(Secret):
     other, so that no two get the same keystream. In a process that was forked `apply` raises ValueError."""
 
     def __init__(self, aes: Aes, iv: Bytes, position: int = 0) -> None:
-        iv = bytes_of(iv)
-        if len(iv) != 16:
+        given = bytes_of(iv)
+        if len(given) != 16:
             raise ValueError("an initial counter block has 16 bytes")
         position = number(position, 2 ** 64 - 1, "a position")
-        self._aes, self._ctr, self._turn = aes, _Ctr((ctypes.c_uint8 * 16)(*iv), position), Turn("keystream")
+        self._aes, self._ctr, self._turn = aes, _Ctr((ctypes.c_uint8 * 16)(*given), position), Turn("keystream")
 
     @property
     def position(self) -> int:
@@ -108,7 +110,7 @@ class Keystream(Secret):
         """Encrypts or decrypts from the position on: returns new bytes, or the bytearray, in place."""
         buffer, length = _given(data)
         with self._turn, self._aes._uses:
-            status = _c.fotsgure_aes_add_keystream(self._aes._key, self._ctr, buffer, length)
+            status = _c.fotsgure_aes_add_keystream(self._aes._key, self._ctr, address(buffer), length)
         if status == _KEYSTREAM_END:
             raise ValueError("the keystream ends")
         if status != _DONE:

@@ -30,32 +30,34 @@ import ctypes
 import enum
 from typing import Any, Optional, Sequence, Tuple
 
-from .library import Bytes, Secret, Turn, Uses, Word, bytes_of, bytes_or_none, load, room, written
+from .library import Bytes, Secret, Turn, Uses, Word, address, buffer_of, bytes_of, bytes_or_none, first, load
+
+__all__ = ["Gcm", "GcmSiv", "Message", "Refused", "VERSION"]
 
 
 class Refused(Exception):
     """The tag isn't that of this key, nonce, additional data and text, or they have lengths that no message has."""
 
 
-class _Key(ctypes.Structure):
+class _Key(Secret, ctypes.Structure):
     _fields_ = [("key_length", Word), ("round_keys", ctypes.c_uint8 * 240),
                 ("multiples", ctypes.c_uint8 * 1536)]
 
 
-class _SivKey(ctypes.Structure):
+class _SivKey(Secret, ctypes.Structure):
     _fields_ = [("key_length", Word), ("round_keys", Word * 120)]
 
 
-class _Message(ctypes.Structure):
+class _Message(Secret, ctypes.Structure):
     _fields_ = [("numbers", ctypes.c_uint64 * 4), ("blocks", ctypes.c_uint8 * 48)]
 
 
-class _Counter(ctypes.Structure):
+class _Counter(Secret, ctypes.Structure):
     _fields_ = [("next", ctypes.c_uint8 * 12)]
 
 
 _key, _message, _counter = ctypes.POINTER(_Key), ctypes.POINTER(_Message), ctypes.POINTER(_Counter)
-_siv = ctypes.POINTER(_SivKey)
+_siv, _Nonce, _Tag = ctypes.POINTER(_SivKey), ctypes.c_char * 12, ctypes.c_char * 16
 _read, _written = [ctypes.c_char_p, ctypes.c_size_t], [ctypes.c_void_p, ctypes.c_size_t]
 _tag, _status = ctypes.c_void_p, ctypes.c_uint32
 _c = load("fotsgure_gcm", 4, [
@@ -63,7 +65,7 @@ _c = load("fotsgure_gcm", 4, [
     ("wipe", [_key], None),
     ("seal", [_key, *_read, *_read, *_written, _tag], _status),
     ("seal_next", [_key, _counter, ctypes.c_void_p, *_read, *_written, _tag], _status),
-    ("open", [_key, *_read, *_read, *_written, *_read], _status),
+    ("open", [_key, *_read, *_read, *_written, *_written], _status),
     ("begin", [_key, _message, *_read], _status),
     ("begin_next", [_key, _message, _counter, ctypes.c_void_p], _status),
     ("additional", [_key, _message, *_read], _status),
@@ -78,7 +80,7 @@ _c = load("fotsgure_gcm", 4, [
     ("siv_wipe", [_siv], None),
     ("siv_seal", [_siv, ctypes.c_char_p, *_read, *_written, _tag], _status),
     ("siv_seal_random", [_siv, ctypes.c_void_p, *_read, *_written, _tag], _status),
-    ("siv_open", [_siv, ctypes.c_char_p, *_read, *_written, ctypes.c_char_p], _status),
+    ("siv_open", [_siv, ctypes.c_char_p, *_read, *_written, _tag], _status),
 ])
 VERSION: int = _c.fotsgure_gcm_version()
 
@@ -99,7 +101,7 @@ class _Status(enum.IntEnum):
 
 
 _WORDS = {
-    _Status.KEY_LENGTH: "a key has 16, 24 or 32 bytes, of AES-GCM-SIV 16 or 32",
+    _Status.KEY_LENGTH: "a key has 16, 24 or 32 bytes",
     _Status.NO_KEY: "the key was wiped",
     _Status.NONCE_LENGTH: "a nonce has one byte or more, in AES-GCM-SIV 12",
     _Status.TAG_LENGTH: "a tag has 16 bytes",
@@ -119,43 +121,47 @@ def _check(status: int, changed: Sequence[_Status] = ()) -> None:
         raise (Refused if status in changed else ValueError)(_WORDS[_Status(status)])
 
 
+def _parts(buffer: bytearray) -> Tuple[Any, int, Any]:
+    """Where a text is, its length, and where the tag after it is. A buffer that is too short for a tag raises Refused."""
+    length = len(buffer) - 16
+    _check(_Status.DONE if length >= 0 else _Status.TAG_LENGTH, _CHANGED)
+    return address(buffer), length, address(buffer, length)
+
+
 class GcmSiv(Secret):
     """A key of AES-GCM-SIV, of 16 or 32 bytes. Threads may share it. `wipe`, or the end of a `with`, wipes the prepared
     key, not the bytes given. It waits for calls that run, and later ones raise ValueError."""
 
     def __init__(self, key: Bytes) -> None:
-        key = bytes_of(key)
+        given = bytes_of(key)
         self._key, self._uses = _SivKey(), Uses()
-        _check(_c.fotsgure_gcm_siv_set_key(self._key, key, len(key)))
+        if _c.fotsgure_gcm_siv_set_key(self._key, given, len(given)) != _Status.DONE:
+            raise ValueError("a key of AES-GCM-SIV has 16 or 32 bytes")
 
     def seal_random(self, text: Bytes, additional: Optional[Bytes] = None) -> Tuple[bytes, bytes]:
         """Encrypts under a nonce that is drawn at random: returns that nonce, and the encrypted text followed by its tag."""
-        text, additional = bytes_of(text), bytes_or_none(additional)
-        nonce, buffer, tag = room(bytes(12)), room(text), room(bytes(16))
+        nonce, about, buffer = _Nonce(), bytes_or_none(additional), buffer_of(text, 16)
         with self._uses:
-            _check(_c.fotsgure_gcm_siv_seal_random(self._key, nonce, additional, len(additional), buffer, len(text), tag))
-        return written(nonce, 12), written(buffer, len(text)) + written(tag, 16)
+            _check(_c.fotsgure_gcm_siv_seal_random(self._key, nonce, about, len(about), *_parts(buffer)))
+        return nonce.raw, bytes(buffer)
 
     def seal(self, nonce: Bytes, text: Bytes, additional: Optional[Bytes] = None) -> bytes:
         """Encrypts under a nonce of yours, of 12 bytes: returns the encrypted text followed by the tag."""
-        nonce, text, additional = bytes_of(nonce), bytes_of(text), bytes_or_none(additional)
-        _check(_Status.DONE if len(nonce) == 12 else _Status.NONCE_LENGTH)
-        buffer, tag = room(text), room(bytes(16))
+        given, about, buffer = bytes_of(nonce), bytes_or_none(additional), buffer_of(text, 16)
+        _check(_Status.DONE if len(given) == 12 else _Status.NONCE_LENGTH)
         with self._uses:
-            _check(_c.fotsgure_gcm_siv_seal(self._key, nonce, additional, len(additional), buffer, len(text), tag))
-        return written(buffer, len(text)) + written(tag, 16)
+            _check(_c.fotsgure_gcm_siv_seal(self._key, given, about, len(about), *_parts(buffer)))
+        return bytes(buffer)
 
     def open(self, nonce: Bytes, sealed: Bytes, additional: Optional[Bytes] = None) -> bytes:
         """Decrypts what `seal` or `seal_random` returned, or raises Refused: also if the nonce doesn't have 12 bytes, or the tag
         isn't whole."""
-        nonce, sealed, additional = bytes_of(nonce), bytes_of(sealed), bytes_or_none(additional)
-        text, tag = sealed[:-16], sealed[-16:]
-        _check(_Status.DONE if len(nonce) == 12 else _Status.NONCE_LENGTH, _CHANGED)
-        _check(_Status.DONE if len(tag) == 16 else _Status.TAG_LENGTH, _CHANGED)
-        buffer = room(text)
+        given, about, buffer = bytes_of(nonce), bytes_or_none(additional), buffer_of(sealed, 0)
+        _check(_Status.DONE if len(given) == 12 else _Status.NONCE_LENGTH, _CHANGED)
+        text, length, tag = _parts(buffer)
         with self._uses:
-            _check(_c.fotsgure_gcm_siv_open(self._key, nonce, additional, len(additional), buffer, len(text), tag), _CHANGED)
-        return written(buffer, len(text))
+            _check(_c.fotsgure_gcm_siv_open(self._key, given, about, len(about), text, length, tag), _CHANGED)
+        return first(buffer, length)
 
     def wipe(self) -> None:
         with self._uses.alone():
@@ -177,12 +183,12 @@ class Gcm(Secret):
     would use the same nonces."""
 
     def __init__(self, key: Bytes, counter: Optional[Bytes] = None) -> None:
-        key, counter = bytes_of(key), None if counter is None else bytes_of(counter)
-        if counter is not None and len(counter) != 12:
+        given, start = bytes_of(key), None if counter is None else bytes_of(counter)
+        if start is not None and len(start) != 12:
             raise ValueError("a counter has 12 bytes")
         self._key, self._turn, self._uses = _Key(), Turn("counter"), Uses()
-        self._counter = None if counter is None else _Counter.from_buffer_copy(counter)
-        _check(_c.fotsgure_gcm_set_key(self._key, key, len(key)))
+        self._counter = None if start is None else _Counter.from_buffer_copy(start)
+        _check(_c.fotsgure_gcm_set_key(self._key, given, len(given)))
 
     @property
     def counter(self) -> Optional[bytes]:
@@ -193,21 +199,17 @@ class Gcm(Secret):
 
     def seal(self, nonce: Bytes, text: Bytes, additional: Optional[Bytes] = None) -> bytes:
         """Encrypts: returns the encrypted text followed by the tag."""
-        nonce, text, additional = bytes_of(nonce), bytes_of(text), bytes_or_none(additional)
-        buffer, tag = room(text), room(bytes(16))
+        given, about, buffer = bytes_of(nonce), bytes_or_none(additional), buffer_of(text, 16)
         with self._uses:
-            _check(_c.fotsgure_gcm_seal(self._key, nonce, len(nonce), additional, len(additional), buffer, len(text),
-                                        tag))
-        return written(buffer, len(text)) + written(tag, 16)
+            _check(_c.fotsgure_gcm_seal(self._key, given, len(given), about, len(about), *_parts(buffer)))
+        return bytes(buffer)
 
     def seal_next(self, text: Bytes, additional: Optional[Bytes] = None) -> Tuple[bytes, bytes]:
         """Encrypts under the counter's next nonce: returns that nonce, and what `seal` returns."""
-        text, additional = bytes_of(text), bytes_or_none(additional)
-        nonce, buffer, tag = room(bytes(12)), room(text), room(bytes(16))
+        nonce, about, buffer = _Nonce(), bytes_or_none(additional), buffer_of(text, 16)
         with self._turn, self._uses:
-            _check(_c.fotsgure_gcm_seal_next(self._key, self._counting(), nonce, additional, len(additional), buffer,
-                                             len(text), tag))
-        return written(nonce, 12), written(buffer, len(text)) + written(tag, 16)
+            _check(_c.fotsgure_gcm_seal_next(self._key, self._counting(), nonce, about, len(about), *_parts(buffer)))
+        return nonce.raw, bytes(buffer)
 
     def _counting(self) -> _Counter:
         if self._counter is None:
@@ -216,28 +218,26 @@ class Gcm(Secret):
 
     def open(self, nonce: Bytes, sealed: Bytes, additional: Optional[Bytes] = None) -> bytes:
         """Decrypts what `seal` returned, or raises Refused: also if the nonce is empty, or the tag isn't whole."""
-        nonce, sealed, additional = bytes_of(nonce), bytes_of(sealed), bytes_or_none(additional)
-        text, tag = sealed[:-16], sealed[-16:]
-        buffer = room(text)
+        given, about, buffer = bytes_of(nonce), bytes_or_none(additional), buffer_of(sealed, 0)
+        text, length, tag = _parts(buffer)
         with self._uses:
-            _check(_c.fotsgure_gcm_open(self._key, nonce, len(nonce), additional, len(additional), buffer, len(text),
-                                        tag, len(tag)), _CHANGED)
-        return written(buffer, len(text))
+            _check(_c.fotsgure_gcm_open(self._key, given, len(given), about, len(about), text, length, tag, 16), _CHANGED)
+        return first(buffer, length)
 
     def begin(self, nonce: Bytes) -> "Message":
         """Begins a message in pieces under a nonce of yours."""
-        nonce, message = bytes_of(nonce), Message(self)
+        given, message = bytes_of(nonce), Message(self)
         with self._uses:
-            _check(_c.fotsgure_gcm_begin(self._key, message._message, nonce, len(nonce)))
+            _check(_c.fotsgure_gcm_begin(self._key, message._message, given, len(given)))
         return message
 
     def begin_next(self) -> Tuple[bytes, "Message"]:
         """Begins a message in pieces under the counter's next nonce, and returns both. Store the counter before anything
         of the message is sent."""
-        nonce, message = room(bytes(12)), Message(self)
+        nonce, message = _Nonce(), Message(self)
         with self._turn, self._uses:
             _check(_c.fotsgure_gcm_begin_next(self._key, message._message, self._counting(), nonce))
-        return written(nonce, 12), message
+        return nonce.raw, message
 
     def wipe(self) -> None:
         with self._uses.alone():
@@ -264,14 +264,14 @@ class Message(Secret):
             _check(call(self._gcm._key, self._message, *arguments), changed)
 
     def _takes(self, call: Any, data: Bytes, changed: Sequence[_Status] = ()) -> None:
-        data = bytes_of(data)
-        self._call(call, data, len(data), changed=changed)
+        given = bytes_of(data)
+        self._call(call, given, len(given), changed=changed)
 
     def _turns(self, call: Any, data: Bytes) -> bytes:
-        data = bytes_of(data)
-        buffer = room(data)
-        self._call(call, buffer, len(data))
-        return written(buffer, len(data))
+        buffer = buffer_of(data, 1)
+        length = len(buffer) - 1
+        self._call(call, address(buffer), length)
+        return first(buffer, length)
 
     def additional(self, data: Bytes) -> None:
         """Takes a piece of the additional data. All of it comes before the text."""
@@ -283,9 +283,9 @@ class Message(Secret):
 
     def finish(self) -> bytes:
         """Ends a message that was encrypted, and returns its tag."""
-        tag = room(bytes(16))
+        tag = _Tag()
         self._call(_c.fotsgure_gcm_finish, tag)
-        return written(tag, 16)
+        return tag.raw
 
     def verify(self, sealed: Bytes) -> None:
         """Takes a piece of an encrypted text, whose tag `accept` compares later."""

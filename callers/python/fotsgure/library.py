@@ -1,38 +1,55 @@
 """What the modules share: the shared library's calls, arguments that are what they should be, and turns for threads."""
 import array
+import collections.abc
 import contextlib
 import ctypes
 import ctypes.util
+import mmap
 import operator
 import os
 import pathlib
 import platform
+import sys
 import threading
 import weakref
-from typing import Any, Iterable, Iterator, List, Optional, Tuple, Union
+from typing import Any, Iterable, Iterator, List, Optional, Protocol, Tuple, Union
 
-# What has bytes: these, and whatever else `bytes_of` accepts.
-Bytes = Union[bytes, bytearray, memoryview, "array.array[int]"]
+# What has a buffer, for type checkers. `view_of` says what counts as bytes.
+if sys.version_info >= (3, 12):
+    Bytes = collections.abc.Buffer
+else:
+    class _Buffer(Protocol):
+        def __buffer__(self, flags: int, /) -> memoryview: ...
+
+    # The first ones by name, for type checkers that don't know that they have `__buffer__`.
+    Bytes = Union[bytes, bytearray, memoryview, "array.array[Any]", mmap.mmap, _Buffer]
+# What has a buffer that can be written.
+Writable = Union[bytearray, memoryview, "array.array[Any]", mmap.mmap]
 # The words of the structs that hold a key, as the headers have them.
 Word = ctypes.c_uint64 if platform.machine() == "riscv64" else ctypes.c_uint32
 # A call's name, types of its arguments, type of its result.
-Call = Tuple[str, list, Optional[type]]
+Call = Tuple[str, List[Any], Optional[type]]
+
+
+def by_pip(file: str) -> Optional[str]:
+    """A library that pip put beside this file, or, if this is the clone's folder, into the package that pip installed."""
+    places = [pathlib.Path(__file__).parent, *(pathlib.Path(it, "fotsgure") for it in sys.path)]
+    return next((str(it / file) for it in places if (it / file).exists()), None)
 
 
 def load(name: str, version: int, calls: Iterable[Call]) -> ctypes.CDLL:
     """Loads the library of that name. An environment variable with the name in capitals names its file. Without it the
-    file is next to this one, where pip puts it, or else where the loader searches. `version` is 100 times the first
-    number plus the second: before 1.0, structs may grow with either."""
+    file is where pip puts it, or else where the loader searches. `version` is 100 times the first number plus the second:
+    before 1.0, structs may grow with either."""
     numbers = f"{version // 100}.{version % 100}"
     # On Windows a file is searched for, in PATH.
     wanted, file = (f"lib{name}-{numbers}.dll",) * 2 if os.name == "nt" else (name, f"lib{name}.so.{numbers}")
-    beside = pathlib.Path(__file__).with_name(file)
-    found = os.environ.get(name.upper()) or (str(beside) if beside.exists() else ctypes.util.find_library(wanted)) or file
+    found = os.environ.get(name.upper()) or by_pip(file) or ctypes.util.find_library(wanted) or file
     try:
         c = ctypes.CDLL(found)
     except OSError as error:
         raise ImportError(f"{error}: install the library by 'make -C dist install', or by 'pip install' of the clone's "
-                          f"callers/python, or name its file in the variable {name.upper()}") from None
+                          f"callers/python where make and a C compiler are, or name its file in the variable {name.upper()}") from None
     for call, arguments, result in [("version", [], ctypes.c_uint32), *calls]:
         try:
             function = getattr(c, f"{name}_{call}")
@@ -50,7 +67,7 @@ def load(name: str, version: int, calls: Iterable[Call]) -> ctypes.CDLL:
 _ITEMS = frozenset("cbB?hHiIlLqQnNefd")
 
 
-def view_of(data: Bytes) -> memoryview:
+def view_of(data: Any) -> memoryview:
     """A view of data whose buffer is C-contiguous, has one dimension or more, and holds numbers or single bytes. A view
     with gaps raises BufferError. Anything else raises TypeError: an integer, a number of numpy or ctypes, a list, text, an
     array of objects."""
@@ -65,12 +82,12 @@ def view_of(data: Bytes) -> memoryview:
     return view
 
 
-def bytes_of(data: Bytes) -> bytes:
-    """The bytes of whatever has bytes."""
-    return view_of(data).tobytes()
+def bytes_of(data: Any) -> bytes:
+    """The bytes of whatever has bytes: a copy, except of `bytes`, which nobody can change during a call."""
+    return data if type(data) is bytes else view_of(data).tobytes()
 
 
-def bytes_or_none(data: Optional[Bytes]) -> bytes:
+def bytes_or_none(data: Any) -> bytes:
     """The bytes of whatever has bytes, or no bytes for None."""
     return b"" if data is None else bytes_of(data)
 
@@ -83,14 +100,22 @@ def number(value: Any, most: int, what: str) -> int:
     return index
 
 
-def room(data: bytes) -> Any:
-    """A buffer with these bytes that a call may write, also for no bytes at all."""
-    return ctypes.create_string_buffer(data, len(data) + 1)
+def buffer_of(data: Any, more: int) -> bytearray:
+    """A buffer that a call may write: the bytes of whatever has bytes, and `more` zeros."""
+    given = bytes_of(data)
+    buffer = bytearray(len(given) + more)
+    memoryview(buffer)[:len(given)] = given
+    return buffer
 
 
-def written(buffer: Any, length: int) -> bytes:
-    """What a call wrote into such a buffer."""
-    return bytes(buffer.raw[:length])
+def address(buffer: bytearray, offset: int = 0) -> Any:
+    """Where a byte of a buffer is, for a call."""
+    return ctypes.byref(ctypes.c_char.from_buffer(buffer, offset))
+
+
+def first(buffer: bytearray, length: int) -> bytes:
+    """The first bytes of a buffer, which a call has written."""
+    return bytes(memoryview(buffer)[:length])
 
 
 class Secret:
