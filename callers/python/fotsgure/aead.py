@@ -11,7 +11,7 @@ import os
 from typing import Optional, Tuple, Union
 
 from .gcm import Gcm, GcmSiv, Refused
-from .library import Bytes, Secret, Writable, view_of
+from .library import Bytes, Secret, Writable, length_of, view_of
 
 __all__ = ["AESGCM", "AESGCMSIV", "InvalidTag"]
 
@@ -78,8 +78,8 @@ class _Aead(Secret):
 
     def _length(self, nonce: Bytes, data: Bytes, associated_data: Optional[Bytes]) -> int:
         """The length of the data, if all three are of a kind and a length that the calls accept."""
-        nonce_length, length = view_of(nonce).nbytes, view_of(data).nbytes
-        if max(length, 0 if associated_data is None else view_of(associated_data).nbytes) > 2 ** 31 - 1:
+        nonce_length, length = length_of(nonce), length_of(data)
+        if max(length, 0 if associated_data is None else length_of(associated_data)) > 2 ** 31 - 1:
             raise OverflowError("Data or associated data too long. Max 2**31 - 1 bytes")
         if nonce_length not in self._nonces:
             raise ValueError(self._wrong_nonce)

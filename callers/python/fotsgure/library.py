@@ -82,6 +82,11 @@ def view_of(data: Any) -> memoryview:
     return view
 
 
+def length_of(data: Any) -> int:
+    """How many bytes whatever has bytes has."""
+    return len(data) if type(data) is bytes else view_of(data).nbytes
+
+
 def bytes_of(data: Any) -> bytes:
     """The bytes of whatever has bytes: a copy, except of `bytes`, which nobody can change during a call."""
     return data if type(data) is bytes else view_of(data).tobytes()
@@ -156,13 +161,15 @@ class Uses:
 
     def __enter__(self) -> None:
         with self._change:
-            self._change.wait_for(lambda: not self._is_written)
+            while self._is_written:
+                self._change.wait()
             self._running.append(threading.get_ident())
 
     def __exit__(self, *_: Any) -> None:
         with self._change:
             self._running.remove(threading.get_ident())
-            self._change.notify_all()
+            if self._is_written:
+                self._change.notify_all()
 
     @contextlib.contextmanager
     def alone(self) -> Iterator[None]:
