@@ -40,20 +40,21 @@ def of_functions(text):
 def macro(folder, prefix, suffix):
     """The macro by which an assembly file exports, under a name with a suffix. In a Rust crate, which defines `in_rust`, the label itself
     is exported: a library in C beside it has other names. On x86-64, `chosen` is for static libraries of several builds: without it no name
-    has a suffix."""
-    label, is_windows = f"{prefix}.\\name", folder == "windows_x86_64"
-    name = f"\\name\\(){suffix}" if suffix else "\\name"
+    has a suffix. On Apple's systems each name begins with `_`."""
+    is_windows, start = folder == "windows_x86_64", "_" if folder.startswith("apple") else ""
+    label, plain_name = f"{start}{prefix}.\\name", f"{start}\\name"
+    name = f"{plain_name}\\(){suffix}" if suffix else plain_name
 
     def shown(name, *more):
         lines = [f".globl\t{name}", *more, *([f".set\t{name}, {label}"] if name != label else [])]
         return [*lines, f".def\t{name}; .scl\t2; .type\t32; .endef"] if is_windows else lines
 
     def hidden(name):
-        return shown(name, *([] if is_windows else [f".hidden\t{name}"]))
+        return shown(name, *([] if is_windows else [f".private_extern\t{name}" if start else f".hidden\t{name}"]))
 
     lines = shown(name)
     if suffix and not is_windows:
-        lines = [".ifdef\tchosen", *hidden(name), ".else", *shown("\\name"), ".endif"]
+        lines = [".ifdef\tchosen", *hidden(name), ".else", *shown(plain_name), ".endif"]
     lines = [f".macro\texport_{prefix} name", ".ifdef\tin_rust", *hidden(label), ".else", *lines, ".endif", ".endm"]
     return f"/* {CONDITIONS} */\n" + "".join(f"\t{it}\n" for it in lines)
 
