@@ -7,6 +7,8 @@
 #elif defined(__linux__)
 #include <errno.h>
 #include <sys/random.h>
+#elif defined(__APPLE__)
+#include <CommonCrypto/CommonRandom.h>
 #else
 #include <unistd.h>
 #endif
@@ -22,6 +24,8 @@ static int draw(uint8_t nonce[FOTSGURE_GCM_SIV_NONCE])
         drawn = getrandom(nonce, FOTSGURE_GCM_SIV_NONCE, 0);
     while (drawn < 0 && errno == EINTR);
     return drawn == FOTSGURE_GCM_SIV_NONCE;
+#elif defined(__APPLE__) /* Its store has refused programs for iOS that call getentropy. */
+    return CCRandomGenerateBytes(nonce, FOTSGURE_GCM_SIV_NONCE) == kCCSuccess;
 #else
     return getentropy(nonce, FOTSGURE_GCM_SIV_NONCE) == 0;
 #endif

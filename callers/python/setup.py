@@ -5,6 +5,7 @@ import os
 import pathlib
 import shutil
 import subprocess
+import sys
 import tempfile
 
 from setuptools import setup
@@ -18,6 +19,8 @@ except ImportError:
 DIST = pathlib.Path(__file__).resolve().parents[2] / "dist"
 CC = os.environ.get("CC", "cc")
 HAS_LIBRARIES = (DIST / "Makefile").exists() and all(shutil.which(tool) for tool in ("make", CC.split()[0]))
+# For macOS the libraries are for both kinds of Macs.
+ON_MAC = sys.platform == "darwin"
 # All that is built goes elsewhere. So the folder stays unchanged, and nothing old is used.
 ROOM = tempfile.mkdtemp()
 atexit.register(shutil.rmtree, ROOM, ignore_errors=True)
@@ -29,8 +32,9 @@ class BuildWithLibraries(build_py):
         if HAS_LIBRARIES and not getattr(self, "editable_mode", False):
             # One library for all processors: it holds all builds, and chooses one by itself. `hwcaps=` leaves out the other one.
             out = pathlib.Path(ROOM, "out")
-            subprocess.run(["make", "-C", DIST, f"OUT={out}", f"CC={CC}", "hwcaps=", "PROGRAM=", "shared"], check=True)
-            for library in out.glob("lib*.so.*"):
+            words = ["make", "-C", DIST, f"OUT={out}", f"CC={CC}", "hwcaps=", "PROGRAM=", "shared", *(["UNIVERSAL=1"] if ON_MAC else [])]
+            subprocess.run(words, check=True, env={**os.environ, "MACOSX_DEPLOYMENT_TARGET": "11.0"})
+            for library in out.glob("lib*.[0-9]*.dylib" if ON_MAC else "lib*.so.*"):
                 shutil.copy(library, pathlib.Path(self.build_lib, "fotsgure"))
 
 
@@ -40,7 +44,7 @@ class WheelOfOneMachine(bdist_wheel):
         self.root_is_pure = not HAS_LIBRARIES
 
     def get_tag(self) -> "tuple[str, str, str]":
-        return ("py3", "none", super().get_tag()[2])
+        return ("py3", "none", "macosx_11_0_universal2" if ON_MAC and HAS_LIBRARIES else super().get_tag()[2])
 
 
 setup(cmdclass={"build_py": BuildWithLibraries, "bdist_wheel": WheelOfOneMachine},

@@ -18113,6 +18113,7 @@ l_gcm_v3_static.0:
 	.ascii	"\001\002\004\b\020 @\200\0336"
 
 	.section	__TEXT,__const
+	.p2align	4
 l_gcm_v3_static.1:
 	.ascii	"\000\001\034\035-,10'&;:\n\013\026\027"
 

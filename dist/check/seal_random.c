@@ -11,11 +11,14 @@
 #include <bcrypt.h>
 #elif defined(__linux__)
 #include <sys/random.h>
+#elif defined(__APPLE__)
+#include <CommonCrypto/CommonRandom.h>
 #else
 #include <unistd.h>
 #endif
 #define getrandom played
 #define BCryptGenRandom(of, bytes, count, flags) (played(bytes, count, 0) == (ssize_t)(count) ? 0 : -1)
+#define CCRandomGenerateBytes(bytes, count) (played(bytes, count, 0) == (ssize_t)(count) ? kCCSuccess : -1)
 #define getentropy(bytes, count) (played(bytes, count, 0) == (ssize_t)(count) ? 0 : -1)
 static ssize_t played(void *bytes, size_t count, unsigned flags);
 #include "../seal_random.c"

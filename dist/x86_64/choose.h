@@ -1,4 +1,4 @@
-/* Which of a library's three builds this processor runs. Each export is a function here that jumps to that of one build. */
+/* Which of a library's builds this processor runs. Each export is a function here that jumps to that of one build. */
 #include <cpuid.h>
 #include <stdatomic.h>
 
@@ -48,9 +48,15 @@ static inline int build(void)
     return found == NOT_ASKED ? ask() : found;
 }
 
-/* The names of builds that the library doesn't have stand for one that it has; `build` never chooses them. */
+/* The names of builds that the library doesn't have stand for one that it has; `build` never chooses them. On Apple's systems there is no
+ * first build: each processor that macOS 10.12 or later runs on has SSSE3 and SSE4.1, and clang uses them there unless told otherwise. */
+#ifdef __APPLE__
+#define OF_V1(name) name##_v2
+#else
+#define OF_V1(name) name##_v1
+#endif
 #if FOTSGURE_LAST_BUILD < 2
-#define OF_V2(name) name##_v1
+#define OF_V2(name) OF_V1(name)
 #else
 #define OF_V2(name) name##_v2
 #endif
@@ -67,5 +73,5 @@ static inline int build(void)
 #define EITHER_VOID(name, parameters, arguments) \
     BUILDS(name) \
     void (name) parameters { (CHOSEN(name)) arguments; }
-#define CHOSEN(name) build() == V3 ? OF_V3(name) : build() == V2 ? OF_V2(name) : name##_v1
+#define CHOSEN(name) build() == V3 ? OF_V3(name) : build() == V2 ? OF_V2(name) : OF_V1(name)
 #define BUILDS(name) extern __attribute__((visibility("hidden"))) __typeof__(name) name##_v1, name##_v2, name##_v3;

@@ -3,7 +3,7 @@
 What changes is how names and sections are written:
  - Names of functions and of libc begin with `_`. Labels of code begin with `L`, and those of constants with `l_`: the linker knows these,
    and can leave out a constant that nothing uses.
- - Code is in __TEXT,__text and constants are in __TEXT,__const. A function begins at the largest alignment that its section has on Linux.
+ - Code is in __TEXT,__text and constants are in __TEXT,__const. A function or constant is as much aligned as its section is on Linux.
  - On ARM an address is written NAME@PAGE and NAME@PAGEOFF, and that of a function of libc NAME@GOTPAGE and NAME@GOTPAGEOFF.
  - A hidden name is private_extern. What ELF says of a symbol's type and size, of stacks and of marks is left out.
  - With subsections_via_symbols the linker may leave out or move each function, as with sections of their own on Linux. So the assembler
@@ -22,7 +22,7 @@ FOLDERS = {"x86_64": "apple_x86_64", "aarch64": "apple_aarch64"}
 # There is no first build for x86-64: each processor that macOS 10.12 or later runs on has SSSE3 and SSE4.1.
 BUILDS = {"x86_64": ("", "_v3"), "aarch64": ("",)}
 PREFIX, WORDS = re.compile(r"^\t\.macro\texport_(\w+) name$", re.M), re.compile(r'^\t\.asciz\t"(fotsgure_.*)"$', re.M)
-SECTION = re.compile(r'^\t\.section\t\.(text|rodata)\.[\w.]+,"(?:ax|aM?)",@progbits(?:,\d+)?\n', re.M)
+SECTION = re.compile(r'^\t\.section\t\.(text|rodata)\.[\w.]+,"(?:ax|aM?)",@progbits(?:,(\d+))?\n', re.M)
 SECTIONS = {"text": "\t.section\t__TEXT,__text,regular,pure_instructions\n", "rodata": "\t.section\t__TEXT,__const\n"}
 LEFT_OUT = re.compile(r"""^(?:\.L\w+_func_end\d+:|\t\.(?:file\t"rattle"|(?:type|size|ident)\t.*|section\t"\.note\.GNU-stack".*))\n""", re.M)
 ALIGNMENT = re.compile(r"(?<=^\t\.p2align\t)\d", re.M)
@@ -47,9 +47,11 @@ OF_ELF = re.compile(rf"""^.*(?:^\t\.(?!(?:ascii|byte|short|hword|long|word|quad|
 def sections(body):
     """The code and the constants, with Mach-O's directives."""
     parts = SECTION.split(LEFT_OUT.sub("", body))
-    for kind, lines in zip(parts[1::2], parts[2::2]):
+    for kind, size, lines in zip(parts[1::3], parts[2::3], parts[3::3]):
         if kind == "text":
             lines = ALIGNMENT.sub(max(ALIGNMENT.findall(lines)), lines, count=1)
+        elif size and not lines.startswith("\t.p2align"):
+            lines = f"\t.p2align\t{int(size).bit_length() - 1}\n{lines}"
         yield SECTIONS[kind] + lines
 
 

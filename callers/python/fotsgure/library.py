@@ -44,6 +44,8 @@ def load(name: str, version: int, calls: Iterable[Call]) -> ctypes.CDLL:
     numbers = f"{version // 100}.{version % 100}"
     # On Windows a file is searched for, in PATH.
     wanted, file = (f"lib{name}-{numbers}.dll",) * 2 if os.name == "nt" else (name, f"lib{name}.so.{numbers}")
+    if sys.platform == "darwin":
+        file = f"lib{name}.{numbers}.dylib"
     found = os.environ.get(name.upper()) or by_pip(file) or ctypes.util.find_library(wanted) or file
     try:
         c = ctypes.CDLL(found)

@@ -9,8 +9,8 @@ fn main() {
     let target = env::var("TARGET").unwrap();
     let (folder, ending) = assembly(&target).unwrap_or_else(|| {
         panic!(
-            "no assembly is for {target}: there is some for x86_64 on Linux, Android, FreeBSD, NetBSD, OpenBSD and Windows; for \
-             aarch64, riscv64, armv7 (Linux), riscv32im.. and Cortex-M (thumb..), also without a system"
+            "no assembly is for {target}: there is some for x86_64 on Linux, Android, FreeBSD, NetBSD, OpenBSD, Windows, \
+             macOS and iOS; for aarch64, riscv64, armv7 (Linux), riscv32im.. and Cortex-M (thumb..), also without a system"
         )
     });
     let package = env::var("CARGO_MANIFEST_DIR").unwrap();
@@ -32,11 +32,14 @@ fn is(variable: &str, values: &[&str]) -> bool {
 fn assembly(target: &str) -> Option<(&'static str, &'static str)> {
     let (linux, bare) = (is("TARGET_OS", &["linux", "android"]), is("TARGET_OS", &["none"]));
     let (bits_64, unix) = (is("TARGET_POINTER_WIDTH", &["64"]), linux || is("TARGET_OS", &["freebsd", "netbsd"]));
+    let apple = is("TARGET_VENDOR", &["apple"]);
     if !is("TARGET_ENDIAN", &["little"]) {
         return None;
     }
     match target.split('-').next()? {
         "x86_64" if bits_64 && is("TARGET_OS", &["windows"]) => Some(("windows_x86_64", "")),
+        "x86_64" if bits_64 && apple => Some(("apple_x86_64", "")),
+        "aarch64" if bits_64 && apple => Some(("apple_aarch64", "")),
         "x86_64" if bits_64 && (unix || is("TARGET_OS", &["openbsd"])) => Some(("x86_64", "")),
         "aarch64" if bits_64 && (unix || bare) => Some(("aarch64", "")),
         it if it.starts_with("riscv64") && (unix || bare) => {

@@ -33,10 +33,11 @@ macro_rules! assembled {
 
 #[cfg(target_arch = "x86_64")]
 mod of_target {
+    #[cfg(not(target_vendor = "apple"))]
     assembled!("aes_v1"; att_syntax, raw);
     assembled!("aes"; att_syntax, raw);
     assembled!("aes_v3"; att_syntax, raw);
-    #[cfg(feature = "gcm")]
+    #[cfg(all(feature = "gcm", not(target_vendor = "apple")))]
     assembled!("gcm_v1"; att_syntax, raw);
     #[cfg(feature = "gcm")]
     assembled!("gcm"; att_syntax, raw);
@@ -68,7 +69,10 @@ macro_rules! build {
 /// can run. They are never inlined: another shared library, as one of Rust's dylibs, can't name the hidden symbols.
 macro_rules! library {
     ($library:literal: $(fn $name:ident($($it:ident: $type:ty),*) $(-> $result:ty)?;)*) => {
-        #[cfg(target_arch = "x86_64")]
+        // No Mac needs the first build: choose.h says why.
+        #[cfg(all(target_arch = "x86_64", target_vendor = "apple"))]
+        use v2 as v1;
+        #[cfg(all(target_arch = "x86_64", not(target_vendor = "apple")))]
         mod v1 {
             build! { concat!($library, "_v1"); $(fn $name($($it: $type),*) $(-> $result)?;)* }
         }

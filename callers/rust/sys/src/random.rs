@@ -18,8 +18,18 @@ fn draw(nonce: &mut [u8; 12]) -> bool {
     unsafe { BCryptGenRandom(core::ptr::null_mut(), to, nonce.len() as u32, USE_SYSTEM_PREFERRED_RNG) == 0 }
 }
 
+/// The same, by the call that `seal_random.c` uses there.
+#[cfg(target_vendor = "apple")]
+fn draw(nonce: &mut [u8; 12]) -> bool {
+    extern "C" {
+        fn CCRandomGenerateBytes(to: *mut u8, count: usize) -> i32;
+    }
+    // SAFETY: the system writes that many bytes there.
+    unsafe { CCRandomGenerateBytes(nonce.as_mut_ptr(), nonce.len()) == 0 }
+}
+
 /// The same. (The call waits while a system that starts has no randomness yet.)
-#[cfg(unix)]
+#[cfg(all(unix, not(target_vendor = "apple")))]
 fn draw(nonce: &mut [u8; 12]) -> bool {
     extern "C" {
         fn getentropy(to: *mut u8, count: usize) -> i32;
