@@ -25,6 +25,16 @@ says() { # STATUS WORDS COMMAND ..
     [[ $status -eq $1 && ! -s $work/answer ]] && grep -e "$2" "$work/errors" && return
     echo "${*:3} ends with $status:" && cat "$work/errors" && return 1
 }
+# Sets `source_folder` to the source of another library: a folder, or else Debian's package, where apt-get's sources (deb-src) are enabled.
+get_source() { # PACKAGE [FOLDER]
+    source_folder=${2:-}
+    [[ -z $source_folder ]] || return 0
+    if mkdir "$work/source" && (cd "$work/source" && apt-get -qq source "$1") > "$work/log" 2>&1; then
+        source_folder=$(echo "$work/source/$1"-*/)
+    else
+        echo "skipped: $1 over the library (apt-get source $1 doesn't get its source)" && return 1
+    fi
+}
 into_a_full_device() { "$@" > /dev/full; } # COMMAND ..
 # Each failure of a program that seals a message has words of its own.
 message_fails() { # COMMAND ..
