@@ -2,3 +2,4 @@
 pub mod Blocks
 pub mod KeySizes
 pub mod Lends
+pub mod Lengths

@@ -7,6 +7,8 @@ ghost use Rattle.std.specs.Prelude.{◌≡◌, ◌↔◌, ◌⊎◌, ℕ, List, 
 ghost use Rattle.aes_planes.specs.BigEndian.{bytes};
 ghost use Rattle.aes_planes.specs.Fips197 as fips;
 ghost use Rattle.aes_cipher.specs.Blocks.{blocks_of, EachOrUnchanged};
+ghost use Rattle.aes_cipher.specs.KeySizes.{IsKeySize};
+ghost use Rattle.aes_cipher.specs.Lengths.{IsOneOf};
 
 use crate::cipher::{Block, Decrypt, Direction, Encrypt};
 use crate::zeroize::{Element, Zeroize};
@@ -20,6 +22,11 @@ pub fn block_examples()
         ≡ bytes 16 0x000102030405060708090a0b0c0d0e0f
         ∷ bytes 16 0x101112131415161718191a1b1c1d1e1f ∷ [] }
     ensures none { blocks_of (bytes 15 0x000102030405060708090a0b0c0d0e) ≡ [] }
+{}
+
+/// The sizes of keys.
+pub fn key_size_rule()
+    ensures { (size : ℕ) → IsKeySize size ↔ IsOneOf (16 ∷ 24 ∷ 32 ∷ []) size }
 {}
 
 /// `EachOrUnchanged` for one block: after it stands f of the block or the block itself, and nothing

@@ -4,10 +4,9 @@
 //! `bytes n 0x..` is the n bytes that these digits write. A separate model in Python computed what
 //! is stored, from the standard and the basis that `tables.rt` describes.
 
-ghost use Rattle.std.specs.Prelude.{◌≡◌, ◌∷◌, [], length, map, replicate, slice_set};
+ghost use Rattle.std.specs.Prelude.{◌≡◌, ◌↔◌, ◌∷◌, [], ℕ, List, drop, map, replicate, take};
 ghost use Rattle.aes_planes.specs.BigEndian.{bytes};
 ghost use Rattle.aes_planes.specs.Fips197 as fips;
-ghost use Rattle.aes_cipher.specs.KeySizes.{IsKeySize};
 ghost use Rattle.aes_permute.specs.Keys.{encrypting, decrypting, key_in_room, lane_key_size};
 ghost use Rattle.aes_permute.specs.Keys.{stored_keys, AreInverse, AreZeroAfter, IsCipherSchedule};
 ghost use Rattle.aes_permute.specs.Lookup.{looked};
@@ -105,19 +104,6 @@ pub fn size_examples()
     ensures twelve { ¬ IsCipherSchedule (replicate 12 []) }
 {}
 
-/// The sizes of keys, those on either side of them, and none; and 11, 13 or 15 round keys.
-pub fn key_size_examples()
-    ensures of_16 { IsKeySize 16 }
-    ensures of_24 { IsKeySize 24 }
-    ensures of_32 { IsKeySize 32 }
-    ensures none { ¬ IsKeySize 0 }
-    ensures shorter { ¬ IsKeySize 15 }
-    ensures between { ¬ IsKeySize 23 }
-    ensures longer { ¬ IsKeySize 33 }
-    ensures round_keys { map (λ n. length (stored_keys n (replicate 15 []))) (16 ∷ 24 ∷ 32 ∷ [])
-        ≡ 11 ∷ 13 ∷ 15 ∷ [] }
-{}
-
 /// The keys of A.1, A.2 and A.3, from the first two of their stored round keys.
 #[tactic(auto, unfolding(crate::proofs::OnLiterals::room_on_literals))]
 pub fn room_examples()
@@ -132,13 +118,14 @@ pub fn room_examples()
         ≡ bytes 32 0x603deb1015ca71be2b73aef0857d77811f352c073b6108d72d9810a30914dff4 }
 {}
 
-/// A bit that is left in a block after the round keys is found, in the first of these blocks and in
-/// the last. Keys of 32 bytes leave no block over.
-pub fn left_behind_examples()
-    ensures first_after_16 { ¬ AreZeroAfter 16 (slice_set (replicate 15 (replicate 16 0)) 11 (replicate 16 1)) }
-    ensures last_after_16 { ¬ AreZeroAfter 16 (slice_set (replicate 15 (replicate 16 0)) 14 (replicate 16 1)) }
-    ensures first_after_24 { ¬ AreZeroAfter 24 (slice_set (replicate 15 (replicate 16 0)) 13 (replicate 16 1)) }
-    ensures last_after_24 { ¬ AreZeroAfter 24 (slice_set (replicate 15 (replicate 16 0)) 14 (replicate 16 1)) }
-    ensures none_after_24 { AreZeroAfter 24 (slice_set (replicate 15 (replicate 16 0)) 12 (replicate 16 1)) }
-    ensures none_after_32 { AreZeroAfter 32 (replicate 15 (replicate 16 1)) }
+/// Which of the blocks of room are the round keys of a key, and which after them are zero.
+pub fn room_rules()
+    ensures keys_of_16 { (room : List (List ℕ)) → stored_keys 16 room ≡ take 11 room }
+    ensures keys_of_24 { (room : List (List ℕ)) → stored_keys 24 room ≡ take 13 room }
+    ensures keys_of_32 { (room : List (List ℕ)) → stored_keys 32 room ≡ take 15 room }
+    ensures after_16 { (room : List (List ℕ)) → AreZeroAfter 16 room
+        ↔ (drop 11 room ≡ replicate 4 (replicate 16 0)) }
+    ensures after_24 { (room : List (List ℕ)) → AreZeroAfter 24 room
+        ↔ (drop 13 room ≡ replicate 2 (replicate 16 0)) }
+    ensures after_32 { (room : List (List ℕ)) → AreZeroAfter 32 room ↔ (drop 15 room ≡ []) }
 {}
