@@ -4,9 +4,10 @@
 //! `bytes n 0x..` is the n bytes that these digits write.
 
 ghost use Rattle.std.specs.Prelude.{◌≡◌, ◌<◌, ◌≤◌, ℕ, ◌+◌, ◌-◌, ◌*◌, ◌/◌, ◌%◌, List, [], ◌∷◌, ◌++◌};
-ghost use Rattle.std.specs.Prelude.{length, slice_index, take};
+ghost use Rattle.std.specs.Prelude.{◌↔◌, ◌^◌, length, slice_index, take};
 ghost use Rattle.aes_planes.specs.BigEndian.{bytes};
 ghost use Rattle.aes_planes.specs.Fips197 as fips;
+ghost use Rattle.aes_cipher.specs.Lengths.{IsOneOf};
 ghost use Rattle.aes_ctr.specs.CounterMode.{plus_stream};
 ghost use Rattle.ccm.specs.Ccm.{chain_end, counter_block, encoded_length, first_block, tag, text};
 ghost use Rattle.ccm.specs.Ccm.{Fits, IsNonceLength, IsTagLength};
@@ -99,18 +100,11 @@ pub fn message_rules()
         (fips.cipher_with w (counter_block nonce 0))) }
 {}
 
-/// The lengths of nonces and tags, and those on either side of them. Then the most bytes that a
-/// text may have under the longest nonce.
-pub fn length_examples()
-    ensures shortest_nonce { IsNonceLength 7 }
-    ensures longest_nonce { IsNonceLength 13 }
-    ensures nonce_too_short { ¬ IsNonceLength 6 }
-    ensures nonce_too_long { ¬ IsNonceLength 14 }
-    ensures shortest_tag { IsTagLength 4 }
-    ensures longest_tag { IsTagLength 16 }
-    ensures tag_too_short { ¬ IsTagLength 2 }
-    ensures tag_too_long { ¬ IsTagLength 18 }
-    ensures odd_tag { ¬ IsTagLength 5 }
-    ensures longest { Fits 13 65535 }
-    ensures too_long { ¬ Fits 13 65536 }
+/// The lengths of nonces and of tags. If a nonce has 15 - q bytes, the length of a text has to fit
+/// into q bytes (A.1).
+pub fn length_rules()
+    ensures nonce { (n : ℕ) → IsNonceLength n
+        ↔ IsOneOf (7 ∷ 8 ∷ 9 ∷ 10 ∷ 11 ∷ 12 ∷ 13 ∷ []) n }
+    ensures tag { (t : ℕ) → IsTagLength t ↔ IsOneOf (4 ∷ 6 ∷ 8 ∷ 10 ∷ 12 ∷ 14 ∷ 16 ∷ []) t }
+    ensures text { (n q p : ℕ) → n + q ≡ 15 → Fits n p ↔ (p < 2 ^ (8 * q)) }
 {}

@@ -7,12 +7,18 @@ use Rattle.aes_planes.specs.Fips197.{build, cipher_with, add_round_key}
 use Rattle.aes_planes.proofs.OnLiterals.{aes_on_literals}
 use Rattle.aes_cipher.specs.Blocks.{padded}
 use Rattle.cmac.specs.Chain.{block_at, chained, chained_through}
-use Rattle.cmac.specs.Cmac.{doubled_block, subkey_1, subkey_2, before_last, last_block, cmac}
+use Rattle.cmac.specs.Cmac.{first_bit, shifted, doubled, doubled_block, subkey_1, subkey_2}
+use Rattle.cmac.specs.Cmac.{before_last, last_block, cmac}
 
 -- the definitions to unfold, so that CMAC on literals is computed
 unfoldable pub cmac_on_literals : ⊤
 unfolding aes_on_literals build doubled_block
 cmac_on_literals = tt
+
+-- the definitions that the rules of subkeys state
+unfoldable pub subkey_rules : ⊤
+unfolding first_bit shifted doubled doubled_block subkey_1 subkey_2
+subkey_rules = tt
 
 -- the definitions that the rules of examples state
 unfoldable pub cmac_rules : ⊤

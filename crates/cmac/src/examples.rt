@@ -4,14 +4,16 @@
 //! `bytes n 0x..` is the n bytes that these digits write.
 
 ghost use Rattle.std.specs.Prelude.{◌≡◌, ◌<◌, ◌≤◌, ℕ, ◌+◌, ◌*◌, ◌/◌, ◌%◌, List, [], ◌∷◌, ◌++◌};
-ghost use Rattle.std.specs.Prelude.{length, replicate};
+ghost use Rattle.std.specs.Prelude.{◌^◌, length, replicate};
 ghost use Rattle.std.specs.List.{slice_range};
+ghost use Rattle.std.specs.Int.{w128, from_be_bytes, to_be_bytes};
+ghost use Rattle.std.specs.Int.Bits.{bit_xor};
 ghost use Rattle.aes_planes.specs.BigEndian.{bytes};
 ghost use Rattle.aes_planes.specs.Fips197 as fips;
 ghost use Rattle.aes_cipher.specs.Blocks.{padded};
 ghost use Rattle.cmac.specs.Chain.{chained, chained_through};
-ghost use Rattle.cmac.specs.Cmac.{doubled_block, subkey_1, subkey_2, before_last, last_block};
-ghost use Rattle.cmac.specs.Cmac.{cmac};
+ghost use Rattle.cmac.specs.Cmac.{doubled, doubled_block, subkey_1, subkey_2, before_last};
+ghost use Rattle.cmac.specs.Cmac.{cmac, last_block};
 
 // The blocks that the examples encrypt. First the block of zeros. Then those of the messages with
 // 40 and with 64 bytes, in their order. Then the last blocks of all four messages.
@@ -60,6 +62,20 @@ pub fn doubled_examples()
         ≡ bytes 16 0xf7ddac306ae266ccf90bc11ee46d513b }
     ensures first_bit_alone { doubled_block (bytes 16 0x80000000000000000000000000000000)
         ≡ bytes 16 0x87 }
+{}
+
+/// Every block is doubled, without its first bit and with it, and the subkeys of every key are
+/// doubled blocks (6.1).
+#[tactic(auto, unfolding(crate::proofs::OnLiterals::subkey_rules))]
+pub fn subkey_rules()
+    ensures without { (x : ℕ) → x < 2 ^ 127 → doubled x ≡ 2 * x }
+    ensures with_first_bit { (x : ℕ) → x < 2 ^ 127
+        → doubled (2 ^ 127 + x) ≡ bit_xor (2 * x) 0x87 }
+    ensures block { (block : List ℕ)
+        → doubled_block block ≡ to_be_bytes w128 (doubled (from_be_bytes w128 block)) }
+    ensures first { (w : List (List ℕ))
+        → subkey_1 w ≡ doubled_block (fips.cipher_with w (replicate 16 0)) }
+    ensures second { (w : List (List ℕ)) → subkey_2 w ≡ doubled_block (subkey_1 w) }
 {}
 
 /// Each block but the last is chained as the first one is, at any place. The last block of a
