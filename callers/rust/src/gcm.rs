@@ -6,18 +6,21 @@
 
 mod message;
 mod siv;
+#[cfg(feature = "alloc")]
+mod vec;
 
 pub use message::{Message, NotAccepted};
 pub use siv::GcmSiv;
 
-use crate::{boxed, Aes, InvalidLength};
+use crate::{boxed, copied, Aes, InvalidLength};
 use fotsgure_sys::gcm as c;
 use std::fmt;
 
 /// Why a message wasn't sealed. Nothing was changed.
 #[derive(Debug, Clone, Copy, PartialEq, Eq)]
+#[non_exhaustive]
 pub enum NotSealed {
-    /// The nonce is empty.
+    /// The nonce is empty, or in AES-GCM-SIV doesn't have 12 bytes.
     NonceLength,
     /// The text has more than 2^36 - 32 bytes; in AES-GCM-SIV, text or additional data have more than 2^36.
     TooLong,
@@ -30,7 +33,7 @@ pub enum NotSealed {
 impl fmt::Display for NotSealed {
     fn fmt(&self, f: &mut fmt::Formatter<'_>) -> fmt::Result {
         f.write_str(match self {
-            NotSealed::NonceLength => "the nonce is empty",
+            NotSealed::NonceLength => "the nonce is empty, or in AES-GCM-SIV doesn't have 12 bytes",
             NotSealed::TooLong => "the text is longer than the standard allows",
             NotSealed::NoncesEnd => "no nonce is left",
             NotSealed::NoRandomness => "the system gave no randomness for a nonce",
@@ -128,6 +131,7 @@ impl Gcm {
     }
 
     /// Prepares the key that a block cipher has, which costs no key expansion.
+    #[must_use]
     pub fn of(aes: &Aes) -> Gcm {
         // SAFETY: the call writes the whole struct and reads none of it; the other one has a key.
         let (status, gcm) = unsafe { boxed(|gcm| c::fotsgure_gcm_set_key_of(gcm, aes.as_c())) };
@@ -280,6 +284,20 @@ impl Gcm {
                 tag.len(),
             )
         })
+    }
+}
+
+impl From<&Aes> for Gcm {
+    /// The same as [`Gcm::of`].
+    fn from(aes: &Aes) -> Gcm {
+        Gcm::of(aes)
+    }
+}
+
+impl Clone for Gcm {
+    /// Copies the prepared key from heap to heap. Each copy is zeroized when it is dropped.
+    fn clone(&self) -> Gcm {
+        Gcm(copied(&*self.0))
     }
 }
 

@@ -29,8 +29,6 @@
 //!
 //! Keys are on the heap, so that a move leaves no copy, and are wiped when a value is dropped.
 
-#![warn(missing_docs, missing_debug_implementations)]
-
 mod chain;
 #[cfg(feature = "gcm")]
 pub mod gcm;
@@ -44,6 +42,7 @@ use std::fmt;
 use std::mem::MaybeUninit;
 
 /// Returns the version of the assembly: 10000 times the first number, 100 times the second, plus the third.
+#[must_use]
 pub fn version() -> u32 {
     // SAFETY: the call has no arguments.
     unsafe { c::fotsgure_aes_version() }
@@ -79,15 +78,22 @@ impl fmt::Display for KeystreamEnd {
 
 impl std::error::Error for KeystreamEnd {}
 
-/// A struct of C on the heap that a call writes, and the status of the call.
+/// A struct of C on the heap that a call writes, and what the call returns.
 ///
 /// # Safety
 ///
-/// The call writes the whole struct, whatever its status, and reads nothing of it before that.
-pub(crate) unsafe fn boxed<T>(set: impl FnOnce(*mut T) -> u32) -> (u32, Box<T>) {
-    let mut room = Box::new(MaybeUninit::<T>::uninit());
-    let status = set(room.as_mut_ptr());
-    (status, Box::from_raw(Box::into_raw(room).cast::<T>()))
+/// The call writes the whole struct, whatever it returns, and reads nothing of it before that.
+pub(crate) unsafe fn boxed<T, R>(set: impl FnOnce(*mut T) -> R) -> (R, Box<T>) {
+    let mut place = Box::new(MaybeUninit::<T>::uninit());
+    let returned = set(place.as_mut_ptr());
+    // SAFETY: the call wrote the whole struct.
+    (returned, unsafe { Box::from_raw(Box::into_raw(place).cast::<T>()) })
+}
+
+/// A copy of a struct of C, from heap to heap, so that none is on the stack.
+pub(crate) fn copied<T: Clone>(from: &T) -> Box<T> {
+    // SAFETY: the closure writes the whole struct, from another one.
+    unsafe { boxed(|to: *mut T| to.copy_from_nonoverlapping(from, 1)) }.1
 }
 
 /// An AES key of 16, 24 or 32 bytes. Its key schedule is on the heap, so that a move leaves no copy of it, and is
@@ -144,11 +150,13 @@ impl Aes {
     /// Counter mode from an initial counter block on, at position 0 (SP 800-38A, 6.5).
     ///
     /// **Never begin with the same counter block twice under one key.**
+    #[must_use]
     pub fn keystream(&self, iv: [u8; 16]) -> Keystream<'_> {
         Keystream { aes: self, ctr: c::fotsgure_aes_ctr { iv, position: 0 } }
     }
 
     /// Cipher block chaining from an initialization vector on (SP 800-38A, 6.2).
+    #[must_use]
     pub fn cbc(&self, iv: [u8; 16]) -> Cbc<'_> {
         Cbc::new(self, iv)
     }
@@ -157,14 +165,7 @@ impl Aes {
 impl Clone for Aes {
     /// Copies the key schedule from heap to heap. Each copy is zeroized when it is dropped.
     fn clone(&self) -> Aes {
-        // SAFETY: the closure writes the whole struct, from another one.
-        let (_, copy) = unsafe {
-            boxed(|copy: *mut c::fotsgure_aes| {
-                copy.copy_from_nonoverlapping(self.as_c(), 1);
-                c::FOTSGURE_AES_DONE
-            })
-        };
-        Aes(copy)
+        Aes(copied(&*self.0))
     }
 }
 
@@ -235,6 +236,7 @@ impl Keystream<'_> {
     }
 
     /// How many bytes of the keystream come before the next.
+    #[must_use]
     pub fn position(&self) -> u64 {
         self.ctr.position
     }

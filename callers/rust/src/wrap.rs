@@ -7,6 +7,7 @@ const SEMIBLOCK: usize = 8;
 
 /// Why a key wasn't wrapped or unwrapped.
 #[derive(Debug, Clone, Copy, PartialEq, Eq)]
+#[non_exhaustive]
 pub enum NotWrapped {
     /// No key of this length is wrapped, or the output has another length than the call says. Nothing was changed.
     Length,
@@ -39,10 +40,10 @@ impl std::error::Error for NotWrapped {}
 /// assert_eq!(u128::from_be_bytes(wrapped[8..].try_into()?), 0xaef34bd8fb5a7b829d3e862371d2cfe5);
 ///
 /// let mut unwrapped = [0; 16];
-/// wrapping.unwrap(&wrapped, &mut unwrapped)?;
+/// wrapping.unwrap_key(&wrapped, &mut unwrapped)?;
 /// assert_eq!(unwrapped, key);
 /// wrapped[0] ^= 1;
-/// assert_eq!(wrapping.unwrap(&wrapped, &mut unwrapped), Err(NotWrapped::Refused));
+/// assert_eq!(wrapping.unwrap_key(&wrapped, &mut unwrapped), Err(NotWrapped::Refused));
 /// # Ok::<(), Box<dyn std::error::Error>>(())
 /// ```
 #[derive(Debug, Clone)]
@@ -77,7 +78,7 @@ impl KeyWrap {
     /// # Errors
     ///
     /// [`NotWrapped::Length`], [`NotWrapped::Refused`].
-    pub fn unwrap(&self, wrapped_key: &[u8], output: &mut [u8]) -> Result<(), NotWrapped> {
+    pub fn unwrap_key(&self, wrapped_key: &[u8], output: &mut [u8]) -> Result<(), NotWrapped> {
         let input_count = semiblocks(wrapped_key)?;
         let output_count = semiblocks(output)?;
         // SAFETY: as in `wrap`.

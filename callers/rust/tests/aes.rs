@@ -148,10 +148,10 @@ fn key_wrap() {
         wrapped[..],
         bytes_of("28c9f404c4b810f4cbccb35cfb87f8263f5786e2d80ed326cbc7f0e71a99f43bfb988b9b7a02dd21")
     );
-    wrapping.unwrap(&wrapped, &mut unwrapped).unwrap();
+    wrapping.unwrap_key(&wrapped, &mut unwrapped).unwrap();
     assert_eq!(unwrapped[..], key[..]);
     wrapped[39] ^= 1;
-    assert_eq!(wrapping.unwrap(&wrapped, &mut unwrapped), Err(NotWrapped::Refused));
+    assert_eq!(wrapping.unwrap_key(&wrapped, &mut unwrapped), Err(NotWrapped::Refused));
     assert_eq!(unwrapped, [0; 32]);
 }
 
@@ -185,7 +185,7 @@ fn keys_of_lengths_that_are_not_wrapped() {
     let lengths = [(8, 16), (15, 24), (16, 16), (16, 23), (16, 32), (0, 8)];
     for (key, other) in lengths {
         assert_eq!(wrapping.wrap(&[2; 40][..key], &mut output[..other]), Err(NotWrapped::Length));
-        assert_eq!(wrapping.unwrap(&[2; 40][..other], &mut output[..key]), Err(NotWrapped::Length));
+        assert_eq!(wrapping.unwrap_key(&[2; 40][..other], &mut output[..key]), Err(NotWrapped::Length));
     }
     for (key, other) in [(0, 8), (9, 16), (8, 24), (9, 25)] {
         assert_eq!(wrapping.wrap_padded(&[2; 40][..key], &mut output[..other]), Err(NotWrapped::Length));

@@ -43,7 +43,7 @@ fn case_4() {
 #[test]
 fn case_4_to_another_buffer() {
     let (nonce, additional, tag) = (bytes_of(NONCE), bytes_of(ADDITIONAL), bytes_of(TAG));
-    for gcm in [gcm(), Gcm::of(&Aes::new(&bytes_of(KEY)).unwrap())] {
+    for gcm in [gcm(), gcm().clone(), Gcm::from(&Aes::new(&bytes_of(KEY)).unwrap())] {
         let (mut sealed, mut opened) = (vec![1; PLAIN.len() / 2], vec![2; PLAIN.len() / 2]);
         assert_eq!(gcm.seal_to(&nonce, &additional, &bytes_of(PLAIN), &mut sealed).unwrap()[..], tag[..]);
         assert_eq!(sealed, bytes_of(CIPHER));
@@ -146,7 +146,13 @@ fn gcm_siv_c_1() {
     assert_eq!(opened, [0; 8]);
     assert_eq!(siv.open_to(&nonce, b"", &text, &tag, &mut opened), Ok(()));
     assert_eq!(siv.seal_to(&nonce, b"", &opened, &mut [0; 8]), Ok(tag));
-    assert_eq!(siv.open(&nonce, b"", &mut text, &tag), Ok(()));
+    for (nonce, tag) in [(&nonce[..11], &tag[..]), (&[3; 13], &tag), (&nonce, &tag[..15]), (&nonce, &[0; 17])] {
+        assert_eq!(siv.open(nonce, b"", &mut text, tag), Err(Refused));
+        assert_eq!(siv.open_to(nonce, b"", &text, tag, &mut [0; 8]), Err(Refused));
+    }
+    assert_eq!(siv.seal(&nonce[..11], b"", &mut text), Err(NotSealed::NonceLength));
+    assert_eq!(siv.seal_to(&nonce[..11], b"", &opened, &mut [0; 8]), Err(NotSealed::NonceLength));
+    assert_eq!(siv.clone().open(&nonce, b"", &mut text, &tag), Ok(()));
     assert_eq!(text, bytes_of("0100000000000000"));
     assert_eq!(opened[..], text);
 }
@@ -170,10 +176,35 @@ fn texts_under_random_nonces() {
     assert_ne!(nonces[0], nonces[1]);
 }
 
+/// Test case 4 of GCM, and the message of RFC 8452, with the tag after the text.
+#[cfg(feature = "alloc")]
+#[test]
+fn messages_as_vec() {
+    let (gcm, nonce, additional) = (gcm(), bytes_of(NONCE), bytes_of(ADDITIONAL));
+    let sealed = gcm.seal_vec(&nonce, &additional, &bytes_of(PLAIN)).unwrap();
+    assert_eq!(sealed, [bytes_of(CIPHER), bytes_of(TAG)].concat());
+    assert_eq!(gcm.open_vec(&nonce, &additional, &sealed), Ok(bytes_of(PLAIN)));
+    for length in 0..sealed.len() {
+        assert_eq!(gcm.open_vec(&nonce, &additional, &sealed[..length]), Err(Refused));
+    }
+    let (first, sealed) = gcm.seal_next_vec(&mut Counter { next: [0; 12] }, b"", b"").unwrap();
+    assert_eq!((first, sealed.len(), gcm.open_vec(&first, b"", &sealed)), ([0; 12], 16, Ok(vec![])));
+
+    let siv = GcmSiv::new(&bytes_of("01000000000000000000000000000000")).unwrap();
+    let nonce = [3, 0, 0, 0, 0, 0, 0, 0, 0, 0, 0, 0];
+    let sealed = siv.seal_vec(&nonce, b"", &bytes_of("0100000000000000")).unwrap();
+    assert_eq!(sealed, bytes_of("b5d839330ac7b786578782fff6013b815b287c22493a364c"));
+    assert_eq!(siv.open_vec(&nonce, b"", &sealed), Ok(bytes_of("0100000000000000")));
+    assert_eq!(siv.open_vec(&nonce, b"", &sealed[..15]), Err(Refused));
+    let (nonce, sealed) = siv.seal_random_vec(b"its name", b"a message").unwrap();
+    assert_eq!(siv.open_vec(&nonce, b"its name", &sealed).unwrap(), b"a message");
+}
+
 #[test]
 fn no_key_is_printed() {
-    assert_eq!(format!("{:?}", gcm()), "Gcm { .. }");
-    assert_eq!(format!("{:?}", GcmSiv::new(&[7; 16]).unwrap()), "GcmSiv { .. }");
+    let (gcm, siv) = (gcm(), GcmSiv::new(&[7; 16]).unwrap());
+    assert_eq!(format!("{gcm:?} {gcm:#?} {siv:?} {siv:#?}"), "Gcm { .. } Gcm { .. } GcmSiv { .. } GcmSiv { .. }");
+    assert_eq!(format!("{:?}", gcm.begin(&bytes_of(NONCE)).unwrap()), "Message { .. }");
 }
 
 #[test]

@@ -6,6 +6,7 @@ use std::fmt;
 
 /// Why a call for a piece was refused. The message stays as it was.
 #[derive(Debug, Clone, Copy, PartialEq, Eq)]
+#[non_exhaustive]
 pub enum NotAccepted {
     /// The call came at a time when it may not: additional data after text, text after the end, `decrypt` before
     /// `accept`.

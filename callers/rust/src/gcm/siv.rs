@@ -1,7 +1,7 @@
 //! AES-GCM-SIV.
 
 use super::{c, opened, same_length, sealed, NotSealed, Refused};
-use crate::{boxed, InvalidLength};
+use crate::{boxed, copied, InvalidLength};
 use fotsgure_sys::fotsgure_gcm_siv_seal_random;
 use std::fmt;
 
@@ -60,13 +60,14 @@ impl GcmSiv {
         Ok((nonce, tag))
     }
 
-    /// The same under a nonce of yours. One that is used twice only shows whether the two messages are the same.
+    /// The same under a nonce of yours, of 12 bytes. One that is used twice only shows whether the two messages are the
+    /// same.
     ///
     /// # Errors
     ///
-    /// [`NotSealed::TooLong`].
-    pub fn seal(&self, nonce: &[u8; 12], additional: &[u8], text: &mut [u8]) -> Result<[u8; 16], NotSealed> {
-        let mut tag = [0; 16];
+    /// [`NotSealed::NonceLength`], [`NotSealed::TooLong`].
+    pub fn seal(&self, nonce: &[u8], additional: &[u8], text: &mut [u8]) -> Result<[u8; 16], NotSealed> {
+        let (nonce, mut tag) = (nonce_of(nonce)?, [0; 16]);
         // SAFETY: as in `seal_random`.
         sealed(unsafe {
             c::fotsgure_gcm_siv_seal(
@@ -86,8 +87,9 @@ impl GcmSiv {
     ///
     /// # Errors
     ///
-    /// [`Refused`].
-    pub fn open(&self, nonce: &[u8; 12], additional: &[u8], text: &mut [u8], tag: &[u8; 16]) -> Result<(), Refused> {
+    /// [`Refused`], also if the nonce doesn't have 12 bytes, or the tag 16.
+    pub fn open(&self, nonce: &[u8], additional: &[u8], text: &mut [u8], tag: &[u8]) -> Result<(), Refused> {
+        let (nonce, tag) = (whole(nonce)?, whole(tag)?);
         // SAFETY: as in `seal_random`.
         opened(unsafe {
             c::fotsgure_gcm_siv_open(
@@ -106,20 +108,20 @@ impl GcmSiv {
     ///
     /// # Errors
     ///
-    /// [`NotSealed::TooLong`].
+    /// [`NotSealed::NonceLength`], [`NotSealed::TooLong`].
     ///
     /// # Panics
     ///
     /// Panics if the buffers differ in length.
     pub fn seal_to(
         &self,
-        nonce: &[u8; 12],
+        nonce: &[u8],
         additional: &[u8],
         text: &[u8],
         output: &mut [u8],
     ) -> Result<[u8; 16], NotSealed> {
-        let mut tag = [0; 16];
         let len = same_length(text, output);
+        let (nonce, mut tag) = (nonce_of(nonce)?, [0; 16]);
         // SAFETY: as in `seal_random`.
         sealed(unsafe {
             c::fotsgure_gcm_siv_seal_to(
@@ -137,7 +139,7 @@ impl GcmSiv {
         Ok(tag)
     }
 
-    /// `open` from one buffer to another of the same length. If the message is refused, the output is all zeros.
+    /// `open` from one buffer to another of the same length. If the tag is wrong, the output is all zeros.
     ///
     /// # Errors
     ///
@@ -148,13 +150,14 @@ impl GcmSiv {
     /// Panics if the buffers differ in length.
     pub fn open_to(
         &self,
-        nonce: &[u8; 12],
+        nonce: &[u8],
         additional: &[u8],
         text: &[u8],
-        tag: &[u8; 16],
+        tag: &[u8],
         output: &mut [u8],
     ) -> Result<(), Refused> {
         let len = same_length(text, output);
+        let (nonce, tag) = (whole(nonce)?, whole(tag)?);
         // SAFETY: as in `seal_random`.
         opened(unsafe {
             c::fotsgure_gcm_siv_open_to(
@@ -169,6 +172,23 @@ impl GcmSiv {
                 tag,
             )
         })
+    }
+}
+
+/// A nonce of yours, if it has 12 bytes.
+fn nonce_of(nonce: &[u8]) -> Result<&[u8; 12], NotSealed> {
+    nonce.try_into().map_err(|_| NotSealed::NonceLength)
+}
+
+/// A nonce or a tag of a message, if it has as many bytes as all have.
+fn whole<const N: usize>(bytes: &[u8]) -> Result<&[u8; N], Refused> {
+    bytes.try_into().map_err(|_| Refused)
+}
+
+impl Clone for GcmSiv {
+    /// Copies the prepared key from heap to heap. Each copy is zeroized when it is dropped.
+    fn clone(&self) -> GcmSiv {
+        GcmSiv(copied(&*self.0))
     }
 }
 
