@@ -29,6 +29,9 @@
 //!
 //! Keys are on the heap, so that a move leaves no copy, and are wiped when a value is dropped.
 
+// The other lints are in Cargo.toml. Cargo before 1.74 ignores those, and then rustc calls a needed `unsafe` unused.
+#![deny(unsafe_op_in_unsafe_fn)]
+
 mod chain;
 #[cfg(feature = "gcm")]
 pub mod gcm;
