@@ -32,7 +32,7 @@ get_source() { # PACKAGE [FOLDER]
     if mkdir "$work/source" && (cd "$work/source" && apt-get -qq source "$1") > "$work/log" 2>&1; then
         source_folder=$(echo "$work/source/$1"-*/)
     else
-        echo "skipped: $1 over the library (apt-get source $1 doesn't get its source)" && return 1
+        echo "skipped: $1 over the library (apt-get source $1 fails: enable deb-src, or name a folder)" && return 1
     fi
 }
 into_a_full_device() { "$@" > /dev/full; } # COMMAND ..
