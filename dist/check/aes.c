@@ -1,7 +1,8 @@
 /* The library from C. The last line is `PROGRAM: N passed, M failed`. It tries:
  * - FIPS 197, appendix C, in both directions; slices of 0 to 40 blocks against single calls; single rounds;
  * - SP 800-38A, F.5 and F.2, cut at every place;
- * - key wrap by RFC 3394 and RFC 5649; CMAC by SP 800-38B, D.1 to D.3; CCM by SP 800-38C, C.1 to C.3;
+ * - key wrap by RFC 3394 and RFC 5649; CMAC by SP 800-38B, D.1 to D.3; CCM by SP 800-38C, C.1 to C.3, and on texts of
+ *   5,001 and 65,537 bytes;
  * - what is in aes_statuses.h;
  * - with WITH_OPENSSL 1 MiB against OpenSSL. */
 #include "fotsgure_aes.h"
@@ -365,6 +366,32 @@ static void messages(size_t row)
         !memcmp(text, plain, length), "CCM, decrypted", length);
 }
 
+/* Texts longer than two bytes can count, and shorter ones. The cipher text and the tag have the sum that OpenSSL 4.0's have. */
+static void long_messages(void)
+{
+    static const struct { size_t length; const char *sum; } rows[] = {
+        {5001, "5ae327e7bd47d44a6891f99638ef30cd"},
+        {65537, "c1507211899c5c62437cd7c6b05f66c7"},
+    };
+    static uint8_t plain[65537], text[sizeof plain];
+    uint8_t nonce[12], tag[16];
+    struct fotsgure_aes aes;
+    int right = fotsgure_aes_set_key(&aes, counted, 16) == FOTSGURE_AES_DONE;
+    count_from(nonce, sizeof nonce, 0x10);
+    for (size_t row = 0; row < 2; row++) {
+        uint8_t sum[16] = {0}, wanted[16];
+        size_t length = rows[row].length;
+        from_hex(wanted, rows[row].sum);
+        fill(plain, length, (uint32_t)length);
+        memcpy(text, plain, length);
+        right &= fotsgure_aes_ccm_seal(&aes, nonce, 12, counted, 33, text, length, tag, 16) == FOTSGURE_AES_DONE;
+        add_to_sum(sum, text, length);
+        add_to_sum(sum, tag, 16);
+        right &= fotsgure_aes_ccm_open(&aes, nonce, 12, counted, 33, text, length, tag, 16) == FOTSGURE_AES_DONE;
+        expect(right && !memcmp(sum, wanted, 16) && !memcmp(text, plain, length), "CCM, a long text", length);
+    }
+}
+
 static void lengths_of_messages(void)
 {
     static uint8_t text[65536];
@@ -495,6 +522,7 @@ int main(void)
     for (size_t i = 0; i < sizeof padded_rows / sizeof *padded_rows; i++)
         padded_keys(i);
     paddings();
+    long_messages();
     lengths_of_messages();
     single_rounds();
     statuses();

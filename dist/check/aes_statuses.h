@@ -1,4 +1,4 @@
-/* Every status, NULL with a count of 0, and the wipe: a part of aes.c. */
+/* Every status, NULL with a count of 0, what a shorter key leaves, and the wipe: a part of aes.c. */
 
 static void other_key_lengths(void)
 {
@@ -21,6 +21,20 @@ static void other_key_lengths(void)
     }
     expect(refused, "keys of every other length are refused", 0);
     expect(kept, "and nothing is written", 0);
+}
+
+/* A struct that held a longer key and then a shorter one is as if it had held the shorter one alone. */
+static void shorter_key(void)
+{
+    for (size_t size = 16; size <= 24; size += 8) {
+        struct fotsgure_aes aes, alone;
+        memset(&aes, 0xa5, sizeof aes);
+        memset(&alone, 0xa5, sizeof alone);
+        expect(fotsgure_aes_set_key(&aes, counted, 32) == FOTSGURE_AES_DONE &&
+            fotsgure_aes_set_key(&aes, counted, size) == FOTSGURE_AES_DONE &&
+            fotsgure_aes_set_key(&alone, counted, size) == FOTSGURE_AES_DONE && !memcmp(&aes, &alone, sizeof aes),
+            "after a shorter key", size);
+    }
 }
 
 /* Every call with a struct that holds no key. */
@@ -111,6 +125,7 @@ static void statuses(void)
 {
     struct fotsgure_aes aes, before;
     other_key_lengths();
+    shorter_key();
     no_key();
     expect(fotsgure_aes_set_key(&aes, counted, 24) == FOTSGURE_AES_DONE, "a key is kept", 24);
     unequal_counts(&aes);

@@ -40,6 +40,13 @@ static inline size_t from_hex(uint8_t *bytes, const char *digits)
     return count;
 }
 
+/* Adds bytes to a sum of sixteen, in which every byte counts. */
+static inline void add_to_sum(uint8_t *sum, const uint8_t *bytes, size_t count)
+{
+    for (size_t i = 0; i < count; i++)
+        sum[i % 16] = (uint8_t)(sum[i % 16] * 3 + bytes[i]);
+}
+
 /* Prints the last line, and returns the program's status. */
 static inline int finish(void)
 {

@@ -3,7 +3,7 @@
  * - test cases 1 to 4, 13 and 16 of the submission of GCM (McGrew and Viega, appendix B), also from buffer to buffer;
  * - messages of NIST's, in gcmEncryptExtIV128.rsp, 192 and 256: the first of each with a text of 51 bytes, a tag of 16, and 12, 1 and
  *   128 bytes of a nonce, 48, 20 and 90 of additional data;
- * - nonces under which the counter wraps;
+ * - nonces under which the counter wraps, and nonces of every length from 1 to 128 bytes;
  * - texts of 0 to 700 bytes there and back, and with WITH_OPENSSL against OpenSSL;
  * - every status, that nothing is written after a refusal, and NULL with a length of 0;
  * - counted nonces, what a shorter key leaves, and the wipe. */
@@ -153,6 +153,29 @@ static void published(void)
         fotsgure_gcm_wipe(&gcm);
         expect(all(&gcm, sizeof gcm, 0) && fotsgure_gcm_key_length(&gcm) == 0, "wipe", i);
     }
+}
+
+/* A text under nonces of every length. The cipher texts and tags have the sum that those of OpenSSL 3.0 have. */
+static void nonces(void)
+{
+    uint8_t key[16], additional[20], plain[60], text[60], nonce[128], tag[16], sum[16] = {0}, wanted[16];
+    struct fotsgure_gcm gcm;
+    size_t extra = from_hex(additional, ADDITIONAL), length = from_hex(plain, PLAIN);
+    int right = fotsgure_gcm_set_key(&gcm, key, from_hex(key, KEY)) == FOTSGURE_GCM_DONE;
+    for (size_t i = 0; i < sizeof nonce; i++)
+        nonce[i] = (uint8_t)i;
+    for (size_t bytes = 1; bytes <= sizeof nonce; bytes++) {
+        memcpy(text, plain, length);
+        right &= fotsgure_gcm_seal(&gcm, nonce, bytes, additional, extra, text, length, tag) == FOTSGURE_GCM_DONE;
+        add_to_sum(sum, text, length);
+        add_to_sum(sum, tag, sizeof tag);
+        right &= fotsgure_gcm_open(&gcm, nonce, bytes, additional, extra, text, length, tag, 16) == FOTSGURE_GCM_DONE &&
+            memcmp(text, plain, length) == 0;
+        expect(right, "a nonce of that length", bytes);
+    }
+    from_hex(wanted, "23523b8327f80ef3cc37b694a822d759");
+    expect(memcmp(sum, wanted, 16) == 0, "nonces of every length, as OpenSSL", sizeof nonce);
+    fotsgure_gcm_wipe(&gcm);
 }
 
 #ifdef WITH_OPENSSL
@@ -349,6 +372,7 @@ static void words(void)
 int main(void)
 {
     published();
+    nonces();
     lengths();
     statuses();
     shorter_key();

@@ -1,6 +1,6 @@
 /* AES-GCM-SIV from C, a part of gcm.c: messages of RFC 8452, section 8 and appendices C.1 to C.3; texts of every length
- * from 0 to 700 bytes, whose encryptions and tags have the sum that OpenSSL 4.0's have; every status; that nothing is
- * written after a refusal; nonces that the system draws; the wipe. */
+ * from 0 to 700 bytes, of 5,001 and of 65,537, whose encryptions and tags have the sum that OpenSSL 4.0's have; every
+ * status; that nothing is written after a refusal; nonces that the system draws; the wipe. */
 static const struct { const char *key, *nonce, *additional, *plain, *cipher, *tag; } siv_cases[] = {
     {"ee8e1ed9ff2540ae8f2ba9f50bc2f27c", "752abad3e0afb5f434dc4310", "6578616d706c65", "48656c6c6f20776f726c64",
         "5d349ead175ef6b1def6fd", "4fbcdeb7e4793f4a1d7e4faa70100af1"},
@@ -57,36 +57,37 @@ static void siv_published(void)
     }
 }
 
-/* Texts of every length: sealed, refused with a bit changed and then as they were, and opened. */
+/* Texts of many lengths: sealed, refused with a bit changed and then as they were, and opened. */
 static void siv_lengths(void)
 {
-    static const char *const sums[2] = {"9ee2ad0eeb2c25a960c8481d269fa1c0", "00528daed43fcff42b0a907246a09310"};
-    static uint8_t whole[700], data[700], text[700], sealed[700];
-    for (size_t i = 0; i < sizeof whole; i++) {
+    enum { EACH = 700 };
+    static const char *const sums[2] = {"8df3b4d0e452500860f6d458a2ae85d1", "617ef69e2c024fd40e67c5662032a5c0"};
+    static const size_t longer[2] = {5001, 65537};
+    static uint8_t whole[65537], data[EACH], text[sizeof whole], sealed[sizeof whole];
+    for (size_t i = 0; i < sizeof whole; i++)
         whole[i] = (uint8_t)(i * 7 + i / 256);
+    for (size_t i = 0; i < sizeof data; i++)
         data[i] = (uint8_t)(i * 13);
-    }
     for (size_t key_length = 16; key_length <= 32; key_length += 16) {
         struct fotsgure_gcm_siv siv;
         uint8_t sum[16] = {0}, wanted[16], tag[16];
         int right = fotsgure_gcm_siv_set_key(&siv, whole, key_length) == FOTSGURE_GCM_DONE;
-        for (size_t length = 0; length <= sizeof whole; length++) {
+        for (size_t i = 0; i <= EACH + 2; i++) {
+            size_t length = i <= EACH ? i : longer[i - EACH - 1], used = i <= EACH ? EACH : length;
             const uint8_t nonce[12] = {7, (uint8_t)length, (uint8_t)(length >> 8)};
             size_t extra = length * 5 % sizeof data;
-            memcpy(text, whole, sizeof text);
+            memcpy(text, whole, used);
             right &= fotsgure_gcm_siv_seal(&siv, nonce, data, extra, text, length, tag) == FOTSGURE_GCM_DONE &&
-                memcmp(text + length, whole + length, sizeof text - length) == 0;
-            for (size_t i = 0; i < length + 16; i++) {
-                size_t at = i < length ? i % 16 : i - length;
-                sum[at] = (uint8_t)(sum[at] * 3 + (i < length ? text[i] : tag[i - length]));
-            }
-            memcpy(sealed, text, sizeof sealed);
+                memcmp(text + length, whole + length, used - length) == 0;
+            add_to_sum(sum, text, length);
+            add_to_sum(sum, tag, 16);
+            memcpy(sealed, text, used);
             tag[length % 16] ^= (uint8_t)(1 << length % 8);
             right &= fotsgure_gcm_siv_open(&siv, nonce, data, extra, text, length, tag) == FOTSGURE_GCM_REFUSED &&
-                memcmp(text, sealed, sizeof text) == 0;
+                memcmp(text, sealed, used) == 0;
             tag[length % 16] ^= (uint8_t)(1 << length % 8);
             right &= fotsgure_gcm_siv_open(&siv, nonce, data, extra, text, length, tag) == FOTSGURE_GCM_DONE &&
-                memcmp(text, whole, sizeof text) == 0;
+                memcmp(text, whole, used) == 0;
             expect(right, "siv: a text there and back", length);
         }
         from_hex(wanted, sums[key_length / 32]);
