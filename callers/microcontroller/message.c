@@ -1,5 +1,5 @@
 /* Encrypts a message by AES-GCM on a microcontroller, and writes what is sent as hexadecimal digits: the nonce, the text and the tag.
- * docs/MICROCONTROLLERS.md shows how to build it for a Cortex-M4, and how to run it under qemu. */
+ * docs/MICROCONTROLLERS.md shows how to build it for a Cortex-M4 and for 32-bit RISC-V, and how to run it under qemu. */
 #include <fotsgure_gcm.h>
 #include <stdio.h>
 #include <string.h>
@@ -12,8 +12,7 @@ static void put(const char *what, const uint8_t *bytes, size_t count)
     printf("\n");
 }
 
-/* On a board, `key` is read from where it was put when the board was made. `next` is read from flash, and stored there again before the
- * message is sent. */
+/* On a board, `key` is read from where it was put when the board was made. `next` is kept in flash (nonces.c). */
 static int sealed(const uint8_t key[16], struct fotsgure_gcm_counter *next, uint8_t *text, size_t length)
 {
     struct fotsgure_gcm gcm;

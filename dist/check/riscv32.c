@@ -21,7 +21,7 @@ static int put(char letter, FILE *file)
 static FILE output = FDEV_SETUP_STREAM(put, NULL, NULL, _FDEV_SETUP_WRITE);
 FILE *const stdout = &output;
 
-void _exit(int status)
+_Noreturn void _exit(int status)
 {
     for (;;)
         call(EXIT, status, 0, 0);
