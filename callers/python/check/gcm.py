@@ -214,10 +214,10 @@ for make, words in ((Gcm, "a key has 16, 24 or 32 bytes"), (GcmSiv, "a key of AE
 # Beside a text, a call needs twice its length at most: what it returns, and a buffer.
 LONG = bytes(1 << 20)
 siv, aead, aes = GcmSiv(KEY), AESGCM(KEY), Aes(KEY)
-sealed = gcm.seal(NONCE, LONG)
+sealed, siv_sealed = gcm.seal(NONCE, LONG), siv.seal(NONCE, LONG)
 for number, call in enumerate((
         lambda: siv.seal_random(LONG), lambda: gcm.seal(NONCE, LONG), lambda: gcm.open(NONCE, sealed),
-        lambda: siv.open(NONCE, siv.seal(NONCE, LONG[:1 << 19])), lambda: gcm.begin(NONCE).encrypt(LONG), lambda: gcm.begin(NONCE).verify(LONG),
+        lambda: siv.open(NONCE, siv_sealed), lambda: gcm.begin(NONCE).encrypt(LONG), lambda: gcm.begin(NONCE).verify(LONG),
         lambda: aead.encrypt_into(NONCE, LONG, None, place), lambda: aead.decrypt(NONCE, sealed, None),
         lambda: gcm.seal(NONCE, memoryview(LONG)), lambda: aes.encrypt(LONG))):
     place = bytearray(len(LONG) + 16)

@@ -49,6 +49,12 @@ fn other_lengths_of_keys() {
     }
 }
 
+#[test]
+fn no_key_is_printed() {
+    let (aes, dec) = (Aes256::new(&[7; 32].into()), Aes192Dec::new(&[7; 24].into()));
+    assert_eq!(format!("{aes:?} {aes:#?} {dec:?}"), "Aes256 { .. } Aes256 { .. } Aes192Dec { .. }");
+}
+
 /// Drops a value where it stands, and looks whether all its bytes are zero.
 fn is_wiped<T>(value: T) -> bool {
     let mut value = ManuallyDrop::new(value);
@@ -185,6 +191,13 @@ mod messages {
         let gcm = AesGcm::<Aes192, U12>::from(Aes192::new(&[1; 24].into()));
         assert_eq!(gcm.encrypt_inout_detached(&[2; 12].into(), b"name", other.as_mut_slice().into()), Ok(tag));
         assert_eq!(text, other);
+    }
+
+    #[test]
+    fn no_key_is_printed() {
+        let gcm = AesGcm::<Aes128, U12>::new(&[7; 16].into());
+        let siv = fotsgure_rustcrypto::aes_gcm_siv::Aes128GcmSiv::new(&[7; 16].into());
+        assert_eq!(format!("{gcm:?} {gcm:#?} {siv:?}"), "AesGcm { .. } AesGcm { .. } AesGcmSiv { .. }");
     }
 
     #[cfg(feature = "hazmat-tags")]
