@@ -170,8 +170,7 @@ class Uses:
     def __exit__(self, *_: Any) -> None:
         with self._change:
             self._running.remove(threading.get_ident())
-            if self._is_written:
-                self._change.notify_all()
+            self._change.notify_all()
 
     @contextlib.contextmanager
     def alone(self) -> Iterator[None]:
