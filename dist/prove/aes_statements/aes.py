@@ -189,7 +189,7 @@ class KeyedAes(SingleRounds, AnyCcm, KeyWrap, Keyed):
                 return b if b < 256 else e.opaque(name)
             # (Names that say something of other bytes mean others in the new domain.)
             is_kept = name in (UNDEFINED, LOST) or isinstance(name, tuple) and not isinstance(name[0], Verdict)
-            if d.bits_of[b] is None and is_kept:
+            if not d.symbolic(b) and is_kept:
                 return contents[name[0]][name[1]] if name[0] in contents else e.opaque(name)
             try:
                 return self.byte_for_any(b)

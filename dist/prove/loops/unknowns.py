@@ -8,10 +8,12 @@ from symbols.bits import LOST, Unproved
 WRAPPED = "wrapped"  # an unknown: the block in which the counter wrapped around, if that block is done
 
 
-def replacing(convert, stay, *lists):
+def replacing(convert, stay, only, *lists):
     """Gives a function that replaces the bytes of a list by those that `convert` gives. The list has to be one of these. Bytes in `stay`
-    aren't replaced. Gives a false value if nothing changes."""
-    other = {x: y for x in set().union(*lists) - stay if x > 255 and (y := convert(x)) != x}
+    aren't replaced, and if `only` isn't None no others than those in it. Gives a false value if nothing changes."""
+    bytes_ = set().union(*lists) - stay
+    bytes_ = bytes_ if only is None else bytes_ & only
+    other = {x: y for x in bytes_ if x > 255 and (y := convert(x)) != x}
     return other and (lambda b: b if other.keys().isdisjoint(b) else list(map(other.get, b, b)))
 
 
@@ -203,7 +205,9 @@ class Unknowns:
 
     def known_bytes(self, bytes_):
         """Gives bytes of the statement with what this machine knows of their unknowns."""
-        return [b if b is None else self.renumbered(b, self.known) for b in bytes_] if self.replaced else bytes_
+        stay = self.domain.without_numbers
+        new = lambda b: b if b is None or b in stay else self.renumbered(b, self.known)
+        return list(map(new, bytes_)) if self.replaced else bytes_
 
     def settle(self):
         """Simplifies the state at the head of a loop. (Bytes of a counter are kept as such only in whole words.)"""
@@ -351,7 +355,8 @@ class Unknowns:
         self.flags = {name: (SECRET if self.is_secret(flag) else None) if is_of_blocks(flag) else flag for name, flag in self.flags.items()}
         is_lost = lambda v: isinstance(v, Verdict) and of_blocks(v.differences)
         self.general = {r: (self.any_byte(),) * self.word if is_lost(v) else v for r, v in self.general.items()}
-        self.each_byte(lambda b: self.any_byte() if not d.blocks(b) and self.says_of_blocks(b) else b)
+        says = d.of_verdicts | self.secret.any_of.keys() | self.secret.equalities.keys()
+        self.each_byte(lambda b: self.any_byte() if not d.blocks(b) and self.says_of_blocks(b) else b, only=says)
         self.secret.forget(of_blocks)
 
     def says_of_blocks(self, byte):
@@ -360,12 +365,13 @@ class Unknowns:
         about = value.differences if isinstance(value, Verdict) else self.secret.about(byte)
         return bool(self.domain.blocks(byte)) or any(map(self.says_of_blocks, about))
 
-    def each_byte(self, convert, whole=False, stay=frozenset()):
+    def each_byte(self, convert, whole=False, stay=frozenset(), only=None):
         """Replaces the bytes of registers and memory by those that `convert` gives. With `whole` this includes the stack that wasn't
-        accessed. Constants stay as they are."""
+        accessed. Constants stay as they are (and see `replacing`)."""
         contents = [(r.content, 0 if whole else self.accessed_from(name)) for name, r in self.regions.items()]
         words = {r: v for r, v in self.general.items() if type(v) is tuple}
-        all_of = replacing(convert, stay, *[content[begin:] for content, begin in contents], *self.vectors, *words.values())
+        lists = *[content[begin:] for content, begin in contents], *self.vectors, *words.values()
+        all_of = replacing(convert, stay, only, *lists)
         if all_of:
             for content, begin in contents:
                 content[begin:] = all_of(content[begin:])

@@ -52,10 +52,7 @@ class Bytewise:
         """Computes `and`, `or` or `xor` of bytes; or `and` or `or` of a and the complement of b."""
         d = self.domain
         if name == "xor":
-            try:
-                return [d.byte_xors[pair] for pair in zip(a, b)]
-            except KeyError:
-                return list(map(d.xor_byte, a, b))
+            return d.xor_bytes(a, b)
         if name.endswith("not"):
             b = [d.xor_byte(y, 255) for y in b]
         return list(map(d.and_byte if name[0] == "a" else self.or_byte, a, b))
@@ -149,9 +146,7 @@ class Bytewise:
         if max(indices) < 256:
             numbers = [number_of_entry(x, significant) for x in indices]
             return [table[at] if at < len(table) else 0 for at in numbers]
-        if max(table) > 255:
-            return [self.entry(table, significant(self.domain.bits(x))) for x in indices]
-        memo = self.domain.entries.setdefault(table, {})
+        memo = (self.domain.entries if max(table) < 256 else self.domain.entries_now).setdefault(table, {})
         for x in indices:
             if x not in memo:
                 memo[x] = self.entry(table, significant(self.domain.bits(x)))

@@ -55,7 +55,7 @@ from machines.operands import (FARTHEST, RETURN_ADDRESS, SECRET, WORD, Distance,
                                concatenated, constant, is_in_code, is_int, is_pointer)
 from machines.secret_bytes import SecretBytes
 from machines.stack_use import StackUse
-from symbols.bits import PUBLIC, Pause, Undefined, Unproved
+from symbols.bits import Pause, Undefined, Unproved
 
 LIBC = "memcpy", "memmove", "memset"  # the functions of others that the code calls
 MOST_STEPS = 3000000  # A run with more is refused, since a loop may not end. On RISC-V with 32 bits, 2,048 bytes take 900,000.
@@ -121,6 +121,7 @@ class Machine(Arithmetic, Borders, Unknowns, Bytewise, Results, Access):
         # How many steps of a call were found, in which phase of it, and what the next one looks for (steps.py).
         self.steps_found, self.phase = 0, 0
         self.expected_step = None
+        self.searched = None, None, None  # the last result that was looked for in registers, and their values then
         self.origins = {}  # what a result depended on, by the (cell, block) that replaced it
         self.exclusive = None  # the last exclusive load (aarch64.py)
         self.last_written = (), 0  # a list of bytes, and where in it
@@ -206,9 +207,7 @@ class Machine(Arithmetic, Borders, Unknowns, Bytewise, Results, Access):
     def is_public(self, bytes_):
         """Whether bytes depend on public cells alone. (A byte without cells doesn't count as public: nobody wrote it, or only its name is
         known.)"""
-        d = self.domain
-        is_secret = lambda bit: any(d.depends[c] & ~PUBLIC for _, n in d.parts(bit) for c, _ in d.forms[n])
-        return all(b < 256 or d.symbolic(b) and not any(map(is_secret, d.bits(b))) for b in bytes_)
+        return all(b < 256 or self.domain.is_public(b) for b in bytes_)
 
     def is_public_value(self, value):
         """Whether a value depends on nothing secret. (A Number may be that of J_0.)"""

@@ -16,7 +16,7 @@ from machines.machine import Allowed
 from machines.native import Native
 from machines.operands import HEAD, Pointer, Question, Verdict, lanes
 from machines.regions import Region, Window
-from statements.left_behind import cells_of_bit, kind_of_secret, named_bits, no_secret_in_buffers, nothing_secret, what_is_left
+from statements.left_behind import kind_of_secret, named_bits, no_secret_in_buffers, nothing_secret, what_is_left
 from statements.steps import NO_STEP, step_by_step
 from symbols.bits import ONES, Pause, Unproved
 
@@ -274,7 +274,7 @@ def run_to_all_ends(m, call, watches, known, part=None):
     waiting, ends = [m], []
     while waiting:
         m = waiting.pop()
-        m.domain.factor_of = {}
+        m.domain.forget_factors()
         try:
             run(m, call, watches)
         except Question as question:
@@ -407,7 +407,7 @@ def asked_of(m, question):
     zero."""
     d, out = m.domain, {}
     for b in question[1:]:
-        cells = {place for x in d.bits(b) for place in cells_of_bit(m, x)} if d.symbolic(b) else ()
+        cells = {place for x in d.bits(b) for place in d.cells_of_bit(x)} if d.symbolic(b) else ()
         if len(cells) == 1:
             place, = cells
             out[place] = functools.reduce(int.__or__, (d.forms[x >> 9][0][1] ^ ONES * (x & 1) if x > 1 else ONES * x for x in d.bits(b)),

@@ -77,7 +77,7 @@ class Values:
         d, name = self.domain, self.domain.name_of_opaque.get(b)
         if any(self.word(d.number_of_cell[c][0]) is None for c in d.unknown_cells(b)):
             return None
-        if not name or d.bits_of[b] is not None:
+        if not name or d.symbolic(b):
             return self.number(d.bits(b))
         if isinstance(name, str):
             return None

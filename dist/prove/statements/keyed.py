@@ -216,7 +216,8 @@ class Keyed:
     def named_bytes(self, value, size):
         """Gives the bytes of a value by names. Code may put them together by shifts: then the value is found again."""
         bytes_ = [self.domain.opaque((value, k)) for k in range(size)]
-        self.domain.byte_ids.update((self.domain.bits(b), b) for b in bytes_ if self.program.machine.relaxed)
+        if self.program.machine.relaxed:
+            self.domain.prefer(bytes_)
         return bytes_
 
     def number_of_words(self, name):

@@ -45,26 +45,13 @@ def no_secret_in_buffers(m, call):
 
 def depends(m, *bytes_):
     """Gives what bytes depend on. A byte that replaced a result depends on what the result depended on."""
-    domain = m.domain
-    out, pairs = 0, 0
-    for x in (x for b in bytes_ if domain.symbolic(b) for x in domain.bits(b)):
-        linear, products = domain.split(x)
-        out, pairs = out | depends_bit(m, linear), pairs | products
-    for number in domain.factors(pairs):
-        out |= depends_bit(m, domain.numbered_bit(number))
-    return out
+    return depends_by_cells(m, m.domain.cells_in(bytes_))
 
 
-def cells_of_bit(m, x):
-    """Gives the cells of a bit, with their blocks."""
-    return [(c, block if m.domain.of_block[c] else 0) for block, n in m.domain.parts(x) for c, _ in m.domain.forms[n]]
-
-
-def depends_bit(m, x, origins=True):
-    """Gives what a bit depends on, as `depends` does. Without `origins` it looks only at the bit's own cells."""
+def depends_by_cells(m, cells):
     out = 0
-    for place in cells_of_bit(m, x):
-        out |= m.origins[place] if origins and place in m.origins else m.domain.depends[place[0]]
+    for place in cells:
+        out |= m.origins[place] if place in m.origins else m.domain.depends[place[0]]
     return out
 
 
@@ -94,12 +81,14 @@ def kind_of_secret(m, byte, known, plain, reveals=()):
         return None
     kinds = set()
     for x in m.domain.bits(byte):
-        on, name = depends_bit(m, x), next((kind for kind, bits in known.items() if x & ~1 in bits), None)  # the first of several
+        cells = m.domain.cells_of_bit(x)
+        on = depends_by_cells(m, cells)
+        name = next((kind for kind, bits in known.items() if x & ~1 in bits), None)  # the first of several
         if not on & (KEY | DATA):
             continue
-        if not name and on & KEY and (on == KEY or depends_bit(m, x, False) & KEY):
+        if not name and on & KEY and (on == KEY or m.domain.depends_on(x) & KEY):
             name = "key" if on == KEY else "inner"
-        kinds.add(name or ("plain" if not plain.isdisjoint(cells_of_bit(m, x)) else "step" if on & KEY else "data"))
+        kinds.add(name or ("plain" if not plain.isdisjoint(cells) else "step" if on & KEY else "data"))
     return next((k for k in KINDS if k in kinds), None)
 
 
@@ -131,7 +120,8 @@ def named_bits(m, call):
         bytes_ = tuple(map(tuple, (call.keystream, call.plain, streams, call.other_blocks)))
         if bytes_ not in m.domain.named_bits:
             known = dict(zip(("keystream", "plain", "result", "step"), (bits_of(m, some) for some in bytes_)))
-            cells = {cell for x in known["plain"] if not depends_bit(m, x, False) & KEY for cell in cells_of_bit(m, x)}
+            of_text = (x for x in known["plain"] if not m.domain.depends_on(x) & KEY)
+            cells = {cell for x in of_text for cell in m.domain.cells_of_bit(x)}
             m.domain.named_bits[bytes_] = known, cells
         call.named[m.domain] = m.domain.named_bits[bytes_]
     return call.named[m.domain]
@@ -152,10 +142,11 @@ def what_is_left(m, call):
     places += [("registers", r, b) for r, v in m.general.items() for b in m.to_bytes(v, 8)]
     places += [("registers", "vector %d" % n, b) for n, v in enumerate(m.vectors) for b in v]
     reveals = call.reveals(m) if callable(call.reveals) else call.reveals
-    out, kinds = {}, {b: kind_of_secret(m, b, known, plain, reveals) for b in {b for _, _, b in places}}
+    out, kinds = {}, {b: kind_of_secret(m, b, known, plain, reveals) for b in {b for _, _, b in places if b > 255}}
+    places = [one for one in places if kinds.get(one[2])]
     if call.any_length and any(max(m.domain.blocks(b), default=0) >= LAST for b in kinds):
         raise Unproved("leaves a block with a number that isn't known")
     for place, where, b in places:
-        if kinds[b] and not (place == IN_BUFFERS and kinds[b] in where.secret):
+        if not (place == IN_BUFFERS and kinds[b] in where.secret):
             out.setdefault((place, kinds[b]), []).append(where.name if place == IN_BUFFERS else where)
     return out

@@ -75,7 +75,7 @@ def step_by_step(steps):
             replace_result(m, where, want, new)
             m.steps_found += 1
             m.expected_step = None
-            m.domain.factor_of = {}
+            m.domain.forget_factors()
     return watch
 
 
@@ -109,11 +109,18 @@ def is_found(m, where, want):
         return any(contains(r.content, want) for r in m.regions.values() if not isinstance(r, Window))
     if where in ("memory", "block") and was_written(m, want):
         return True
-    first = want[0]
-    if where != "memory" and [v for v in m.vectors if v[0] == first and v[:16] == want]:
-        return True
+    vectors, general = m.searched[1:] if m.searched[0] is want else (None, None)
+    if where != "memory" and m.vectors != vectors:
+        first, vectors = want[0], [*m.vectors]
+        if [v for v in vectors if v[0] == first and v[:16] == want]:
+            return True
     # (In registers of 4 bytes a block of the cipher is there too early, while the planes have copies of it in other slots.)
-    return (where == "hash" or where == "block" and m.word == 8) and in_words(m, want)
+    if (where == "hash" or where == "block" and m.word == 8) and m.general != general:
+        general = dict(m.general)
+        if in_words(m, want):
+            return True
+    m.searched = want, vectors, general
+    return False
 
 
 def contains(content, want):

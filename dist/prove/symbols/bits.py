@@ -15,11 +15,18 @@ A bit is an int. 0 and 1 are constants. Any other bit is form << 9 | block << 1 
 once for all of them. `block` (1 to 253) says whose cells are meant. It is 0 if the form has cells of keys alone. (`block` may also be MIXED
 or PRODUCT. Then the number before it isn't that of a form.)
 
-A byte is an int too. Below 256 it is a constant. Any other byte has an entry in `bits_of`: eight bits, the lowest first, or None if the
-byte is opaque. An opaque byte may be moved, but nothing may be computed with it. What a buffer or a register held before is opaque. The
-name of an opaque byte is a string, or (value, k) for byte k of a value of machine.py or of a buffer."""
+A byte is an int too: place << 24 | shape. Its shape is eight bits without blocks, the lowest first. Its place has the
+block of each bit, or 0 for a bit that has none. Shapes and places have numbers. So what is computed with bytes of some
+blocks is known for the same functions of other blocks (`by_shapes`). Below 256 a byte is a constant: its place is 0,
+and the number of its shape is the constant. A byte with a bit that is MIXED or a PRODUCT has a shape of its own and
+the place 0, and the bits of that shape have their blocks.
+
+An opaque byte has a shape of its own too, which is None if its bits aren't known. It may be moved, but nothing may be
+computed with it then. What a buffer or a register held before is opaque. The name of an opaque byte is a string, or
+(value, k) for byte k of a value of machine.py or of a buffer."""
 
 import functools
+import operator
 import sys
 
 if sys.version_info < (3, 11):
@@ -33,6 +40,8 @@ BLOCK = 255 << 1
 MIXED = 255  # instead of a block: the bit is a sum over several blocks, an entry of `mixed`
 PRODUCT = 254  # instead of a block: the bit is one plus products of two bits of cells, an entry of `products`
 OF_PRODUCT = PRODUCT << 1
+SHAPE = (1 << 24) - 1  # the number of a byte's shape
+OWN = -1  # instead of the bits of a shape that have a block: the shape is that of one byte alone
 
 UNDEFINED, LOST = "undefined", "lost"  # names of opaque bytes that nobody wrote, and of those that were forgotten
 
@@ -95,12 +104,17 @@ class Forms:
         self.ids = {(): 0}
         self.has_block = [False]
         self.xors = {}  # sums that were computed once, by their numbers
-        self.bits_of, self.byte_ids = [None] * 256, {bits: byte for byte, bits in enumerate(CONSTANTS)}
-        self.blocks_of = {}  # {a byte: its blocks}, of bytes that were asked for them
+        # Shapes by numbers; which bits of each have a block, as an int, or OWN; numbers of shapes; and bytes by bits.
+        self.shapes, self.with_block = list(CONSTANTS), [0] * 256
+        self.shape_ids, self.byte_ids = ({bits: byte for byte, bits in enumerate(CONSTANTS)} for _ in range(2))
+        # Places, as blocks << 1 of the eight bits, by their numbers; the number of each, shifted; and sets of blocks.
+        self.places, self.place_ids, self.blocks_at = [(0,) * 8], {(0,) * 8: 0}, [frozenset()]
+        self.blocks_of = {}  # {a byte with a shape of its own: its blocks}, of bytes that were asked for them
         # {the name of a counter of a call of any length: a function from the number of a block and k to the bits of byte k}
         self.placed = {}
         # {the name of an opaque byte: the byte}, and {the byte: its name}
         self.opaque_of_name, self.name_of_opaque = {}, {}
+        self.of_verdicts = set()  # opaque bytes of Verdicts
         # {the name of a word of unknown value: a function from an offset and k to the bits of byte k of word + offset, or to None}
         self.bits_of_word = {}
         # {a cell that is a byte of such a word: (a Pointer, or None for the low word of a call's counter; which byte it is)}
@@ -109,6 +123,7 @@ class Forms:
         self.number_of_cell, self.unknown_cells_of = {}, {}
         self.sizes = {}  # {such a number: how many bits it has at most}; each call that has the number says so
         self.without_numbers = set()  # bytes that were seen to have no cell of such a number
+        self.public = {}  # whether shapes have public cells alone
         self.of_forgotten = {}  # {what was forgotten: the cell of its byte}; see forget_bits
         # {a cell of a number that is one more in each block: (which byte it is, all bytes, the lowest first)}
         self.numbers = {}
@@ -146,52 +161,102 @@ class Forms:
                 bits = number(self, name[1]) if number else word and word(name[0].offset, name[1])
             except Unproved:  # no number of a block that has a form
                 bits = None
-            self.opaque_of_name[name] = len(self.bits_of)
-            self.name_of_opaque[len(self.bits_of)] = name
-            self.bits_of.append(bits)
+            byte = self.opaque_of_name[name] = self.new_shape(bits, OWN)
+            self.name_of_opaque[byte] = name
+            if hasattr(name[0], "differences"):
+                self.of_verdicts.add(byte)
         return self.opaque_of_name[name]
 
+    def new_shape(self, bits, with_block):
+        """Gives a number to a shape."""
+        if len(self.shapes) > SHAPE:
+            raise Unproved("too many different bytes")
+        self.shapes.append(bits)
+        self.with_block.append(with_block)
+        return len(self.shapes) - 1
+
+    def shape_of(self, bits):
+        """Gives the number of the shape that has these bits, which have no blocks."""
+        shape = self.shape_ids.get(bits)
+        if shape is None:
+            has_block, factors = self.has_block, self.factor_bits
+            own = factors and not factors.isdisjoint([x & ~1 for x in bits])
+            with_block = OWN if own else sum([has_block[x >> 9] << j for j, x in enumerate(bits)])
+            shape = self.shape_ids[bits] = self.new_shape(bits, with_block)
+        return shape
+
+    def place_of(self, blocks):
+        """Gives a place, shifted as in a byte."""
+        if blocks not in self.place_ids:
+            self.place_ids[blocks] = len(self.places) << 24
+            self.places.append(blocks)
+            self.blocks_at.append(frozenset(b >> 1 for b in blocks if b))
+        return self.place_ids[blocks]
+
     def pack(self, bits):
+        """Gives the byte that has these bits."""
         bits = tuple(bits)
         byte = self.byte_ids.get(bits)
         if byte is None:
-            byte = self.byte_ids[bits] = len(self.bits_of)
-            self.bits_of.append(bits)
-            if self.products and any([b & BLOCK == OF_PRODUCT for b in bits]):
-                self.with_products.add(byte)
+            blocks = tuple([x & BLOCK for x in bits])
+            if max(blocks) < OF_PRODUCT:
+                byte = self.shape_of(tuple([x & ~BLOCK for x in bits])) | self.place_of(blocks)
+            else:
+                byte = self.new_shape(bits, OWN)
+                if OF_PRODUCT in blocks:
+                    self.with_products.add(byte)
+            self.byte_ids[bits] = byte
         return byte
+
+    def prefer(self, bytes_):
+        """Lets opaque bytes whose bits are known be the bytes with these bits, where these are computed from now on."""
+        for byte in bytes_:
+            bits = self.bits(byte)
+            shape = self.pack(bits) & SHAPE
+            if self.with_block[shape] != OWN:
+                self.with_block[shape] = OWN  # so that nothing is known any more of bytes with this shape
+                for known in self.shape_xors, self.shape_ands, self.list_xors:
+                    known.clear()
+            self.byte_ids[bits] = byte
 
     def plain(self, byte):
         """Gives a byte without its name, if its bits are known."""
-        return self.pack(self.bits_of[byte]) if self.symbolic(byte) else byte
+        return self.pack(self.known_bits(byte)) if self.symbolic(byte) else byte
+
+    def known_bits(self, byte):
+        """Gives the bits of a byte, or None if it is opaque."""
+        shape = self.shapes[byte & SHAPE]
+        return shape if byte <= SHAPE else tuple(map(operator.or_, shape, self.places[byte >> 24]))
 
     def bits(self, byte):
         """Gives the bits of a byte. Refuses an opaque one."""
-        if byte < 256:
-            return CONSTANTS[byte]
-        if self.bits_of[byte] is None:
+        bits = self.known_bits(byte)
+        if bits is None:
             if self.name_of_opaque[byte] not in (UNDEFINED, LOST):
                 raise Pause("computes with a byte of which only the name is known: " + self.describe(byte))
             raise Undefined("computes with a byte that is undefined: " + self.describe(byte))
-        return self.bits_of[byte]
+        return bits
 
     def cell_of(self, byte):
         """Gives (cell, block) of a byte that is a cell. Bits may be flipped, and the byte of a number may be added."""
-        bit = self.bits_of[byte][0]
+        bit = self.known_bits(byte)[0]
         cell, = (c for c, _ in self.forms[bit >> 9] if c not in self.number_of_cell)
         return cell, (bit & BLOCK) >> 1 if self.of_block[cell] else 0
 
     def symbolic(self, byte):
         """Whether a byte depends on cells."""
-        return byte >= 256 and self.bits_of[byte] is not None
+        return byte >= 256 and self.shapes[byte & SHAPE] is not None
 
     def cells(self, byte):
-        bits = self.bits_of[byte] if self.symbolic(byte) else ()
+        bits = self.shapes[byte & SHAPE] if self.symbolic(byte) else ()
         return {c for b in bits for _, n in self.parts(b) for c, _ in self.forms[n]}
 
     def blocks(self, byte):
+        """Gives the blocks whose cells a byte has."""
+        if byte > SHAPE or self.with_block[byte] != OWN:
+            return self.blocks_at[byte >> 24]
         if byte not in self.blocks_of:
-            bits = self.bits_of[byte] if self.symbolic(byte) else ()
+            bits = self.shapes[byte] or ()
             self.blocks_of[byte] = frozenset(block for b in bits for block, _ in self.parts(b) if block)
         return self.blocks_of[byte]
 
@@ -202,10 +267,22 @@ class Forms:
                 out |= self.depends[c]
         return out
 
+    def is_public(self, byte):
+        """Whether a byte has cells, and public ones alone."""
+        shape = byte & SHAPE
+        if shape not in self.public:
+            bits = self.shapes[shape]
+            self.public[shape] = bits is not None and not any(self.depends_on(x) & ~PUBLIC for x in bits)
+        return self.public[shape]
+
+    def cells_of_bit(self, x):
+        """Gives the cells of a bit, with their blocks."""
+        return [(c, block if self.of_block[c] else 0) for block, n in self.parts(x) for c, _ in self.forms[n]]
+
     def describe(self, byte):
         if byte < 256:
             return "%02x" % byte
-        if self.bits_of[byte] is None:
+        if not self.symbolic(byte):
             return str(self.name_of_opaque[byte])
         blocks = self.blocks(byte)
         cells = sorted(self.cells(byte))
@@ -214,7 +291,7 @@ class Forms:
 
     def is_same(self, a, b):
         """Whether two bytes are the same function. (A byte of a word of unknown value has a number of its own.)"""
-        return a == b or a > 255 and b > 255 and self.bits_of[a] is not None and self.bits_of[a] == self.bits_of[b]
+        return a == b or self.symbolic(a) and self.symbolic(b) and self.known_bits(a) == self.known_bits(b)
 
     # Bits.
     def one_block(self, bits):

@@ -2,9 +2,17 @@
 import functools
 import itertools
 
-from symbols.bits import BLOCK, OF_PRODUCT, PRODUCT, Forms, Unproved, affine_columns, composed_tables, linear_bits
+from symbols.bits import (BLOCK, OF_PRODUCT, OWN, PRODUCT, SHAPE, Forms, Unproved, affine_columns, composed_tables,
+                          linear_bits)
 from symbols.products import Products
 from symbols.sum_names import Names
+
+
+def moved_block(block, by):
+    """Gives the number of a block that is later by `by`, or 0 for cells of keys alone."""
+    if block and not 0 < block + by < PRODUCT:
+        raise Unproved("a block whose number is too high or too low")
+    return block and block + by
 
 
 class Domain(Forms, Products, Names):
@@ -16,7 +24,7 @@ class Domain(Forms, Products, Names):
         Forms.__init__(self)
         # Results by their operands, so that each is computed once. (bytewise.py uses `entries` and `shifted`.)
         self.ands, self.byte_xors, self.byte_ands, self.lookups, self.moves, self.entries, self.shifted = ({} for _ in range(7))
-        self.repeats, self.in_planes = {}, {}  # see `alike`
+        self.shape_xors, self.shape_ands, self.places_without, self.list_xors = {}, {}, {}, {}
         self.serials = itertools.count(1)  # of Verdicts
         self.named_bits = {}  # what left_behind.named_bits gives for bytes
 
@@ -42,57 +50,61 @@ class Domain(Forms, Products, Names):
     def or_(self, x, y):
         return self.and_(x ^ 1, y ^ 1) ^ 1
 
-    # A byte of a plane may have the same function of each of eight blocks. Then one bit and the blocks describe it.
-    def alike(self, a, b):
-        """Gives, for two bytes of planes, the bit that describes each, and the blocks, which are the same for both. If there are no such
-        bits, gives (None, None)."""
-        x, p = self.repeated(a)
-        y, q = self.repeated(b) if x is not None else (None, None)
-        return ((x, y), p or q) if y is not None and (p == q or not p or not q) else (None, None)
+    def by_shapes(self, known, operation, a, b):
+        """Combines two bytes bit by bit, if their blocks are the same, or if one has no blocks. Gives None for others,
+        and if a shape is that of one byte alone. `known` has for two shapes that of the result, and above it which bits
+        have lost their block."""
+        p, q, a, b, with_block = a & ~SHAPE, b & ~SHAPE, a & SHAPE, b & SHAPE, self.with_block
+        if p != q and p and q or with_block[a] == OWN or with_block[b] == OWN:
+            return None
+        c = known.get((a, b))
+        if c is None:
+            x, y = self.shapes[a], self.shapes[b]
+            alike = x.count(x[0]) == y.count(y[0]) == 8  # as in a byte of a plane
+            c = self.shape_of((operation(x[0], y[0]),) * 8 if alike else tuple(map(operation, x, y)))
+            if with_block[c] == OWN:
+                return None
+            c = known[a, b] = c | ((with_block[a] | with_block[b]) & ~with_block[c]) << 24
+        return c | p | q if c <= SHAPE else c & SHAPE | self.place_without(p | q, c >> 24)
 
-    def repeated(self, byte):
-        """Gives the bit that a byte repeats in its blocks, and these blocks; or (None, None)."""
-        if byte not in self.repeats:
-            bits = self.bits(byte)
-            first, blocks = bits[0] & ~BLOCK, ()
-            if bits[1] & ~BLOCK == first and all([x & ~BLOCK == first for x in bits]):
-                blocks = tuple([x & BLOCK for x in bits])
-            self.repeats[byte] = (first, any(blocks) and blocks) if blocks and max(blocks) < OF_PRODUCT else (None, None)
-        return self.repeats[byte]
-
-    def in_blocks(self, x, blocks):
-        """Makes a byte that has this function of each of these blocks."""
-        blocks = blocks if x > 1 and self.has_block[x >> 9] else False
-        key = x, blocks
-        if key not in self.in_planes:
-            self.in_planes[key] = self.pack([x | block for block in blocks] if blocks else [x] * 8)
-            self.repeats[self.in_planes[key]] = key
-        return self.in_planes[key]
+    def place_without(self, place, lost):
+        """Gives a place in which these bits have lost their block."""
+        if (place, lost) not in self.places_without:
+            left = [0 if lost >> j & 1 else block for j, block in enumerate(self.places[place >> 24])]
+            self.places_without[place, lost] = self.place_of(tuple(left))
+        return self.places_without[place, lost]
 
     def xor_byte(self, a, b):
         if a < 256 and b < 256 or not a or not b:
             return a ^ b
-        key = (a, b)
-        known = self.product_xors if a in self.with_products or b in self.with_products else self.byte_xors
-        c = known.get(key)
+        c = self.by_shapes(self.shape_xors, self.xor, a, b)
         if c is None:
-            form, blocks = self.alike(a, b)
-            xor = self.xor
-            c = known[key] = self.in_blocks(xor(*form), blocks) if form else self.pack(list(map(xor, self.bits(a), self.bits(b))))
+            known = self.product_xors if a in self.with_products or b in self.with_products else self.byte_xors
+            c = known.get((a, b))
+            if c is None:
+                c = known[a, b] = self.pack(list(map(self.xor, self.bits(a), self.bits(b))))
         return c
+
+    def xor_bytes(self, a, b):
+        """Adds bytes of a register to those of another one."""
+        key = len(a), *a, *b
+        c = self.list_xors.get(key)
+        if c is None:
+            c = self.list_xors[key] = list(map(self.xor_byte, a, b))
+        return [*c]
 
     def and_byte(self, a, b):
         if a < 256 and b < 256 or not a or not b:
             return a & b
         if 255 in (a, b):
             return b if a == 255 else a
-        key = self.with_factors(a, b) if self.factor_of else (a, b)
-        known = self.byte_ands if key == (a, b) else self.product_ands
-        c = known.get(key)
+        c = None if self.factor_of else self.by_shapes(self.shape_ands, self.and_, a, b)
         if c is None:
-            form, blocks = self.alike(*key)
-            alike = form and self.factor_bits.isdisjoint(x & ~1 for x in form)
-            c = known[key] = self.in_blocks(self.and_(*form), blocks) if alike else self.pack(list(map(self.and_, *map(self.bits, key))))
+            key = self.with_factors(a, b) if self.factor_of else (a, b)
+            known = self.byte_ands if key == (a, b) else self.product_ands
+            c = known.get(key)
+            if c is None:
+                c = known[key] = self.pack(list(map(self.and_, *map(self.bits, key))))
         return c
 
     def with_factors(self, a, b):
@@ -138,35 +150,44 @@ class Domain(Forms, Products, Names):
             raise Unproved("a block whose number is too large")
         if not self.symbolic(byte):
             return byte
-        has_block, bits = self.has_block, self.bits_of[byte]
-        if not block and any([has_block[b >> 9] for b in bits]):
+        bits, with_block = self.known_bits(byte), self.with_block[byte & SHAPE]
+        if not block and any([self.has_block[b >> 9] for b in bits]):
             raise Unproved("a block before the first one")  # 0 means cells of keys alone
-        return self.pack([b & ~BLOCK | block << 1 if has_block[b >> 9] else b for b in bits])
+        if with_block == OWN:
+            return self.pack([self.in_block(b, block) for b in bits])
+        return byte & SHAPE | self.place_of(tuple([(with_block >> j & 1) * block << 1 for j in range(8)]))
 
     def moved(self, byte, by):
         """Gives a byte as the same function of the cells of other blocks, whose numbers are higher by `by`."""
         if not by or not self.symbolic(byte):
             return byte
-        if (byte, by) not in self.moves:
-            bits = []
-            for x in self.bits_of[byte]:
-                y = x & 1
-                if x & BLOCK == OF_PRODUCT:
-                    raise Unproved("a product, of other blocks")
-                for block, n in self.parts(x):
-                    if block and not 0 < block + by < PRODUCT:
-                        raise Unproved("a block whose number is too high or too low")
-                    y = self.xor(y, n << 9 | (block + by if block else 0) << 1) if n else y
-                bits.append(y)
-            self.moves[byte, by] = byte if tuple(bits) == self.bits_of[byte] else self.pack(bits)
-        return self.moves[byte, by]
+        own = self.with_block[byte & SHAPE] == OWN
+        key = byte if own else -(byte >> 24), by  # (a place is negative there, so that it is no byte)
+        if key not in self.moves:
+            self.moves[key] = self.moved_bits(byte, by) if own else self.place_of(
+                tuple([moved_block(block >> 1, by) << 1 for block in self.places[byte >> 24]]))
+        return self.moves[key] if own else byte & SHAPE | self.moves[key]
+
+    def moved_bits(self, byte, by):
+        """Moves a byte with a shape of its own bit by bit."""
+        bits = []
+        for x in self.known_bits(byte):
+            y = x & 1
+            if x & BLOCK == OF_PRODUCT:
+                raise Unproved("a product, of other blocks")
+            for block, n in self.parts(x):
+                block = moved_block(block, by)
+                y = self.xor(y, n << 9 | block << 1) if n else y
+            bits.append(y)
+        return byte if tuple(bits) == self.known_bits(byte) else self.pack(bits)
 
     def unknown_cells(self, byte):
         """Gives the cells of a byte that belong to numbers that aren't known."""
-        if byte not in self.unknown_cells_of:
+        shape = byte & SHAPE
+        if shape not in self.unknown_cells_of:
             simple = self.symbolic(byte) and byte not in self.with_products
-            self.unknown_cells_of[byte] = self.cells(byte) & self.number_of_cell.keys() if simple else ()
-        return self.unknown_cells_of[byte]
+            self.unknown_cells_of[shape] = self.cells(byte) & self.number_of_cell.keys() if simple else ()
+        return self.unknown_cells_of[shape]
 
     def put_in(self, byte, others):
         """Gives a byte as the same function of other bytes instead of cells. `others` is {a cell: a byte}."""

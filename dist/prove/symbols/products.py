@@ -17,6 +17,9 @@ class Products:
         self.linear_tables, self.linear_parts, self.column_parts, self.rows = {}, {}, {}, {}
         self.row_keys = []
         self.known_products, self.factor_of, self.factor_cells = {}, {}, {}
+        self.cells_of_bytes = {}  # see `cells_in`
+        self.linear_entries = {}  # {bytes that were named as factors: {a table: its entries by bytes}}
+        self.entries_now = {}  # those for the factors that are named now
         self.factor_bits = set()
 
     def bit_number(self, cell, block, j):
@@ -49,10 +52,11 @@ class Products:
     def forget_products(self):
         """Forgets products before a call, as none of its values has a byte with products of another call."""
         for byte in self.with_products:
-            del self.byte_ids[self.bits_of[byte]]
-            self.bits_of[byte] = None
+            del self.byte_ids[self.shapes[byte]]
+            self.shapes[byte] = None
         for known in (self.products, self.product_ids, self.with_products, self.product_xors, self.product_ands, self.shifted,
-                      self.linear_tables, self.known_products, self.rows, self.row_keys):
+                      self.linear_tables, self.known_products, self.rows, self.row_keys, self.cells_of_bytes,
+                      self.linear_entries, self.entries_now, self.public, self.list_xors):
             known.clear()
 
     def filled_rows(self, pairs):
@@ -75,6 +79,7 @@ class Products:
         """Replaces these bytes by cells where they are the first factor of products, until this is called again. Gives the bytes of the
         cells. These are the same each time, so a product is computed only once. Such a cell is only in products, and in no form."""
         self.factor_of, out = {}, []
+        self.entries_now = self.linear_entries.setdefault(tuple(bytes_), {})
         for i, byte in enumerate(bytes_):
             if self.symbolic(byte):
                 cell = self.factor_cells.setdefault(i, len(self.names))
@@ -82,13 +87,32 @@ class Products:
                     self.cell("factor byte %d" % i, False, 0)
                     self.factor_bits.update(self.bit(cell, table, 0) for table in LINEAR)
                 self.definitions[cell] = [x & ~1 for x in self.bits(byte)]
-                self.depends[cell] = functools.reduce(int.__or__, map(self.depends_on, self.bits(byte)))
+                depends = functools.reduce(int.__or__, map(self.depends_on, self.bits(byte)))
+                if self.depends[cell] != depends:
+                    self.depends[cell] = depends
+                    self.public.clear()
                 for j, x in enumerate(self.definitions[cell]):
                     if x:
                         self.factor_of.setdefault(x, self.bit(cell, LINEAR[j], 0))
                 byte = self.pack([self.factor_of[x & ~1] | x & 1 if x > 1 else x for x in self.bits(byte)])
             out.append(byte)
         return out
+
+    def forget_factors(self):
+        """Forgets which bytes are replaced by cells."""
+        self.factor_of, self.entries_now = {}, self.linear_entries.setdefault((), {})
+
+    def cells_in(self, bytes_):
+        """Gives the cells of bytes, also those in products, with their blocks."""
+        if bytes_ not in self.cells_of_bytes:
+            out, pairs = set(), 0
+            for x in (x for b in bytes_ if self.symbolic(b) for x in self.bits(b)):
+                linear, products = self.split(x)
+                out.update(self.cells_of_bit(linear))
+                pairs |= products
+            out.update((number >> 3 & 0xffffff, number >> 27) for number in self.factors(pairs))
+            self.cells_of_bytes[bytes_] = out
+        return self.cells_of_bytes[bytes_]
 
     def linear_part(self, x):
         """Gives the numbers of the bits of cells whose sum a bit is."""
