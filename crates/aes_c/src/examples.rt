@@ -1,7 +1,11 @@
-//! The numbers of statuses and of the version, and the sizes of structs, as contracts. With them
-//! the prover refuses a mistake in a constant or a definition. The call has no effect.
+//! The numbers of statuses and of the version, the lengths of tags, and the sizes of structs, as
+//! contracts. With them the prover refuses a mistake in a constant or a definition. The calls have
+//! no effect.
 
-ghost use Rattle.std.specs.Prelude.{◌≡◌};
+ghost use Rattle.std.specs.Prelude.{◌≡◌, ◌↔◌, ℕ, [], ◌∷◌};
+ghost use Rattle.aes_cipher.specs.Lengths.{IsOneOf};
+ghost use Rattle.aes_c.specs.Form.{no_key};
+ghost use Rattle.aes_c.specs.Lengths.{IsCmacLength};
 
 use crate::status::{
     DONE, INVALID_COUNT, KEY_LENGTH, KEYSTREAM_END, NO_KEY, NONCE_LENGTH, REFUSED, TAG_LENGTH,
@@ -23,6 +27,17 @@ pub fn numbers_of_the_header()
     ensures nonce_length { NONCE_LENGTH ≡ 8 }
     ensures too_long { TOO_LONG ≡ 9 }
     ensures version { VERSION ≡ 400 }
+{}
+
+/// The lengths of tags of CMAC.
+pub fn tag_length_rule()
+    ensures { (n : ℕ) → IsCmacLength n
+        ↔ IsOneOf (4 ∷ 5 ∷ 6 ∷ 7 ∷ 8 ∷ 9 ∷ 10 ∷ 11 ∷ 12 ∷ 13 ∷ 14 ∷ 15 ∷ 16 ∷ []) n }
+{}
+
+/// A wiped struct says that its key has no bytes.
+pub fn no_key_example()
+    ensures { no_key.key.length ≡ 0 }
 {}
 
 // How many bytes the structs have by the header, with nothing between their fields.

@@ -4,12 +4,14 @@
 //! `bytes n 0x..` is the n bytes that these digits write. A separate model in Python computed what
 //! a struct stores, from the standard and the basis that `tables.rt` of `aes_permute` describes.
 
-ghost use Rattle.std.specs.Prelude.{◌≡◌, map};
+ghost use Rattle.std.specs.Prelude.{◌≡◌, ◌↔◌, map, replicate};
 ghost use Rattle.aes_planes.specs.BigEndian.{bytes};
 ghost use Rattle.aes_planes.specs.Fips197 as fips;
+ghost use Rattle.aes_cipher.specs.KeySizes.{IsKeySize};
 ghost use Rattle.aes_permute.specs.Keys.{encrypting, key_in_room, stored_keys, AreInverse};
 ghost use Rattle.aes_permute.specs.Keys.{AreZeroAfter};
-ghost use Rattle.aes_hybrid.specs.KeptKey.{IsKeptBothWays, IsZeroAfter, IsZeroAfterBoth};
+ghost use Rattle.aes_hybrid.specs.KeptKey.{key_in, no_key, no_key_both_ways, round_keys_in};
+ghost use Rattle.aes_hybrid.specs.KeptKey.{HoldsKey, IsKeptBothWays, IsZeroAfter, IsZeroAfterBoth};
 ghost use Rattle.aes_hybrid.specs.declared.kept_key.KeptKey.{KeptKey};
 ghost use Rattle.aes_hybrid.specs.declared.kept_key.KeptBothWays.{KeptBothWays};
 
@@ -78,6 +80,23 @@ pub fn struct_example()
 {
     stored_example();
 }
+
+/// How a struct is read: it holds a key if its length is that of one, and the key is read from its
+/// blocks.
+pub fn struct_rules()
+    ensures holds { (kept : KeptKey) → HoldsKey kept ↔ IsKeySize kept.length }
+    ensures key { (kept : KeptKey) → key_in kept ≡ key_in_room kept.length kept.round_keys }
+    ensures round_keys { (kept : KeptKey)
+        → round_keys_in kept ≡ fips.key_expansion (key_in kept) }
+{}
+
+/// What a wipe leaves, field by field: nothing.
+pub fn no_key_examples()
+    ensures length { no_key.length ≡ 0 }
+    ensures round_keys { no_key.round_keys ≡ replicate 15 (replicate 16 0) }
+    ensures both_ways { no_key_both_ways.key ≡ no_key }
+    ensures decrypting { no_key_both_ways.decrypting ≡ replicate 15 (replicate 16 0) }
+{}
 
 /// If a struct has nothing of another key after its round keys, that room is zero. In a struct for
 /// both directions, the room of each direction is zero.

@@ -5,11 +5,12 @@
 //! words, from the standard and the layout. Bit 8 r + 2 c + k of word 8 i + p is, for both k, a bit
 //! of what is stored for round key i: bit p of the byte in row r and column c.
 
-ghost use Rattle.std.specs.Prelude.{◌≡◌, ◌∷◌, [], map, replicate, slice_set};
+ghost use Rattle.std.specs.Prelude.{◌≡◌, ◌↔◌, ◌∷◌, [], ℕ, List, drop, map, replicate, take};
 ghost use Rattle.aes_planes.specs.BigEndian.{bytes};
 ghost use Rattle.aes_planes.specs.Words.{word_bits};
-ghost use Rattle.aes_soft.specs.Stored.{full, words_for, IsSchedule};
-ghost use Rattle.aes_narrow.specs.KeptKey.{IsZeroAfter};
+ghost use Rattle.aes_cipher.specs.KeySizes.{IsKeySize};
+ghost use Rattle.aes_soft.specs.Stored.{full, key_of_planes, words_for, IsSchedule};
+ghost use Rattle.aes_narrow.specs.KeptKey.{key_in, no_key, words_in, HoldsKey, IsZeroAfter};
 ghost use Rattle.aes_narrow.specs.declared.kept_key.KeptKey.{KeptKey};
 
 use aes_planes::examples::key_expansion_128;
@@ -43,28 +44,27 @@ pub fn count_examples()
     ensures { map words_for (16 ∷ 24 ∷ 32 ∷ []) ≡ 88 ∷ 104 ∷ 120 ∷ [] }
 {}
 
-/// A bit that is left in a word after the round keys is found, in the first of these words and in
-/// the last. Keys of 32 bytes leave no word over.
-pub fn left_behind_examples()
-    ensures first_after_16 { ¬ IsZeroAfter (record {
-      length = 16;
-      round_keys = slice_set (replicate 120 0) 88 1;
-    }) }
-    ensures last_after_16 { ¬ IsZeroAfter (record {
-      length = 16;
-      round_keys = slice_set (replicate 120 0) 119 1;
-    }) }
-    ensures first_after_24 { ¬ IsZeroAfter (record {
-      length = 24;
-      round_keys = slice_set (replicate 120 0) 104 1;
-    }) }
-    ensures last_after_24 { ¬ IsZeroAfter (record {
-      length = 24;
-      round_keys = slice_set (replicate 120 0) 119 1;
-    }) }
-    ensures none_after_24 { IsZeroAfter (record {
-      length = 24;
-      round_keys = slice_set (replicate 120 0) 103 1;
-    }) }
-    ensures none_after_32 { IsZeroAfter (record { length = 32; round_keys = replicate 120 1 }) }
+/// How a struct is read: it holds a key if its length is that of one. The words of the round keys
+/// come first, as planes of two blocks in words of 32 bits.
+pub fn struct_rules()
+    ensures holds { (kept : KeptKey) → HoldsKey kept ↔ IsKeySize kept.length }
+    ensures words { (kept : KeptKey)
+        → words_in kept ≡ take (words_for kept.length) kept.round_keys }
+    ensures key { (kept : KeptKey) → key_in kept ≡ key_of_planes (word_bits 32) 2 (words_in kept) }
+{}
+
+/// Each word after those of a key is zero. A key of 32 bytes leaves no word over.
+pub fn zeros_after_rules()
+    ensures of_16 { (words : List ℕ) → IsZeroAfter (record { length = 16; round_keys = words })
+        ↔ (drop 88 words ≡ replicate 32 0) }
+    ensures of_24 { (words : List ℕ) → IsZeroAfter (record { length = 24; round_keys = words })
+        ↔ (drop 104 words ≡ replicate 16 0) }
+    ensures of_32 { (words : List ℕ) → IsZeroAfter (record { length = 32; round_keys = words })
+        ↔ (drop 120 words ≡ []) }
+{}
+
+/// What a wipe leaves, field by field: nothing.
+pub fn no_key_examples()
+    ensures length { no_key.length ≡ 0 }
+    ensures round_keys { no_key.round_keys ≡ replicate 120 0 }
 {}

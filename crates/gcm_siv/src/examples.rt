@@ -18,6 +18,7 @@ ghost use Rattle.gcm_siv.specs.GcmSiv.{inverse_power};
 ghost use Rattle.gcm_siv.specs.GcmSiv.{block_at, hash, length_block, polyval, polyval_after, tag};
 ghost use Rattle.gcm_siv.specs.GcmSiv.{tag_input, text, times, times_power};
 ghost use Rattle.aes_cipher.specs.Blocks.{padded};
+ghost use Rattle.aes_cipher.specs.Lengths.{IsOneOf};
 ghost use Rattle.aes_ctr.specs.CounterMode.{plus_stream};
 
 use crate::errors::TooLong;
@@ -105,10 +106,8 @@ pub fn authentic_examples()
 {}
 
 /// A key-generating key has 16 bytes or 32.
-pub fn size_examples()
-    ensures sixteen { IsSivKeySize 16 }
-    ensures thirty_two { IsSivKeySize 32 }
-    ensures others { (n : ℕ) → IsSivKeySize n → (n ≡ 16) ⊎ (n ≡ 32) }
+pub fn size_rule()
+    ensures { (size : ℕ) → IsSivKeySize size ↔ IsOneOf (16 ∷ 32 ∷ []) size }
 {}
 
 /// The lengths in bits of the longest strings. Every byte of the strings counts.

@@ -4,7 +4,7 @@
 //!
 //! `bytes n 0x..` is the n bytes that these digits write.
 
-ghost use Rattle.std.specs.Prelude.{◌≡◌, ◌↔◌, ◌<◌, ℕ, ◌+◌, ◌-◌, ◌*◌, ◌^◌, List, ◌∷◌, [], ◌++◌};
+ghost use Rattle.std.specs.Prelude.{◌≡◌, ◌↔◌, ◌<◌, ◌≤◌, ℕ, ◌+◌, ◌-◌, ◌*◌, ◌^◌, List, ◌∷◌, [], ◌++◌};
 ghost use Rattle.std.specs.Prelude.{drop, length, replicate, slice_index_or, take};
 ghost use Rattle.std.specs.Prelude.{IfOk, IsOk, OnOk};
 ghost use Rattle.std.specs.List.{concat};
@@ -22,22 +22,16 @@ use crate::steps::Semiblock;
 use crate::wrapping::{unwrap, wrap};
 use aes_cipher::cipher::{BlockCipherDecrypt, BlockCipherEncrypt};
 
-/// How long a key may be, in semiblocks and in bytes, and the lengths on either side of these (SP
-/// 800-38F, 5.3.1).
+/// How long a key may be, in semiblocks and in bytes, and how many semiblocks it becomes (SP
+/// 800-38F, 5.3.1). With padding, those after the first have 0 to 7 bytes more than the key.
 #[tactic(auto, unfolding(crate::specs::Padded::semiblock_count))]
-pub fn count_examples()
-    ensures one { ¬ Fit 1 2 }
-    ensures two { Fit 2 3 }
-    ensures most { Fit (2 ^ 54 - 1) (2 ^ 54) }
-    ensures too_many { ¬ Fit (2 ^ 54) (2 ^ 54 + 1) }
-    ensures no_byte { ¬ FitPadded 0 1 }
-    ensures one_byte { FitPadded 1 2 }
-    ensures most_bytes { FitPadded (2 ^ 32 - 1) (2 ^ 29 + 1) }
-    ensures too_many_bytes { ¬ FitPadded (2 ^ 32) (2 ^ 29 + 1) }
-    ensures none_filled { ¬ FitUnpadded 0 1 }
-    ensures one_filled { FitUnpadded 1 2 }
-    ensures most_filled { FitUnpadded (2 ^ 29) (2 ^ 29 + 1) }
-    ensures too_many_filled { ¬ FitUnpadded (2 ^ 29 + 1) (2 ^ 29 + 2) }
+pub fn count_rules()
+    ensures plain { (key sealed : ℕ) → Fit key sealed
+        ↔ (2 ≤ key) × ((key < 2 ^ 54) × (sealed ≡ key + 1)) }
+    ensures padded { (key rest : ℕ) → FitPadded key (rest + 1)
+        ↔ (1 ≤ key) × ((key < 2 ^ 32) × ((key ≤ 8 * rest) × (8 * rest < key + 8))) }
+    ensures unpadded { (output sealed : ℕ) → FitUnpadded output sealed
+        ↔ (1 ≤ output) × ((output ≤ 2 ^ 29) × (sealed ≡ output + 1)) }
 {}
 
 /// The number of a step is added to all eight bytes of a semiblock. Worked out by hand for the
