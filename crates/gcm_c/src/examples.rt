@@ -1,19 +1,20 @@
 //! Statuses and the version by number, and lengths at their limits, as contracts. With them the
-//! prover refuses a mistake in a constant or a definition. The last two calls say what a text is
+//! prover refuses a mistake in a constant or a definition. The last three calls say what a text is
 //! encrypted to under the bytes of a key. The others have no effect.
 
-ghost use Rattle.std.specs.Prelude.{◌≡◌, ◌↔◌, length};
+ghost use Rattle.std.specs.Prelude.{◌≡◌, ◌↔◌, ◌⊎◌, ℕ, ◌*◌, ◌^◌, ◌<◌, ◌≤◌, length, replicate};
 ghost use Rattle.aes_planes.specs.Fips197 as fips;
 ghost use Rattle.aes_cipher.specs.KeySizes.{IsKeySize};
 ghost use Rattle.gcm.specs.Gcm as nist;
 ghost use Rattle.gcm.specs.Gcm.{IsHashedLength, IsTextLength, IsTooLong};
 ghost use Rattle.gcm_siv.specs.GcmSiv as rfc;
-ghost use Rattle.gcm_c.specs.Kept.{IsNonceLength};
+ghost use Rattle.gcm_c.specs.Form.{no_key};
+ghost use Rattle.gcm_c.specs.Kept.{no_gcm, IsNonceLength};
 ghost use Rattle.gcm_c.specs.Siv.{IsSivLength, IsSivTooLong};
 
 use crate::VERSION;
-use crate::form::{GhashRoom, KeptKey};
-use crate::kept::{Gcm, fotsgure_gcm_set_key};
+use crate::form::{Aes, GhashRoom, KeptKey};
+use crate::kept::{Gcm, fotsgure_gcm_set_key, fotsgure_gcm_set_key_of};
 use crate::siv::fotsgure_gcm_siv_seal;
 use crate::siv_kept::{Siv, fotsgure_gcm_siv_set_key};
 use crate::status::{
@@ -21,6 +22,7 @@ use crate::status::{
     UNEQUAL_LENGTHS,
 };
 use crate::whole::fotsgure_gcm_seal;
+use aes_cipher::aes::is_key_size;
 use gcm::{Counter, Message};
 
 /// The numbers that the header gives to statuses and to the version.
@@ -45,19 +47,20 @@ const _: () = prove!(size_of::<Counter>() == 12);
 
 const _: () = prove!(size_of::<Message>() == 80);
 
-/// The lengths of nonces, and the lengths on either side of them.
-pub fn length_examples()
-    ensures shortest_nonce { IsNonceLength 1 }
-    ensures longest_nonce { IsNonceLength 2305843009213693951 }
-    ensures nonce_too_long { ¬ IsNonceLength 2305843009213693952 }
-    ensures no_nonce { ¬ IsNonceLength 0 }
+/// The lengths of nonces of GCM (SP 800-38D, 5.2.1.1), and of texts and additional data of
+/// AES-GCM-SIV (RFC 8452, 4).
+pub fn length_rules()
+    ensures nonce { (n : ℕ) → IsNonceLength n ↔ (1 ≤ 8 * n) × (8 * n < 2 ^ 64) }
+    ensures siv { (n : ℕ) → IsSivLength n ↔ (n ≤ 2 ^ 36) }
+    ensures siv_too_long { (additional text : ℕ) → IsSivTooLong additional text
+        ↔ ((2 ^ 36 < additional) ⊎ (2 ^ 36 < text)) }
 {}
 
-/// The most that a message of AES-GCM-SIV may have.
-pub fn siv_length_examples()
-    ensures longest { ¬ IsSivTooLong 68719476736 68719476736 }
-    ensures text_too_long { IsSivTooLong 0 68719476737 }
-    ensures additional_too_long { IsSivTooLong 68719476737 0 }
+/// What a wipe leaves: no key, and zeros in the place of what tags are made with.
+pub fn no_gcm_examples()
+    ensures length { no_gcm.key.length ≡ 0 }
+    ensures key { no_gcm.key ≡ no_key }
+    ensures multiples { no_gcm.multiples ≡ replicate (length no_gcm.multiples) (replicate 16 0) }
 {}
 
 /// Keeps a key, and encrypts a text in place under it and a nonce. Returns `KEY_LENGTH`,
@@ -87,6 +90,34 @@ pub fn set_key_and_seal(
     if kept != DONE {
         return kept;
     }
+    fotsgure_gcm_seal(gcm, nonce, additional, text, tag)
+}
+
+/// Keeps a key in a struct of the library of blocks, copies it, and encrypts a text in place under
+/// it and a nonce. Returns `KEY_LENGTH`, `NONCE_LENGTH` or `TOO_LONG`, the first of them that
+/// applies, and else `DONE`.
+pub fn set_key_of_and_seal(
+    aes: &mut Aes,
+    gcm: &mut Gcm,
+    key: &[u8],
+    nonce: &[u8],
+    additional: &[u8],
+    text: &mut [u8],
+    tag: &mut [u8; 16],
+) -> u32
+    ensures key_length { result ≡ KEY_LENGTH ↔ ¬ IsKeySize (length key.now) }
+    ensures done { result ≡ DONE ↔ IsKeySize (length key.now) × (IsNonceLength (length nonce.now)
+        × (IsHashedLength (length additional.now) × IsTextLength (length text.old))) }
+    ensures encrypted { result ≡ DONE → text.new
+        ≡ nist.text (fips.key_expansion key.now) nonce.now text.old }
+    ensures tag { result ≡ DONE
+        → tag.new ≡ nist.tag (fips.key_expansion key.now) nonce.now additional.now text.new }
+{
+    if !is_key_size(key.len()) {
+        return KEY_LENGTH;
+    }
+    aes.set(key);
+    fotsgure_gcm_set_key_of(gcm, aes);
     fotsgure_gcm_seal(gcm, nonce, additional, text, tag)
 }
 
