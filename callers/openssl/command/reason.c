@@ -54,9 +54,9 @@ static void print_unloaded(OSSL_LIB_CTX *library, const char *module, const char
     struct statvfs mount;
     ERR_clear_error();
     if (OSSL_PROVIDER_load(library, module)) {
-        CONF_modules_load_file_ex(library, file, NULL, CONF_MFLAGS_DEFAULT_SECTION);
-        ERR_peek_last_error_all(NULL, NULL, NULL, &data, &flags);
-        printf("OpenSSL reads %s and stops before the module: %s\n", file, data);
+        if (CONF_modules_load_file_ex(library, file, NULL, CONF_MFLAGS_DEFAULT_SECTION) <= 0)
+            ERR_peek_last_error_all(NULL, NULL, NULL, &data, &flags);
+        printf("OpenSSL reads %s and %s%s\n", file, *data ? "stops before the module: " : "doesn't load the module", data);
     } else if (!is_processor_served()) {
         printf("the processor lacks SSSE3 or SSE4.2\n");
     } else if (statvfs(module, &mount) == 0 && mount.f_flag & ST_NOEXEC) {
