@@ -134,7 +134,7 @@ static void *of_linux(const char *name)
 static uint64_t bound(const struct image *it, int library, const char *name)
 {
     void *found = library > 0 && library <= it->library_count ? export_of(it->libraries[library - 1], name) :
-        of_linux(name + (*name == '_'));
+                                                                of_linux(name + (*name == '_'));
     if (!found)
         fail("nothing is called", name);
     return (uint64_t)found;
@@ -212,16 +212,16 @@ static void map_segments(struct image *it)
     uint64_t highest = 0;
     it->lowest = UINT64_MAX;
     for (const uint32_t *command = NULL; (command = next_command(it, command));) {
-        if (command[0] != SEGMENT || command[15] == 0) /* __PAGEZERO may not be read */
-            it->segment_count += command[0] == SEGMENT;
-        else {
-            struct segment *one = &it->segments[it->segment_count++];
-            memcpy(one, command + 2, sizeof *one);
-            it->lowest = one->address < it->lowest ? one->address : it->lowest;
-            highest = one->address + one->size > highest ? one->address + one->size : highest;
-            if ((one->protection & WRITE) && (one->protection & EXECUTE))
-                fail("a segment is both writable and executable in", it->name);
-        }
+        if (command[0] != SEGMENT)
+            continue;
+        struct segment *one = &it->segments[it->segment_count++];
+        memcpy(one, command + 2, sizeof *one);
+        if (!one->protection) /* __PAGEZERO */
+            continue;
+        it->lowest = one->address < it->lowest ? one->address : it->lowest;
+        highest = one->address + one->size > highest ? one->address + one->size : highest;
+        if ((one->protection & WRITE) && (one->protection & EXECUTE))
+            fail("a segment is both writable and executable in", it->name);
     }
     it->base = mmap(NULL, highest - it->lowest, PROT_READ | PROT_WRITE, MAP_PRIVATE | MAP_ANONYMOUS, -1, 0);
     if (it->base == MAP_FAILED)
