@@ -133,8 +133,7 @@ static void *of_linux(const char *name)
 /* What a name stands for in the dylib of that number. Without a number, it is the system's. */
 static uint64_t bound(const struct image *it, int library, const char *name)
 {
-    void *found = library > 0 && library <= it->library_count ? export_of(it->libraries[library - 1], name) :
-                                                                of_linux(name + (*name == '_'));
+    void *found = library ? export_of(it->libraries[library - 1], name) : of_linux(name + (*name == '_'));
     if (!found)
         fail("nothing is called", name);
     return (uint64_t)found;
