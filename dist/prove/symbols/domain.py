@@ -162,7 +162,7 @@ class Domain(Forms, Products, Names):
         if not by or not self.symbolic(byte):
             return byte
         own = self.with_block[byte & SHAPE] == OWN
-        key = byte if own else -(byte >> 24), by  # (a place is negative there, so that it is no byte)
+        key = byte if own else byte & ~SHAPE, by  # (the place alone is no byte that depends on cells)
         if key not in self.moves:
             self.moves[key] = self.moved_bits(byte, by) if own else self.place_of(
                 tuple([moved_block(block >> 1, by) << 1 for block in self.places[byte >> 24]]))
