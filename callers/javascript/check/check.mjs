@@ -1,5 +1,25 @@
 // Known answers, and what must be refused: `check(fotsgure, node)` returns how many passed, and the names of those that failed. In node it
-// also compares with node's own crypto, which is `node`.
+// also compares with node's own crypto, which is `node`. Import it before the package: it finds the
+// package's memories.
+
+const instances = [];
+WebAssembly.Instance = class extends WebAssembly.Instance {
+  constructor(...words) {
+    super(...words);
+    instances.push(new WeakRef(this.exports.memory));
+  }
+};
+
+/** The memories of all instances that aren't garbage: those of Aes, AesGcm and AesGcmSiv first. */
+export const memories = () => instances.map((it) => it.deref()).filter((it) => it);
+
+/** Whether one of them has these bytes. */
+export const holds = (wanted) => memories().some(({ buffer }) => {
+  const all = new Uint8Array(buffer);
+  let at = all.indexOf(wanted[0]);
+  while (at >= 0 && !wanted.every((byte, i) => all[at + i] === byte)) at = all.indexOf(wanted[0], at + 1);
+  return at >= 0;
+});
 
 const bytes = (digits) => Uint8Array.from((digits.match(/../g) ?? []).map((it) => parseInt(it, 16)));
 const digits = (it) => [...it].map((byte) => byte.toString(16).padStart(2, "0")).join("");
@@ -73,12 +93,13 @@ function sealed(results, { FotsgureError }, Kind, cases) {
   for (const [key, nonce, text, data, wanted] of cases) {
     const it = new Kind(bytes(key)), made = it.seal(bytes(nonce), bytes(text), bytes(data));
     results.expect(`${Kind.name} ${wanted}`, digits(made) === wanted && digits(it.open(bytes(nonce), made, bytes(data))) === text);
-    const refused = (message, more = "") => results.expectThrown(`${Kind.name} refuses`, () => it.open(bytes(nonce), message, bytes(data + more)),
-      (thrown) => thrown instanceof FotsgureError && thrown.status === 6);
+    const refused = (message, more = "", number = bytes(nonce)) => results.expectThrown(`${Kind.name} refuses`,
+      () => it.open(number, message, bytes(data + more)), (thrown) => thrown instanceof FotsgureError && thrown.status === 6);
     for (const at of [0, made.length - 1, made.length - 16]) refused(made.map((byte, i) => byte ^ (i === at ? 1 : 0)));
     refused(made.subarray(1));
     refused(made, "00");
     refused(new Uint8Array(15));
+    for (const size of [0, nonce.length / 2 - 1, 13]) refused(made, "", new Uint8Array(size));
     it.wipe();
   }
 }
@@ -87,32 +108,69 @@ function arguments_(results, { Aes, AesGcm, AesGcmSiv, FotsgureError }) {
   const status = (number) => (it) => it instanceof FotsgureError && it.status === number;
   for (const Kind of [Aes, AesGcm, AesGcmSiv])
     for (const size of [0, 15, 17, 33, 64]) results.expectThrown("the length of a key", () => new Kind(new Uint8Array(size)), status(1));
-  results.expectThrown("24 bytes", () => new AesGcmSiv(new Uint8Array(24)), status(1));
+  const namesLengths = (it) => status(1)(it) && it.message === "a key of AesGcmSiv has 16 or 32 bytes";
+  results.expectThrown("24 bytes", () => new AesGcmSiv(new Uint8Array(24)), namesLengths);
   results.expectThrown("a nonce of 32 bytes", () => new AesGcmSiv(COUNTED).seal(COUNTED, COUNTED), (it) => it instanceof RangeError);
   results.expectThrown("an empty nonce", () => new AesGcm(COUNTED).seal(new Uint8Array(), COUNTED), status(3));
-  results.expectThrown("a string", () => new AesGcm(COUNTED).seal("nonce", COUNTED), (it) => it instanceof TypeError);
+  for (const call of ["seal", "open"])
+    results.expectThrown("a string", () => new AesGcm(COUNTED)[call]("nonce", COUNTED), (it) => it instanceof TypeError);
   results.expectThrown("17 bytes", () => new Aes(COUNTED).encryptBlocks(new Uint8Array(17)), (it) => it instanceof RangeError);
 }
 
-function memory(results, { AesGcm }) {
-  const nonce = COUNTED.subarray(0, 12), keys = Array.from({ length: 200 }, (_, i) => new AesGcm(COUNTED.map((byte) => byte + i)));
-  const made = keys.map((it) => digits(it.seal(nonce, COUNTED)));
-  const long = new Uint8Array(3e6).fill(7);
-  results.expect("3 MB", keys[5].open(nonce, keys[5].seal(nonce, long)).every((byte) => byte === 7));
-  results.expect("200 keys", new Set(made).size === 200 && keys.every((it, i) => digits(it.seal(nonce, COUNTED)) === made[i]));
+// The names that a key has, also in its classes.
+const names = (it) => (it === Object.prototype ? [] : [...Reflect.ownKeys(it), ...names(Object.getPrototypeOf(it))]);
+
+/** Nothing that can be reached from a key leads to its bytes: it has no property, and its classes have these calls alone. */
+function secrecy(results, { Aes, AesGcm, AesGcmSiv }) {
+  const calls = ["wipe", "toJSON", "constructor", "encryptBlocks", "decryptBlocks", "seal", "open"];
+  for (const Kind of [Aes, AesGcm, AesGcmSiv]) {
+    const key = new Kind(COUNTED);
+    results.expect(`names of ${Kind.name}`, names(key).every((it) => typeof it === "symbol" || calls.includes(it)) && !Reflect.ownKeys(key).length);
+    results.expect(`JSON of ${Kind.name}`, JSON.stringify({ context: { key } }) === '{"context":{"key":{}}}');
+    results.expect(`a clone of ${Kind.name}`, !Reflect.ownKeys(structuredClone(key)).length && !Reflect.ownKeys({ ...key }).length);
+  }
+  const derived = new (class extends AesGcm {
+    bytes = COUNTED;
+  })(COUNTED);
+  results.expect("JSON of a derived class", JSON.stringify(derived) === "{}");
 }
 
+function memory(results, { Aes, AesGcm, AesGcmSiv }) {
+  const nonce = COUNTED.subarray(0, 12), keys = Array.from({ length: 200 }, (_, i) => new AesGcm(COUNTED.map((byte) => byte + i)));
+  const made = keys.map((it) => digits(it.seal(nonce, COUNTED)));
+  results.expect("200 keys", new Set(made).size === 200 && keys.every((it, i) => digits(it.seal(nonce, COUNTED)) === made[i]));
+
+  const sizes = () => memories().slice(0, 3).map((it) => it.buffer.byteLength).join(), before = sizes();
+  const secret = COUNTED.map((byte) => 251 - 7 * byte), text = new Uint8Array(3e6 + 16).map((_, i) => i % 239);
+  for (const Kind of [Aes, AesGcm, AesGcmSiv]) {
+    const key = new Kind(secret), [there, back] = Kind === Aes ? ["encryptBlocks", "decryptBlocks"] : ["seal", "open"];
+    const words = (it) => (Kind === Aes ? [it] : [nonce, it, text]), changed = key[there](...words(text));
+    results.expect(`3 MB by ${Kind.name}`, key[back](...words(changed)).every((byte, i) => byte === text[i]));
+    changed[2e6] ^= 1;
+    if (Kind !== Aes) results.expectThrown(`3 MB by ${Kind.name}`, () => key.open(...words(changed)), (it) => it.status === 6);
+    results.expect(`texts of ${Kind.name} are wiped`, !holds(text.subarray(1000, 1032)) && !holds(text.subarray(2e6, 2e6 + 32)));
+    results.expect(`a key of ${Kind.name} is kept`, holds(secret.subarray(0, 16)));
+    Symbol.dispose ? key[Symbol.dispose]() : key.wipe();
+    key.wipe();
+    results.expect(`a key of ${Kind.name} is wiped`, !holds(secret.subarray(0, 16)));
+  }
+  results.expect("no memory grew", sizes() === before);
+}
+
+// Lengths at which a call for a whole message gets one for pieces, and pieces end.
+const LONG = [65535, 65536, 65552, 65568, 65600, 65616, 131072, 131073, 200000];
+
 function compareWithNode(results, { Aes, AesGcm }, node) {
-  for (let i = 0; i < 400; i++) {
-    const key = node.randomBytes([16, 24, 32][i % 3]), nonce = node.randomBytes(1 + (i % 40));
-    const data = node.randomBytes(i % 53), text = node.randomBytes((i * i) % 1200), whole = text.subarray(0, text.length & -16);
-    const gcm = node.createCipheriv(`aes-${key.length * 8}-gcm`, key, nonce);
+  for (let i = 0; i < 400 + LONG.length; i++) {
+    const key = node.randomBytes([16, 24, 32][i % 3]), nonce = node.randomBytes(1 + (i % 40)), long = LONG[i - 400];
+    const data = node.randomBytes(i % 2 && long ? long : i % 53), text = node.randomBytes(long ?? (i * i) % 1200);
+    const gcm = node.createCipheriv(`aes-${key.length * 8}-gcm`, key, nonce), whole = text.subarray(0, text.length & -16);
     gcm.setAAD(data);
     const theirs = Buffer.concat([gcm.update(text), gcm.final(), gcm.getAuthTag()]), ours = new AesGcm(key), aes = new Aes(key);
-    results.expect(`GCM as node's ${i}`, digits(ours.seal(nonce, text, data)) === digits(theirs) && digits(ours.open(nonce, theirs, data)) === digits(text));
+    results.expect(`GCM as node's ${i}`, theirs.equals(ours.seal(nonce, text, data)) && text.equals(ours.open(nonce, theirs, data)));
     const ecb = node.createCipheriv(`aes-${key.length * 8}-ecb`, key, null);
     ecb.setAutoPadding(false);
-    results.expect(`blocks as node's ${i}`, digits(aes.encryptBlocks(whole)) === digits(Buffer.concat([ecb.update(whole), ecb.final()])));
+    results.expect(`blocks as node's ${i}`, Buffer.concat([ecb.update(whole), ecb.final()]).equals(aes.encryptBlocks(whole)));
     ours.wipe();
     aes.wipe();
   }
@@ -124,6 +182,7 @@ export function check(fotsgure, node) {
   sealed(results, fotsgure, fotsgure.AesGcm, GCM);
   sealed(results, fotsgure, fotsgure.AesGcmSiv, SIV);
   arguments_(results, fotsgure);
+  secrecy(results, fotsgure);
   memory(results, fotsgure);
   if (node) compareWithNode(results, fotsgure, node);
   return results;
