@@ -33,8 +33,8 @@ Call = Tuple[str, List[Any], Optional[type]]
 
 def by_pip(file: str) -> Optional[str]:
     """A library that pip put beside this file, or, if this is the clone's folder, into the package that pip installed."""
-    places = [pathlib.Path(__file__).parent, *(pathlib.Path(it, "fotsgure") for it in sys.path)]
-    return next((str(it / file) for it in places if (it / file).exists()), None)
+    places = [pathlib.Path(__file__).with_name(file), *(pathlib.Path(it, "fotsgure", file) for it in sys.path)]
+    return next((str(it) for it in places if os.path.exists(it)), None)  # Path.exists raises for a folder that can't be read
 
 
 def load(name: str, version: int, calls: Iterable[Call]) -> ctypes.CDLL:
