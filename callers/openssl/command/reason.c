@@ -10,6 +10,10 @@
 #include <string.h>
 #include <sys/statvfs.h>
 
+#ifndef ST_NOEXEC /* on macOS */
+#define ST_NOEXEC 0
+#endif
+
 /* Prints the first file that OpenSSL couldn't open, as in its error "calling stat(PATH)". Returns 0 if there was none. */
 static int print_unopened(const char *file)
 {

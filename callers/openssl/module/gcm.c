@@ -2,14 +2,22 @@
  * library. */
 #include "provider.h"
 
+#ifdef __APPLE__
+#include <CommonCrypto/CommonRandom.h>
+#else
 #include <sys/random.h>
+#endif
 
 #define EXPLICIT 8 /* the part of a nonce that such a record carries (RFC 5288, 3), and that is counted */
 #define SALT 4     /* the part that it doesn't */
 
 static int draw(byte *to, size_t count)
 {
+#ifdef __APPLE__
+    return CCRandomGenerateBytes(to, count) == kCCSuccess;
+#else
     return getrandom(to, count, 0) == (ssize_t)count;
+#endif
 }
 
 /* Begins the message when the first of it comes. If no nonce was given it draws one (SP 800-38D, 8.2.2), as OpenSSL

@@ -4,6 +4,7 @@
 #ifndef _DEFAULT_SOURCE /* explicit_bzero, getrandom */
 #define _DEFAULT_SOURCE
 #endif
+#define __STDC_WANT_LIB_EXT1__ 1 /* memset_s, on macOS */
 #include <fotsgure_aes.h>
 #include <fotsgure_gcm.h>
 
@@ -13,6 +14,10 @@
 #include <openssl/prov_ssl.h>
 #include <openssl/proverr.h>
 #include <string.h>
+
+#ifdef __APPLE__
+#define explicit_bzero(at, count) memset_s(at, count, 0, count)
+#endif
 
 /* What the tests count of the calls that the module serves: count.h. */
 enum event { CONTEXTS_MADE, KEYS_SET, BYTES_OF_TEXT, BYTES_OF_ADDITIONAL_DATA };

@@ -60,6 +60,11 @@ int CCRandomGenerateBytes(void *bytes, size_t count)
     return getrandom(bytes, count, 0) == (ssize_t)count ? 0 : -1;
 }
 
+int memset_s(void *bytes, size_t room, int byte, size_t count)
+{
+    return !memset(bytes, byte, count < room ? count : room);
+}
+
 uintptr_t __stack_chk_guard = 0x5bd1e995;
 
 unsigned features_of_processor(void)
