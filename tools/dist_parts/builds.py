@@ -25,6 +25,7 @@ WORDS_OF_64 = (
 # four words, and is multiplied by such products.
 OF_PRODUCTS = (
     ("src/form.rt", "GhashRoom = gcm::SubkeyRoom;\n", "GhashRoom = gcm::SubkeyWordsRoom;\n"),
+    ("src/form.rt", "no_room ≡ replicate 1 (replicate 16 0)", "no_room ≡ replicate 4 0"),
     ("specs/Form.antt", "{subkey_alone, IsAlone}\n", "{subkey_of_words, AreSubkeyWords}\n"),
     ("specs/Form.antt", "List (List ℕ)\nno_room = replicate 1 (replicate 16 0)\n", "List ℕ\nno_room = replicate 4 0\n"),
     ("specs/Form.antt", "List (List ℕ) → Type 0\nIsRoom = IsAlone\n", "List ℕ → Type 0\nIsRoom = AreSubkeyWords\n"),

@@ -11,6 +11,7 @@ ghost use Rattle.aes_planes.specs.Words.{word_bits};
 ghost use Rattle.aes_cipher.specs.KeySizes.{IsKeySize};
 ghost use Rattle.aes_soft.specs.Stored.{full, key_of_planes, words_for, IsSchedule};
 ghost use Rattle.aes_narrow.specs.KeptKey.{key_in, no_key, words_in, HoldsKey, IsZeroAfter};
+ghost use Rattle.aes_narrow.specs.KeptWord.{kept_bits, kept_blocks};
 ghost use Rattle.aes_narrow.specs.declared.kept_key.KeptKey.{KeptKey};
 
 use aes_planes::examples::key_expansion_128;
@@ -45,12 +46,13 @@ pub fn count_examples()
 {}
 
 /// How a struct is read: it holds a key if its length is that of one. The words of the round keys
-/// come first, as planes of two blocks in words of 32 bits.
+/// come first, as planes in words of the build.
 pub fn struct_rules()
     ensures holds { (kept : KeptKey) → HoldsKey kept ↔ IsKeySize kept.length }
     ensures words { (kept : KeptKey)
         → words_in kept ≡ take (words_for kept.length) kept.round_keys }
-    ensures key { (kept : KeptKey) → key_in kept ≡ key_of_planes (word_bits 32) 2 (words_in kept) }
+    ensures key { (kept : KeptKey)
+        → key_in kept ≡ key_of_planes kept_bits kept_blocks (words_in kept) }
 {}
 
 /// Each word after those of a key is zero. A key of 32 bytes leaves no word over.

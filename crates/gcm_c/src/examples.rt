@@ -2,13 +2,13 @@
 //! prover refuses a mistake in a constant or a definition. The last three calls say what a text is
 //! encrypted to under the bytes of a key. The others have no effect.
 
-ghost use Rattle.std.specs.Prelude.{◌≡◌, ◌↔◌, ◌⊎◌, ℕ, ◌*◌, ◌^◌, ◌<◌, ◌≤◌, length, replicate};
+ghost use Rattle.std.specs.Prelude.{◌≡◌, ◌↔◌, ◌⊎◌, ℕ, ◌*◌, ◌^◌, ◌<◌, ◌≤◌, length};
 ghost use Rattle.aes_planes.specs.Fips197 as fips;
 ghost use Rattle.aes_cipher.specs.KeySizes.{IsKeySize};
 ghost use Rattle.gcm.specs.Gcm as nist;
 ghost use Rattle.gcm.specs.Gcm.{IsHashedLength, IsTextLength, IsTooLong};
 ghost use Rattle.gcm_siv.specs.GcmSiv as rfc;
-ghost use Rattle.gcm_c.specs.Form.{no_key};
+ghost use Rattle.gcm_c.specs.Form.{no_key, no_room};
 ghost use Rattle.gcm_c.specs.Kept.{no_gcm, IsNonceLength};
 ghost use Rattle.gcm_c.specs.Siv.{IsSivLength, IsSivTooLong};
 
@@ -56,11 +56,11 @@ pub fn length_rules()
         ↔ ((2 ^ 36 < additional) ⊎ (2 ^ 36 < text)) }
 {}
 
-/// What a wipe leaves: no key, and zeros in the place of what tags are made with.
+/// What a wipe leaves: no key, and nothing of what tags are made with (`form::no_room_example`).
 pub fn no_gcm_examples()
     ensures length { no_gcm.key.length ≡ 0 }
     ensures key { no_gcm.key ≡ no_key }
-    ensures multiples { no_gcm.multiples ≡ replicate (length no_gcm.multiples) (replicate 16 0) }
+    ensures multiples { no_gcm.multiples ≡ no_room }
 {}
 
 /// Keeps a key, and encrypts a text in place under it and a nonce. Returns `KEY_LENGTH`,

@@ -12,13 +12,14 @@
 //!   `put_key_of(aes, kept)` writes that key to `kept`, and reads nothing of what was there.
 //! - `cipher_of(kept)` lends the key of a struct that holds one as a cipher, which is a
 //!   `BuildCipher`.
-//! - `GhashRoom` is room for what makes the tags of GCM. It is a `HashRoom`.
+//! - `GhashRoom` is room for what makes the tags of GCM. It is a `HashRoom`. `no_room_example` says
+//!   what it is if it holds nothing.
 //! - `ShortRoom` and `LongRoom` are room for what makes the tag of a message of AES-GCM-SIV, of a
 //!   short one and of a longer one. Each is a `PolyvalRoom`.
 //! - The head of `specs/Form.antt` says what the names of that file stand for.
 
-ghost use Rattle.std.specs.Prelude.{◌≡◌, ◌↔◌, length, IsTrue};
-ghost use Rattle.gcm_c.specs.Form.{key_in, key_of, HoldsKey, IsKept};
+ghost use Rattle.std.specs.Prelude.{◌≡◌, ◌↔◌, length, replicate, IsTrue};
+ghost use Rattle.gcm_c.specs.Form.{key_in, key_of, no_room, HoldsKey, IsKept};
 
 use crate::width::BuildWidth;
 use aes_cipher::cipher::Encrypt;
@@ -47,6 +48,11 @@ const _: () = prove!(size_of::<KeptKey>() == 244);
 const _: () = prove!(size_of::<GhashRoom>() == 1536);
 
 const _: () = prove!(size_of::<Aes>() == 484);
+
+/// No effect; states what room is that holds nothing.
+pub fn no_room_example()
+    ensures { no_room ≡ replicate 96 (replicate 16 0) }
+{}
 
 /// Returns whether a struct of the library of blocks holds a key.
 #[inline(always)]
