@@ -21,7 +21,7 @@ static void wipe(void *bytes, size_t length)
 }
 
 /* BearSSL's functions return nothing. A key of another length than 16, 24 or 32 bytes is a mistake in the program: then there is no key,
- * and zeros take the place of the data, so that no plain text is sent. */
+ * and zeros replace the data, so that no plain text is sent. */
 static void done(enum fotsgure_aes_status status, void *data, size_t length)
 {
     if (status != FOTSGURE_AES_DONE)

@@ -120,7 +120,7 @@ static int fail(mbedtls_ccm_context *ctx)
     return MBEDTLS_ERR_CCM_BAD_INPUT;
 }
 
-/* Encrypts the block into the chain. What hasn't come of it is zeros. */
+/* Encrypts the block into the chain. Its bytes that haven't come are zeros. */
 static int absorb_block(mbedtls_ccm_context *ctx)
 {
     const int failed = result(fotsgure_aes_cbc_encrypt(&ctx->aes, &ctx->mac, ctx->block, 1));
@@ -129,7 +129,7 @@ static int absorb_block(mbedtls_ccm_context *ctx)
     return failed;
 }
 
-/* Takes bytes into the chain. `last` says that they end the additional data or the text, which zeros fill up to a whole block. */
+/* Adds bytes to the chain. `last` says that they end the additional data or the text; zeros follow up to a whole block. */
 static int absorb(mbedtls_ccm_context *ctx, const unsigned char *bytes, size_t length, int last)
 {
     int failed = 0;

@@ -2,7 +2,7 @@
  *
  * Everything is done by proved calls. mbedtls_gcm_finish gives out the tag of a message that was decrypted in pieces, so that the caller
  * compares it. No call of the library gives out such a tag. So while a message in pieces is decrypted, a copy of the text is encrypted
- * again for the tag, which takes twice the time. mbedtls_gcm_auth_decrypt, which TLS calls, compares the tag before it decrypts. */
+ * again for the tag, which needs twice the time. mbedtls_gcm_auth_decrypt, which TLS calls, compares the tag before it decrypts. */
 #include "glue.h"
 
 #if defined(MBEDTLS_GCM_C) && defined(MBEDTLS_GCM_ALT)

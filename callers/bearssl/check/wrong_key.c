@@ -1,4 +1,4 @@
-/* A key of a wrong length encrypts nothing: zeros take the place of the text, in counter mode and in CBC. */
+/* A key of a wrong length encrypts nothing: zeros replace the text, in counter mode and in CBC. */
 #include <string.h>
 #include "fotsgure_bearssl.h"
 
