@@ -50,7 +50,7 @@ part() { # COMMAND ..
     echo "== $*"
     "$@" 2>&1 | tee "$work/part" || status=$?
     cat "$work/part" >> "$work/parts"
-    if [[ $(tail -n 1 "$work/part") =~ ^([0-9]+)\ (passed|proved|refused),\ ([0-9]+)\ (failed|missed)$ ]]; then
+    if [[ $(tail -n 1 "$work/part") =~ ^([0-9]+)\ (passed|proved|refused),\ ([0-9]+)\ (failed|missed)(\;.*)?$ ]]; then
         passed=$((passed + BASH_REMATCH[1])) failed=$((failed + BASH_REMATCH[3]))
         [[ ${BASH_REMATCH[3]} -eq 0 ]] || what_failed "${BASH_REMATCH[3]}" >> "$work/failures"
         [[ $status -eq 0 || ${BASH_REMATCH[3]} -gt 0 ]] && return

@@ -6,6 +6,7 @@ A fault is refused if the case that it names is not proved any more. That is a c
 every length, it is one of PROVE=all. A fault for which a build has no place counts as missed. Any other failure ends the controls:
 one of gcc or ld, a case that isn't there, or a planted instruction that isn't covered, unless that is the fault."""
 import argparse
+import functools
 import re
 import shutil
 import sys
@@ -15,6 +16,7 @@ from cases import LIBRARIES, statements
 from covered import uncovered, uncovered_record
 from covered.code_places import Places
 from covered.noted import joined_coverage
+from kept import sum_of_program
 from linked.builds import BUILDS, source, takes_few
 from linked.directives import refuse_lines
 from linked.linking import assemble
@@ -24,11 +26,12 @@ from machines.processors import MEANINGS, PROCESSORS
 from planted.faults import BUILDS_WITH_FAULTS, faults_of, is_unreached
 from planted.wrong_files import WRONG_FILES
 from planted.wrong_states import BUILD, CASE, WRONG_STATES
-from prove import cases_of_files, options_of
+from prove import cases_of_files, last_line, options_of
 from statements.headers import parameters_of
 from symbols.bits import Unproved
 from tasks import pool_of
 
+KEPT = "kept: "  # how the words on a fault begin that an earlier run refused
 EVERY_LENGTH = "every_"  # how the names of cases begin that prove every length, or every pair of lengths
 
 
@@ -41,6 +44,17 @@ def verdict(what, attempt, reason=""):
             raise SystemExit("controls: %s: %s" % (what, e)) from None
         return True, "refused: %s: %s" % (what, str(e)[:160])
     return False, "MISSED: " + what
+
+
+def kept_verdict(kept, name, attempt):
+    """Gives the verdict of this name that an earlier run kept, or that of an attempt. Keeps it if that is refused."""
+    words = kept.of(name)
+    if words:
+        return True, KEPT + words
+    refused, words = attempt()
+    if refused:
+        kept.keep(name, words)
+    return refused, words
 
 
 def edited_assembly(assembly, fault):
@@ -87,15 +101,26 @@ class Planted:
 
     def __init__(self, options, build, task, key_size=16):
         self.build, self.out = build, "%s/%s_%s" % (options.out, task, build.replace("/", "_"))
+        self.dist, self.library = options.dist, build.split("/")[1][:3]
         self.assembly = open(source(options.dist, build)).read()
-        self.keyed = LIBRARIES[build.split("/")[1][:3]][0](assemble(build, source(options.dist, build), self.out), key_size)
-        self.keyed.set_key()
-        self.parameters = parameters_of(options.dist, self.keyed.library)
-        self.cases = {**self.cases_of(options.dist, "all" if takes_few(build) else "builds"),
-                      **self.cases_of(options.dist, "all", EVERY_LENGTH), "set_key": None}
+        self.keyed = LIBRARIES[self.library][0](assemble(build, source(options.dist, build), self.out), key_size)
+        self.unchanged = sum_of_program(self.keyed.program)
+        self.parameters = parameters_of(options.dist, self.library)
 
-    def cases_of(self, dist, level, only=""):
-        return dict(statements(self.keyed, argparse.Namespace(dist=dist, level=level, only=only), 0, 1))
+    @functools.cached_property
+    def cases(self):
+        """Gives the cases, for the keys that set_key stores. `find` needs them before there is a fault to be refused."""
+        self.keyed.set_key()
+        return {**self.cases_of("all" if takes_few(self.build) else "builds"), **self.cases_of("all", EVERY_LENGTH),
+                "set_key": None}
+
+    def find(self, cases):
+        """Ends the controls if the build lacks one of these cases."""
+        if not {*cases} <= self.cases.keys():
+            raise SystemExit("controls: %s: no such case: %s" % (self.build, ", ".join(cases)))
+
+    def cases_of(self, level, only=""):
+        return dict(statements(self.keyed, argparse.Namespace(dist=self.dist, level=level, only=only), 0, 1))
 
     def prove_cases(self, assembly, cases):
         """Proves these cases of the build with this assembly."""
@@ -116,12 +141,19 @@ class Planted:
         self.prove_cases(assembly, cases)
         return uncovered_of(self.keyed.program, function)
 
-    def try_fault(self, fault):
-        """Gives the verdict on a fault. The case that the fault names has to refuse it, or its cases have to leave it uncovered."""
+    def try_fault(self, fault, kept):
+        """Gives the verdict on a fault."""
         changed, line = edited_assembly(self.assembly, fault)
         if changed in (None, self.assembly):
             return False, "MISSED: %s (%s): there is no such place, or nothing changes" % (fault.what, self.build)
+        name = kept.name("fault", self.build, self.keyed.key_size, self.unchanged, changed, fault.what, fault.label,
+                         fault.cases(), is_unreached(fault, self.build))
+        return kept_verdict(kept, name, lambda: self.verdict_of_cases(fault, changed, line))
+
+    def verdict_of_cases(self, fault, changed, line):
+        """Gives the verdict on a fault. Its case has to refuse it, or its cases have to leave it uncovered."""
         what, cases = "%s (%s.s:%d, %s)" % (fault.what, self.build, line, fault.case), fault.cases()
+        self.find(cases)
         if not is_unreached(fault, self.build):
             return verdict(what, lambda: self.prove_cases(changed, cases))
         usual = self.left_by(self.assembly, cases, fault.label)
@@ -132,10 +164,7 @@ def try_faults(options, build):
     """Tries the faults of one build."""
     faults = [fault for fault in faults_of(build) if options.only in fault.what]
     planted = {size: Planted(options, build, "faults", size) for size in {fault.key_size for fault in faults}}
-    for fault in faults:
-        if not {*fault.cases()} <= planted[fault.key_size].cases.keys():
-            raise SystemExit("controls: %s: no such case: %s" % (fault.what, fault.case))
-    return [planted[fault.key_size].try_fault(fault) for fault in faults]
+    return [planted[fault.key_size].try_fault(fault, options.kept) for fault in faults]
 
 
 def try_wrong_states(options, build):
@@ -148,9 +177,14 @@ def try_wrong_states(options, build):
             wrongly(state)
             return state
         return guess
+
+    def attempt():
+        planted.find([CASE])
+        return verdict("a state with " + what, lambda: planted.prove_cases(planted.assembly, [CASE]))
     for what, wrongly in WRONG_STATES:
         joints.Joint.forgetful = guessed(wrongly)
-        verdicts.append(verdict("a state with " + what, lambda: planted.prove_cases(planted.assembly, [CASE])))
+        name = options.kept.name("state", planted.unchanged, what, CASE)
+        verdicts.append(kept_verdict(options.kept, name, attempt))
     joints.Joint.forgetful = right
     return verdicts
 
@@ -173,6 +207,7 @@ def try_wrong_files(options, wrong):
             raise Unproved(", ".join(faults))
         if wrong.case:
             planted = Planted(these, wrong.build, "headers")
+            planted.find([wrong.case])
             planted.prove_cases(planted.assembly, [wrong.case])
     what = "%s (%s, %s)" % (wrong.what, wrong.file, wrong.build)
     return [verdict(what, attempt) if changed != text else (False, "MISSED: %s: there is no such place" % what)]
@@ -218,6 +253,7 @@ def try_wrong_meanings(options, machine):
     tried, verdicts = {*WITHOUT_EFFECT, *NEVER_ALONE}, []
     for build in (b for b in options.builds if BUILDS[b] is machine):
         program, forms = assemble(build, source(options.dist, build), "%s/wrong_%s" % (options.out, build.replace("/", "_"))), {}
+        unchanged = sum_of_program(program)
         for address in program.lines:
             try:
                 instruction = program.instruction_at(address)
@@ -228,14 +264,16 @@ def try_wrong_meanings(options, machine):
                 program.cache[address] = instruction._replace(run=wrong_meaning(instruction.run))
         for name in sorted(forms):
             what = "%s of %s with another meaning" % (name, build)
-            verdicts.append(verdict(what, lambda: compare_all(program, forms[name]), "differs"))
+            of_kept = options.kept.name("meaning", unchanged, build, forms[name])
+            verdicts.append(kept_verdict(options.kept, of_kept, lambda: verdict(
+                what, lambda: compare_all(program, forms[name]), "differs")))
         tried.update(forms)
     return verdicts
 
 
 def main():
     options = options_of(__doc__, "builds")
-    refused, missed = 0, 0
+    refused, missed, kept = 0, 0, 0
     tries = [(try_faults, build) for build in BUILDS_WITH_FAULTS if build in options.builds]
     if not options.only:
         tries += [(try_wrong_states, BUILD)] * (BUILD in options.builds)
@@ -245,8 +283,8 @@ def main():
         for tried in [pool.submit(function, options, of) for function, of in tries]:
             for good, message in tried.result():
                 print(message, flush=True)
-                refused, missed = refused + good, missed + (not good)
-    print("%d refused, %d missed" % (refused, missed))
+                refused, missed, kept = refused + good, missed + (not good), kept + message.startswith(KEPT)
+    print(last_line("%d refused, %d missed" % (refused, missed), kept, options.left_out))
     return missed != 0
 
 

@@ -8,6 +8,7 @@ import sys
 import time
 
 from covered.report import judge_again, keep_coverage, print_what_ran
+from kept import Kept
 from linked.builds import BUILDS, KEY_SIZES, MACHINES, assembly_of, library_of
 from linked.linking import PROVE_FOLDER, Built, built_cases, rust_cases
 from linked.refusals import line_cases
@@ -49,7 +50,8 @@ def options_of(description, level=os.environ.get("PROVE", "")):
     parser.add_argument("--only", default="", help="calls, or faults, that have this in their name")
     parser.add_argument("--record", action="store_true", help="with the level builds: writes what stays uncovered into uncovered.tsv")
     parser.add_argument("--again", action="store_true", help="judges, or records, what the last run below --out covered; proves nothing")
-    parser.add_argument("--lines", action="store_true", help="a line for each case")
+    parser.add_argument("--anew", action="store_true", help="uses nothing that earlier runs proved")
+    parser.add_argument("--lines", action="store_true", help="a line for each case, which is proved anew")
     parser.add_argument("--jobs", type=int, default=os.cpu_count())
     options = parser.parse_args()
     os.makedirs(options.out, exist_ok=True)
@@ -65,8 +67,15 @@ def options_of(description, level=os.environ.get("PROVE", "")):
     if options.record and (options.only or options.keys != KEY_SIZES or of_same_files != {*options.builds}):
         parser.error("only whole assembly files are recorded: all cases, all keys, and siv together with gcm")
     print_what_is_missing({BUILDS[build]: None for build in options.builds})
-    options.builds = [build for build in options.builds if not missing(BUILDS[build])]
+    all_builds, options.kept = options.builds, Kept(options.dist, options.anew)
+    options.builds = [build for build in all_builds if not missing(BUILDS[build])]
+    options.left_out = len(all_builds) - len(options.builds)
     return options
+
+
+def last_line(counts, kept, left_out):
+    """Gives the last line of a run: what it counted, and what it didn't prove itself."""
+    return "%s; %d of these kept from earlier runs; %d builds left out for missing tools" % (counts, kept, left_out)
 
 
 def libraries_of(options):
@@ -124,11 +133,12 @@ def main():
     vectors = pinned(Domain())
     proved, failed = print_cases(cases_of_files(options))
     with pool_of(options.jobs, max_tasks_per_child=1) as pool:
-        for task in run_all(pool, options):
-            print("%s: %d proved, %d failed, %.0f s" % (task.name, task.proved, task.failed, task.seconds), flush=True)
+        for task, left in run_all(pool, options):
+            took = "kept" if task.is_kept else "%.0f s" % task.seconds
+            print("%s: %d proved, %d failed, %s (%s)" % (task.name, task.proved, task.failed, took, left), flush=True)
             proved, failed, vectors = proved + task.proved, failed + task.failed, vectors + task.vectors
             tasks.append(task)
-        forms, lacking, differed = compare_forms(pool, tasks)
+        forms, lacking, differed = compare_forms(pool, tasks, options.kept)
     keep_coverage(tasks, options)
     alike, unlike = print_cases(kept_cases(tasks))
     proved, failed = proved + alike, failed + unlike + differed + print_what_ran(tasks, options)
@@ -140,7 +150,8 @@ def main():
         print("NOT PROVED: there is no such case, or no such build here")
         failed += 1
     print("%d vectors of the standards; %.0f s" % (vectors, time.time() - start))
-    print("%d proved, %d failed" % (proved, failed))
+    kept = sum(task.proved for task in tasks if task.is_kept)
+    print(last_line("%d proved, %d failed" % (proved, failed), kept, options.left_out))
     return failed != 0
 
 

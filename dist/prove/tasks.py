@@ -5,6 +5,7 @@ import gc
 import time
 
 from cases import FIRST, LIBRARIES, statements
+from kept import sum_of, sum_of_program
 from linked.builds import BUILDS, is_windows, narrow_word, takes_few
 from linked.linking import program_of
 from linked.program import Program
@@ -16,6 +17,8 @@ from statements.vectors import check_vectors
 from symbols.bits import Unproved
 
 SEED = 1
+FORMS_IN_A_MINUTE = 500  # that a processor compares
+RESULTS = "proved", "failed", "vectors", "used", "compared", "calls", "kept_key", "covered"  # what is kept of a Task
 
 # Calls that also run on the processor: by default, with builds of few lengths, on RISC-V, and with all lengths.
 BESIDE = "blocks encrypt 17", "add_keystream 21 11 1", "seal 13 33"
@@ -32,6 +35,8 @@ class Task:
         used              {form of an instruction: where it ran}
         compared          the forms that ran on the processor, in whole calls
         calls             the names of the calls that cases prove
+        program           the sum of the linked program, in names of results (kept.py)
+        is_kept           whether an earlier run proved it
         kept_key          how set_key stores keys; and `covered`: what the cases cover. They are None until all cases have run"""
 
     def __init__(self, options, build, key_size, part, parts):
@@ -45,17 +50,33 @@ class Task:
         self.used = {}
         self.compared, self.calls = set(), set()
         self.kept_key, self.covered = None, None
+        self.program, self.is_kept = None, False
 
     def run(self):
-        """Proves all cases of the task, and gives the task."""
-        start = time.process_time()
+        """Proves all cases of the task, if their result isn't kept, and gives the task."""
+        start, kept = time.process_time(), self.options.kept
         try:
-            self.prove_all(program_of(self.build, self.options.objects[self.build], self.path))
+            program = program_of(self.build, self.options.objects[self.build], self.path)
+            self.program = sum_of_program(program)
+            name = kept.name(self.build, self.program, self.key_size, self.part, self.parts, self.beside(),
+                             self.options.level, self.options.only)
+            result = None if self.options.lines else kept.of(name)
+            if result:
+                self.is_kept = True
+                vars(self).update(zip(RESULTS, result))
+            else:
+                self.prove_all(program)
+                if not self.failed:
+                    kept.keep(name, [getattr(self, it) for it in RESULTS])
         except Unproved as e:
             print("%s: NOT PROVED: %s" % (self.name, e), flush=True)
             self.failed += 1
         self.seconds = time.process_time() - start
         return self
+
+    def of_seconds(self):
+        """Gives the name by which the seconds of the last run are kept."""
+        return sum_of("seconds", self.name, self.options.level, self.options.only)
 
     def prove_all(self, program):
         """Proves set_key, and then all statements for the keys that it stores."""
@@ -118,14 +139,28 @@ def parts_of(level, build, size):
 
 
 def run_all(pool, options):
-    """Runs all tasks, the longest first, and gives each one when it has run."""
+    """Runs all tasks, the longest first. Gives each one when it has run, and a text about those that are left."""
     tasks = [Task(options, build, size, part, parts) for size in options.keys for build in options.builds
              if (size != 24 or "siv" not in build) and (size == 16 or options.level == "all" or not takes_few(build))
              for parts in [parts_of(options.level, build, size)] for part in range(parts)]
     if options.level == "all":
         tasks.sort(key=lambda task: task.build not in FIRST)  # (with each size of key)
+    seconds = {task.name: options.kept.read(task.of_seconds()) for task in tasks}
+    left = {*seconds}
     for future in concurrent.futures.as_completed([pool.submit(task.run) for task in tasks]):
-        yield future.result()
+        task = future.result()
+        left.remove(task.name)
+        if not task.is_kept:
+            seconds[task.name] = task.seconds
+            options.kept.keep(task.of_seconds(), task.seconds)
+        yield task, "%d of %d%s" % (len(tasks) - len(left), len(tasks), expected(seconds, left))
+
+
+def expected(seconds, left):
+    """Says how long these tasks take at most, if any task has been timed. One that hasn't counts as their mean."""
+    timed = [it for it in seconds.values() if it]
+    total = sum(seconds[name] or sum(timed) / len(timed) for name in left) if timed else 0
+    return "; at most some %d processor min left" % -(-total // 60) if total else ""
 
 
 def compare_each_form(path, machine, used):
@@ -136,9 +171,9 @@ def compare_each_form(path, machine, used):
         return set(used), str(e)
 
 
-def compare_forms(pool, tasks):
-    """Compares each form of an instruction that was used. Gives how many there are, (machine, form) of those that weren't confirmed, and
-    how often a processor differed."""
+def compare_forms(pool, tasks, kept):
+    """Compares each form of an instruction that was used, if no earlier run did. Gives how many there are, (machine,
+    form) of those that weren't confirmed, and how often a processor differed."""
     most_last = sorted(tasks, key=lambda task: len(task.used))  # so that few files are needed for all forms
     forms = {(MEANINGS[task.machine], form): (task.path, address) for task in most_last for form, address in task.used.items()}
     in_calls = {(MEANINGS[task.machine], form) for task in tasks for form in task.compared}
@@ -147,12 +182,20 @@ def compare_forms(pool, tasks):
     differed = 0
     for (machine, form), (path, address) in forms.items():
         programs.setdefault((path, machine), {})[form] = address
-    futures = [(pool.submit(compare_each_form, path, machine, dict(part)), path, machine) for (path, machine), used in programs.items()
-               for part in lanes(sorted(used.items()), 50)]
-    for future, path, machine in futures:
-        without, fault = future.result()
+    sums = {task.path: task.program for task in tasks}
+    parts = {kept.name("forms", sums[path], part): (path, machine, dict(part))
+             for (path, machine), used in programs.items() for part in lanes(sorted(used.items()), 50)}
+    found = {name: kept.of(name) for name in parts}
+    futures = {name: pool.submit(compare_each_form, *part) for name, part in parts.items() if found[name] is None}
+    left = sum(len(parts[name][2]) for name in futures)
+    minutes = -(-left // FORMS_IN_A_MINUTE)
+    print("comparing %d forms of instructions, some %d processor min" % (left, minutes), flush=True)
+    for name, (path, machine, _) in parts.items():
+        without, fault = futures[name].result() if name in futures else (found[name], "")
         lacking += [(machine, form) for form in sorted(without) if (machine, form) not in in_calls]
         if fault:
             print("%s: NOT PROVED: %s" % (path, fault), flush=True)
             differed += 1
+        elif name in futures:
+            kept.keep(name, without)
     return len(forms), lacking, differed
