@@ -46,7 +46,8 @@ pub fn is_tag<C: BlockCipherEncrypt>(cipher: &C, message: &[u8], claimed: &Block
 }
 
 /// Returns whether these bytes, at most 16, are the first bytes of the tag of a message (6.2, step
-/// 7). Compares without an early exit.
+/// 7). Compares without an early exit. An empty tag is accepted for every message, so first refuse
+/// tags that are too short.
 #[inline(never)]
 pub fn is_tag_start<C: BlockCipherEncrypt>(cipher: &C, message: &[u8], claimed: &[u8]) -> bool
     requires { length claimed.now ≤ 16 }
