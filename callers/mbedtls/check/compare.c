@@ -11,7 +11,7 @@
 #include "mbedtls/nist_kw.h"
 #include "mbedtls/version.h"
 
-#define MOST 600
+#define MOST 5000 /* more than 256 blocks */
 static uint64_t state, sum;
 static unsigned char key[64], text[MOST], out[MOST + 32], additional[MOST], iv[64], tag[16];
 static unsigned bits;
@@ -23,6 +23,12 @@ static unsigned draw(unsigned below)
     state ^= state >> 7;
     state ^= state << 17;
     return (unsigned)(state >> 33) % below;
+}
+
+static size_t draw_length(void)
+{
+    const unsigned below[] = {50, 50, 50, 600, 600, 600, 600, MOST};
+    return draw(below[draw(8)]);
 }
 
 static void fill(unsigned char *bytes, size_t count)
@@ -61,7 +67,7 @@ static const unsigned char *input(void)
 
 static size_t piece(size_t left)
 {
-    const size_t count = draw(3) ? draw(40) : draw(MOST);
+    const size_t count = draw(3) ? draw(40) : draw_length();
     return count < left ? count : left;
 }
 
@@ -250,8 +256,8 @@ int main(int argc, char **argv)
         const unsigned which = draw(8);
         sum = UINT64_C(14695981039346656037);
         bits = 128 + 64 * draw(3);
-        length = draw(2) ? draw(MOST) : draw(50);
-        more = draw(2) ? draw(MOST) : draw(30);
+        length = draw_length();
+        more = draw_length();
         fill(key, sizeof key);
         fill(text, sizeof text);
         fill(additional, sizeof additional);
