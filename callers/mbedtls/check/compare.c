@@ -152,13 +152,14 @@ static void ccm_pieces(mbedtls_ccm_context *ccm, size_t iv_length, size_t tag_le
 {
     const int mode = (int)draw(2) + (tag_length == 0 ? 2 : 0);
     const size_t added = tag_length == 0 ? 0 : more;
+    const size_t announced = draw(20) ? length : length + 65536; /* too long, if the nonce has 13 bytes, or else more than comes */
     const unsigned char *from = input();
     size_t wrote;
     if (draw(2)) {
         add_result(mbedtls_ccm_starts(ccm, mode, iv, iv_length));
-        add_result(mbedtls_ccm_set_lengths(ccm, added, length, tag_length));
+        add_result(mbedtls_ccm_set_lengths(ccm, added, announced, tag_length));
     } else {
-        add_result(mbedtls_ccm_set_lengths(ccm, added, length, tag_length));
+        add_result(mbedtls_ccm_set_lengths(ccm, added, announced, tag_length));
         add_result(mbedtls_ccm_starts(ccm, mode, iv, iv_length));
     }
     for (size_t done = 0, count; done < added; done += count)
