@@ -4,7 +4,7 @@
 #include "fotsgure_aes.h"
 #include "fotsgure_gcm.h"
 
-/* What a call of AEAD is about; the text is where the library's calls in place expect it, or comes there from `input`. */
+/* What a call of AEAD is about. `input` is copied to `text`, which is processed in place. */
 struct message {
     const uint8_t *nonce, *additional, *input;
     size_t nonce_length, additional_length;
