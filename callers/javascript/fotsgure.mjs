@@ -9,7 +9,7 @@ const WHY = {
 };
 const BLOCK = 16, TAG = 16, PAGE = 65536, NOTHING = new Uint8Array();
 // How many bytes a call has in a memory: for the struct of a message in pieces, as in the headers for C, and for a piece.
-const MESSAGE = 80, PIECE = 65536, BUFFER = MESSAGE + PIECE;
+const MESSAGE = 80, PIECE = 1048576, BUFFER = MESSAGE + PIECE;
 // Of each class: its module, how its calls begin, how many bytes the struct of a key has, as in the headers for C, and which lengths are
 // allowed for keys and nonces.
 const KINDS = {

@@ -158,7 +158,7 @@ function memory(results, { Aes, AesGcm, AesGcmSiv }) {
 }
 
 // Lengths at which a call for a whole message gets one for pieces, and pieces end.
-const LONG = [65535, 65536, 65552, 65568, 65600, 65616, 131072, 131073, 200000];
+const LONG = [1048480, 1048576, 1048592, 1048608, 1048640, 1048656, 1048672, 2097152, 2097153, 3000000];
 
 function compareWithNode(results, { Aes, AesGcm }, node) {
   for (let i = 0; i < 400 + LONG.length; i++) {
