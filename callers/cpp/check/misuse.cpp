@@ -3,8 +3,17 @@
 #include "fotsgure_gcm.hpp"
 
 #include <memory>
+#include <ostream>
 #include <string>
 #include <vector>
+
+// No stream writes a key out: it isn't printed, nor converted to anything that is.
+template <class Key, class = void> struct Printed : std::false_type {};
+template <class Key>
+struct Printed<Key, std::void_t<decltype(std::declval<std::ostream &>() << std::declval<Key &>())>> : std::true_type {};
+template <class... Keys> constexpr bool none_is_printed = (!Printed<Keys>::value && ...);
+static_assert(Printed<int>::value && none_is_printed<fotsgure::Aes, fotsgure::Ctr, fotsgure::Cbc>);
+static_assert(none_is_printed<fotsgure::Gcm, fotsgure::GcmSiv, fotsgure::Message>);
 
 void misuse(const fotsgure::Aes &aes, fotsgure::Ctr &ctr, const fotsgure::Gcm &gcm, fotsgure::Counter &counter)
 {
