@@ -16422,5 +16422,5 @@ gcm.fotsgure_gcm_accept_short:              // @gcm.fotsgure_gcm_accept_short
 	.long	9, 116, 1
 	.asciz	"Fotsgure"
 	.p2align	2, 0x0
-	.asciz	"fotsgure_gcm 0.4.0, aarch64/gcm.s, sources SHA-256 79a43be1893402f571250529e782384651ffb5402c15342bef1ede91cd243d8f"
+	.asciz	"fotsgure_gcm 0.4.0, aarch64/gcm.s, sources SHA-256 bbd7e5c4b5ef9a3f1c34f5b0bc3435c959d3f2335388df68c9abdbd2672f6af9"
 	.p2align	2, 0x0

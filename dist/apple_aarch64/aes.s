@@ -18308,6 +18308,6 @@ l_aes_static.7:
 	.zero	16,166
 
 	.section	__TEXT,__fotsgure,regular,no_dead_strip
-	.asciz	"fotsgure_aes 0.4.0, apple_aarch64/aes.s, sources SHA-256 e2631a8e77d1d1e69a830a6fdbb4acfc67af1363dcac6f3ecf4b51531955d478"
+	.asciz	"fotsgure_aes 0.4.0, apple_aarch64/aes.s, sources SHA-256 1d759ec11e1a67d80cff2d76ce970c5dbdc113b049804a25b510e54c2e3f8647"
 
 .subsections_via_symbols

@@ -16128,6 +16128,6 @@ l_gcm_static.6:
 	.ascii	"\003\000\001\002\007\004\005\006\013\b\t\n\017\f\r\016\017\f\r\016\003\000\001\002\007\004\005\006\013\b\t\n\013\b\t\n\017\f\r\016\003\000\001\002\007\004\005\006\007\004\005\006\013\b\t\n\017\f\r\016\003\000\001\002"
 
 	.section	__TEXT,__fotsgure,regular,no_dead_strip
-	.asciz	"fotsgure_gcm 0.4.0, apple_aarch64/gcm.s, sources SHA-256 79a43be1893402f571250529e782384651ffb5402c15342bef1ede91cd243d8f"
+	.asciz	"fotsgure_gcm 0.4.0, apple_aarch64/gcm.s, sources SHA-256 bbd7e5c4b5ef9a3f1c34f5b0bc3435c959d3f2335388df68c9abdbd2672f6af9"
 
 .subsections_via_symbols

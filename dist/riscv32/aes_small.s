@@ -15419,5 +15419,5 @@ aes_small.fotsgure_aes_add_keystream_with:        # @aes_small.fotsgure_aes_add_
 	.long	9, 122, 1
 	.asciz	"Fotsgure"
 	.p2align	2, 0x0
-	.asciz	"fotsgure_aes 0.4.0, riscv32/aes_small.s, sources SHA-256 e2631a8e77d1d1e69a830a6fdbb4acfc67af1363dcac6f3ecf4b51531955d478"
+	.asciz	"fotsgure_aes 0.4.0, riscv32/aes_small.s, sources SHA-256 1d759ec11e1a67d80cff2d76ce970c5dbdc113b049804a25b510e54c2e3f8647"
 	.p2align	2, 0x0

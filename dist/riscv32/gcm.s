@@ -9600,7 +9600,7 @@ gcm.gcm_siv.message.open: # @gcm.gcm_siv.message.open
 	sw	zero, 40(sp)
 	sw	zero, 44(sp)
 	beqz	s10, .Lgcm_BB31_15
-# %bb.12:                               # %then.1.i.i.i26
+# %bb.12:                               # %then.1.i.i.i25
 	lbu	a0, 1(s9)
 	lbu	a1, 0(s9)
 	lbu	a2, 2(s9)
@@ -9648,10 +9648,10 @@ gcm.gcm_siv.message.open: # @gcm.gcm_siv.message.open
 	call	gcm.aes_cipher.zeroize.stack.wipe_stack.1024
 	andi	a0, s2, 31
 	beqz	a0, .Lgcm_BB31_16
-# %bb.13:                               # %then.1.i.i.i26
+# %bb.13:                               # %then.1.i.i.i25
 	li	a0, 16
 	bne	s2, a0, .Lgcm_BB31_17
-# %bb.14:                               # %after.4.i.thread.i.i.i.i33
+# %bb.14:                               # %after.4.i.thread.i.i.i.i32
 	lbu	t1, 12(s4)
 	lbu	t0, 13(s4)
 	lbu	a7, 14(s4)
@@ -9776,14 +9776,14 @@ gcm.gcm_siv.message.open: # @gcm.gcm_siv.message.open
 	lw	s11, 92(sp)                     # 4-byte Folded Reload
 	addi	sp, sp, 144
 	ret
-.Lgcm_BB31_17:                              # %join.8.i10.i.i.i.i81.preheader
+.Lgcm_BB31_17:                              # %join.8.i10.i.i.i.i80.preheader
 	li	a0, 0
 	li	a1, 0
 	j	.Lgcm_BB31_19
 .Lgcm_BB31_18:                              #   in Loop: Header=BB31_19 Depth=1
 	sltu	a2, a0, s2
 	beqz	a2, .Lgcm_BB31_16
-.Lgcm_BB31_19:                              # %join.8.i10.i.i.i.i81
+.Lgcm_BB31_19:                              # %join.8.i10.i.i.i.i80
                                         # =>This Inner Loop Header: Depth=1
 	addi	a2, sp, 76
 	add	a3, s4, a0
@@ -9796,7 +9796,7 @@ gcm.gcm_siv.message.open: # @gcm.gcm_siv.message.open
 	add	a1, a1, a4
 	sb	a2, 0(a3)
 	beq	a1, s3, .Lgcm_BB31_18
-# %bb.20:                               # %join.8.i10.i.i.i.i81
+# %bb.20:                               # %join.8.i10.i.i.i.i80
                                         #   in Loop: Header=BB31_19 Depth=1
 	sltu	a2, a1, s3
 	bnez	a2, .Lgcm_BB31_19
@@ -15083,5 +15083,5 @@ gcm.fotsgure_gcm_siv_wipe:                  # @gcm.fotsgure_gcm_siv_wipe
 	.long	9, 116, 1
 	.asciz	"Fotsgure"
 	.p2align	2, 0x0
-	.asciz	"fotsgure_gcm 0.4.0, riscv32/gcm.s, sources SHA-256 79a43be1893402f571250529e782384651ffb5402c15342bef1ede91cd243d8f"
+	.asciz	"fotsgure_gcm 0.4.0, riscv32/gcm.s, sources SHA-256 bbd7e5c4b5ef9a3f1c34f5b0bc3435c959d3f2335388df68c9abdbd2672f6af9"
 	.p2align	2, 0x0

@@ -9956,7 +9956,7 @@ gcm_narrow.gcm_siv.message.open: # @gcm_narrow.gcm_siv.message.open
 	sb	a6, 22(sp)
 	sb	s6, 23(sp)
 	bltu	a1, s2, .Lgcm_narrow_BB29_12
-# %bb.9:                                # %then.1.i.i.i20
+# %bb.9:                                # %then.1.i.i.i19
 	lbu	a0, 0(s3)
 	lbu	a1, 1(s3)
 	lbu	a2, 2(s3)
@@ -10016,10 +10016,10 @@ gcm_narrow.gcm_siv.message.open: # @gcm_narrow.gcm_siv.message.open
 	call	gcm_narrow.aes_narrow.blocks.process_all_batches
 	call	gcm_narrow.aes_cipher.zeroize.stack.wipe_stack.1024
 	beqz	s2, .Lgcm_narrow_BB29_15
-# %bb.10:                               # %then.1.i.i.i20
+# %bb.10:                               # %then.1.i.i.i19
 	li	a0, 16
 	bne	s2, a0, .Lgcm_narrow_BB29_13
-# %bb.11:                               # %after.4.i.thread.i.i.i.i26
+# %bb.11:                               # %after.4.i.thread.i.i.i.i25
 	lbu	t1, 12(s0)
 	lbu	t0, 13(s0)
 	lbu	a7, 14(s0)
@@ -10139,10 +10139,10 @@ gcm_narrow.gcm_siv.message.open: # @gcm_narrow.gcm_siv.message.open
 	call	gcm_narrow.aes_narrow.borrowed_words.call_to_encrypt.2
 	call	gcm_narrow.aes_cipher.zeroize.stack.wipe_stack.2032
 	j	.Lgcm_narrow_BB29_15
-.Lgcm_narrow_BB29_13:                              # %join.8.i6.i.i.i.i74.preheader
+.Lgcm_narrow_BB29_13:                              # %join.8.i6.i.i.i.i73.preheader
 	add	s2, s2, s0
 	addi	a0, sp, 56
-.Lgcm_narrow_BB29_14:                              # %join.8.i6.i.i.i.i74
+.Lgcm_narrow_BB29_14:                              # %join.8.i6.i.i.i.i73
                                         # =>This Inner Loop Header: Depth=1
 	lbu	a1, 0(a0)
 	lbu	a2, 0(s0)
@@ -15494,5 +15494,5 @@ gcm_narrow.fotsgure_gcm_accept_short:              # @gcm_narrow.fotsgure_gcm_ac
 	.long	9, 123, 1
 	.asciz	"Fotsgure"
 	.p2align	2, 0x0
-	.asciz	"fotsgure_gcm 0.4.0, riscv64/gcm_narrow.s, sources SHA-256 79a43be1893402f571250529e782384651ffb5402c15342bef1ede91cd243d8f"
+	.asciz	"fotsgure_gcm 0.4.0, riscv64/gcm_narrow.s, sources SHA-256 bbd7e5c4b5ef9a3f1c34f5b0bc3435c959d3f2335388df68c9abdbd2672f6af9"
 	.p2align	2, 0x0

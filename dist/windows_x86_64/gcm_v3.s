@@ -19142,4 +19142,4 @@ gcm_v3.fotsgure_gcm_accept_short:              # @gcm_v3.fotsgure_gcm_accept_sho
 
 
 	.section	.rdata,"dr"
-	.asciz	"fotsgure_gcm 0.4.0, windows_x86_64/gcm_v3.s, sources SHA-256 79a43be1893402f571250529e782384651ffb5402c15342bef1ede91cd243d8f"
+	.asciz	"fotsgure_gcm 0.4.0, windows_x86_64/gcm_v3.s, sources SHA-256 bbd7e5c4b5ef9a3f1c34f5b0bc3435c959d3f2335388df68c9abdbd2672f6af9"

@@ -21046,5 +21046,5 @@ aes_v3.fotsgure_aes_ccm_seal:                  # @aes_v3.fotsgure_aes_ccm_seal
 	.long	9, 118, 1
 	.asciz	"Fotsgure"
 	.p2align	2, 0x0
-	.asciz	"fotsgure_aes 0.4.0, x86_64/aes_v3.s, sources SHA-256 e2631a8e77d1d1e69a830a6fdbb4acfc67af1363dcac6f3ecf4b51531955d478"
+	.asciz	"fotsgure_aes 0.4.0, x86_64/aes_v3.s, sources SHA-256 1d759ec11e1a67d80cff2d76ce970c5dbdc113b049804a25b510e54c2e3f8647"
 	.p2align	2, 0x0
