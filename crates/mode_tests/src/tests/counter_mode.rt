@@ -2,7 +2,8 @@
 
 mod cuts;
 
-use aes_cipher::aes::{AesCipher, Bits128, Bits256, BothWays, KeySize};
+use aes::FixslicedAes;
+use aes_cipher::aes::{AesCipher, Bits128, Bits192, Bits256, BothWays, KeySize};
 use aes_cipher::cipher::{BlockCipherEncrypt, Encrypt, KeyInit};
 use aes_ctr::{Ctr128BE, stream_cut, stream_twice};
 use aes_hybrid::widths::Width128;
@@ -84,7 +85,9 @@ impl CounterTrial for Example {
 
 #[test]
 fn answers_the_example_of_the_standard_however_it_is_cut(rt: HostRuntime) {
-    assert!(rt; passes(&Example));
+    assert!(rt; passes(&Example), "aes_hybrid");
+    let cipher = FixslicedAes::<Bits128, Encrypt>::new(&KEY_A1);
+    assert!(rt; Example.passes(&cipher), "aes");
 }
 
 // The first two blocks of the keystream of a cipher.
@@ -111,6 +114,32 @@ fn counts_from_zero_and_past_the_last_number(rt: HostRuntime) -> Result<(), Fail
     assert!(rt; first == ZEROS_BY_192);
     let [first, _] = keystream_under::<Bits256>(&[0; 32], 0).ok_or("end")?;
     assert!(rt; first == ZEROS_BY_256);
+    Ok(())
+}
+
+// The first two blocks of the keystream under a key, by the type of `aes` that encrypts and by the
+// one for both directions.
+fn keystreams_of_aes<K: KeySize>(key: &K::Key, iv: u128) -> [Option<[u128; 2]>; 2] {
+    [
+        keystream_of(FixslicedAes::<K, Encrypt>::new(key), iv),
+        keystream_of(FixslicedAes::<K, BothWays>::new(key), iv),
+    ]
+}
+
+#[test]
+fn counts_so_by_the_types_of_aes(rt: HostRuntime) -> Result<(), Fail> {
+    for keystream in keystreams_of_aes::<Bits128>(&[0; 16], u128::MAX) {
+        let [_, second] = keystream.ok_or("end")?;
+        assert!(rt; second == ZEROS_BY_128);
+    }
+    for keystream in keystreams_of_aes::<Bits192>(&[0; 24], 0) {
+        let [first, _] = keystream.ok_or("end")?;
+        assert!(rt; first == ZEROS_BY_192);
+    }
+    for keystream in keystreams_of_aes::<Bits256>(&[0; 32], 0) {
+        let [first, _] = keystream.ok_or("end")?;
+        assert!(rt; first == ZEROS_BY_256);
+    }
     Ok(())
 }
 

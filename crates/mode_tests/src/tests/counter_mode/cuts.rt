@@ -6,14 +6,18 @@ use aes_cipher::cipher::BlockCipherEncrypt;
 use standards::bytes::counted;
 use standards::counter::IV;
 
-// Every length up to 290 bytes, which is more than two batches, cut at every place.
-struct EveryCut;
+// Every length from `least` bytes to `most`, and no more than 400, cut at every place.
+#[derive(Drop)]
+struct EveryCut {
+    least: usize,
+    most: usize,
+}
 
 impl CounterTrial for EveryCut {
     fn passes<C: BlockCipherEncrypt>(&self, cipher: &C) -> bool {
-        let plain = counted::<290>();
+        let plain = counted::<400>();
         let mut right = true;
-        for len in 0..=290 {
+        for len in self.least..=self.most.min(400) {
             let mut once = plain;
             right &= mode_from(cipher, IV).try_apply(&mut once[..len]).is_ok();
             for cut in 0..=len {
@@ -28,9 +32,32 @@ impl CounterTrial for EveryCut {
     }
 }
 
+// Up to 400 bytes, which is more than three batches, by several tests: each has a time limit.
 #[test]
 fn answers_the_same_cut_at_every_place(rt: HostRuntime) {
-    assert!(rt; passes(&EveryCut));
+    let cuts = EveryCut {
+        least: 0,
+        most: 280,
+    };
+    assert!(rt; passes(&cuts));
+}
+
+#[test]
+fn answers_the_same_cut_at_every_place_of_more_bytes(rt: HostRuntime) {
+    let cuts = EveryCut {
+        least: 281,
+        most: 350,
+    };
+    assert!(rt; passes(&cuts));
+}
+
+#[test]
+fn answers_the_same_cut_at_every_place_of_most_bytes(rt: HostRuntime) {
+    let cuts = EveryCut {
+        least: 351,
+        most: 400,
+    };
+    assert!(rt; passes(&cuts));
 }
 
 // Every length up to 400 bytes, from every position up to 40.
