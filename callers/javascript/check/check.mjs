@@ -1,6 +1,5 @@
-// Known answers, and what must be refused: `check(fotsgure, node)` returns how many passed, and the names of those that failed. In node it
-// also compares with node's own crypto, which is `node`. Import it before the package: it finds the
-// package's memories.
+// Known answers, what must be refused, and what memories have: `check(fotsgure, node)` returns how many passed, and the names of those that
+// failed. In node it also compares with node's own crypto, which is `node`. Import this file before the package, whose memories it finds.
 
 const instances = [];
 WebAssembly.Instance = class extends WebAssembly.Instance {
@@ -157,7 +156,7 @@ function memory(results, { Aes, AesGcm, AesGcmSiv }) {
   results.expect("no memory grew", sizes() === before);
 }
 
-// Lengths at which a call for a whole message gets one for pieces, and pieces end.
+// Lengths around those from which on a message is processed in pieces, and at which a piece ends.
 const LONG = [1048480, 1048576, 1048592, 1048608, 1048640, 1048656, 1048672, 2097152, 2097153, 3000000];
 
 function compareWithNode(results, { Aes, AesGcm }, node) {
