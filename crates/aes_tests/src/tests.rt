@@ -9,6 +9,7 @@ mod forms;
 mod hazmat;
 mod hybrid;
 mod names;
+mod narrow;
 mod rounds;
 mod slices;
 mod values;
