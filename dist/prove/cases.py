@@ -1,4 +1,4 @@
-"""Lists the cases: a table of statements, their arguments, and the builds and keys that have them. tools/pages makes CASES.md of it."""
+"""Lists the cases: a table of statements, their arguments, and the builds and keys that have them. `prove.py --list` prints it."""
 import collections
 import itertools
 
@@ -6,28 +6,30 @@ from aes_statements import aes, cmac_ccm
 from gcm_statements import gcm, siv
 from gcm_statements.gcm_header import ADDITIONAL, ENCRYPTING, MOST, MOST_ADDITIONAL, MOST_NONCE, PHASES, SHORT_TAGS, VERIFYING
 from gcm_statements.pre_counter import ANY_J_0_NONCE, CARRY, EVERY as EVERY_NONCE
-from linked.builds import takes_few
+from linked.builds import BUILDS, takes_few
 from machines.riscv import Riscv
-from remainders import (AMONG_REMAINDERS, CARRIES, DIRECTIONS, EVERY, EVERY_REMAINDER, FEW, LENGTHS, LONGEST_CCM, PAIRS, TABLES, WAYS,
-                        AtLengths)
+from remainders import CARRIES, DIRECTIONS, EVERY_REMAINDER, FEW, LENGTHS, LONGEST_CCM, TABLES, WAYS, AtLengths
 from statements.headers import version
 
-# A statement (a method of KeyedAes, KeyedGcm or KeyedSiv, or one of TABLES), a description of its arguments, and lists of these. The page
-# says which builds and keys have a list. All builds have `most`, except those that takes_few (builds.py) names: these are compiled
-# from the sources of the others. Keys of 24 and 32 bytes have each call once, and the code that loops over round keys. Only the builds of
-# FIRST have `remainders` and `lengths_24_32`. These are other remainders of lengths, and each call at every length with keys of 24 and 32
-# bytes. With PROVE=all they have `every` with all keys, and leave out what that covers of these lists and of `all_`. They keep `first`: at
-# fixed lengths copies are proved for all distances of two buffers, and that runs code that no call of every length runs.
+# A statement (a method of KeyedAes, KeyedGcm or KeyedSiv, or one of TABLES), a description of its arguments, and six lists of these.
+# With keys of 16 bytes:
+#     each             all builds
+#     most             all builds; without PROVE=all not those that takes_few (builds.py) names, which have the same sources as others
+#     more             with PROVE=all, the builds that have `most` without it too, and _v3
+#     without_every    the same builds, if they don't have `every`
+# With PROVE=all and keys of each size:
+#     every            the builds of HAVE_EVERY
+# With keys of 24 and 32 bytes:
+#     keys_24_32       each call once, and the code that loops over round keys: the builds of `more`; with PROVE=all all builds. The builds
+#                      of `more` then have `each` and `most` too
 # left_out(word, values) says whether builds for RISC-V, with words of so many bytes, leave these arguments out.
-Row = collections.namedtuple("Row", "name what each most first remainders keys_24_32 lengths_24_32 all_ every left_out",
-                             defaults=[()] * 8 + [lambda word, values: False])
+Row = collections.namedtuple("Row", "name what each most more every without_every keys_24_32 left_out",
+                             defaults=[()] * 6 + [lambda word, values: False])
 LISTS = Row._fields[2:-1]
 ON_RISCV, ON_RISCV_32 = lambda word, values: True, lambda word, values: word == 4
 ANY_COUNTER_ON_RISCV_32 = lambda word, values: word == 4 and None in values
 ONCE = [()]  # no arguments
-FIRST = "x86_64/aes", "x86_64/siv", "x86_64/gcm"  # the builds that have `first` with PROVE=builds
-# The statements of which `every` doesn't cover all arguments in other lists.
-NOT_IN_EVERY = {"any_keystream", "any_cbc_encrypt", "any_wrap", "any_unwrap", "at_carries"}
+HAVE_EVERY = "x86_64/aes", "x86_64/siv", "x86_64/gcm"
 
 SINGLE_ROUNDS = [(name, way) for name in ("cipher_round", "equiv_inv_cipher_round") for way in ("", "_par")]
 COLUMNS = ["mix_columns", "inv_mix_columns"]
@@ -41,19 +43,17 @@ AES_ROWS = [
         each=[(way, 7, to) for way in DIRECTIONS for to in ("", "_to")] + [(way, 1, "_with") for way in DIRECTIONS],
         most=[(way, rest) for way in DIRECTIONS for rest in range(16) if rest != 7]
              + [(way, *more) for way in DIRECTIONS for more in ((1, "_to"), (7, "_with"))],
-        first=[(way, rest, "_to") for way in DIRECTIONS for rest in (0, 2, 14)],
-        lengths_24_32=[(way, 7, to) for way in DIRECTIONS for to in ("", "_to", "_with")],
+        more=[(way, rest, "_to") for way in DIRECTIONS for rest in (0, 2, 14)],
         left_out=lambda word, values: word == 4 and "_to" in values),
     Row("blocks", "the direction and the number of blocks", each=[("encrypt", 2), ("encrypt", 1, "_with")],
         most=[("encrypt", n) for n in (0, 16, 17)],
-        first=[(way, n, to) for way in DIRECTIONS for to in ("_to", "_with") for n in (6, 7, 8, 14, 15)],
+        more=[(way, n, to) for way in DIRECTIONS for to in ("_to", "_with") for n in (6, 7, 8, 14, 15)],
         keys_24_32=[(way, n, to) for way in DIRECTIONS for n, to in ((2, ""), (32, ""), (1, "_to"), (1, "_with"))]),
     Row("any_low_keystream", "at 16 k + s for every k, 128 n + r bytes for every n: s, r; for every initial counter block whose low half "
-        "doesn't carry", each=[(5, 122)], first=[(0, 0, "_with"), (5, 122, "_to")], remainders=EVERY["keystream"],
-        lengths_24_32=[(5, 122, way) for way in ("", "_to", "_with")], left_out=ON_RISCV_32),
+        "doesn't carry", each=[(5, 122)], more=[(0, 0, "_with"), (5, 122, "_to")], left_out=ON_RISCV_32),
     Row("every_short_keystream", "the same for every s, and fewer than 128 - s bytes", every=WAYS),
     Row("every_long_keystream", "the same for every s, and all other numbers of bytes", every=WAYS),
-    Row("any_keystream", "the same where the low half carries anywhere or nowhere", most=[(0, 0)], all_=[(5, 122), (3, 45, "_to")],
+    Row("any_keystream", "the same where the low half carries anywhere or nowhere", most=[(0, 0)], more=[(5, 122), (3, 45, "_to")],
         every=[(5, 122, "_with")], left_out=ON_RISCV_32),
     Row("add_keystream", "the position, the number of bytes, and before which block the low half of the counter carries, if anywhere",
         each=[(0, 33), (0, 5), (0, 15), (2 ** 64 - 21, 20), (5, 40, 2), (21, 40, 1), (21, 40, 2), (16, 64, 1), (0, 16, BLOCK_AFTER_TEXT),
@@ -63,46 +63,44 @@ AES_ROWS = [
               *((16, 64, block) for block in range(2, 6)),
               # Positions, and numbers of blocks, that don't fit into 32 bits; and one that would be below 0 if it had a sign.
               (2 ** 32 - 20, 40), *((2 ** 63 + 2 ** 36, 64, NO_CARRY, way) for way in ("", "_with"))],
-        first=[*((2 ** 64 - 21, 20, NO_CARRY, way) for way in ("_to", "_with")),
-               *((0, n, NO_CARRY, "_to") for n in (*range(1, 9), 31, 32, 33)), *((0, n) for n in range(1, 131)),
-               *((5, n) for n in (*range(1, 41), 59, 60, *range(120, 141), *range(200, 206)))],
+        more=[*((2 ** 64 - 21, 20, NO_CARRY, way) for way in ("_to", "_with")),
+              *((0, n, NO_CARRY, "_to") for n in (*range(1, 9), 31, 32, 33)), *((0, n) for n in range(1, 131)),
+              *((5, n) for n in (*range(1, 41), 59, 60, *range(120, 141), *range(200, 206)))],
         keys_24_32=[(0, 33), (3, 33, NO_CARRY, "_to"), (3, 33, NO_CARRY, "_with")],
         left_out=lambda word, values: word == 4 and values[0] >= 2 ** 36),
-    Row("any_cbc_encrypt", "every number of blocks", each=ONCE, lengths_24_32=ONCE),
-    Row("any_cbc_decrypt", "64 n + r blocks for every n: r", most=[9], remainders=[r * 9 % 64 for r in range(8) if r != 1],
-        lengths_24_32=[9], all_=[0]),
+    Row("any_cbc_encrypt", "every number of blocks", each=ONCE),
+    Row("any_cbc_decrypt", "64 n + r blocks for every n: r", most=[9], without_every=[0]),
     Row("cbc_encrypt", "the number of blocks", most=[1, 2], keys_24_32=[1]),
-    Row("cbc_decrypt", "the number of blocks", each=[9], most=[0, 1, 3, 4, 8, 17, 47], first=[7, 63, 64, 65, 71, 72], keys_24_32=[1]),
-    Row("any_wrap", "a key of every number of semiblocks", most=ONCE, lengths_24_32=ONCE, left_out=ON_RISCV_32),
-    Row("any_unwrap", "a key of every number of semiblocks, also of what is refused", most=ONCE, lengths_24_32=ONCE,
+    Row("cbc_decrypt", "the number of blocks", each=[9], most=[0, 1, 3, 4, 8, 17, 47], more=[7, 63, 64, 65, 71, 72], keys_24_32=[1]),
+    Row("any_wrap", "a key of every number of semiblocks", most=ONCE, left_out=ON_RISCV_32),
+    Row("any_unwrap", "a key of every number of semiblocks, also of what is refused", most=ONCE,
         left_out=ON_RISCV_32),
-    Row("any_wrap_padded", "a key of 16 n + r bytes for every n: r", most=[3], first=[7, 9, 15, 16],
-        remainders=[rest for rest in range(1, 15) if rest not in (3, 7, 9)], lengths_24_32=[3], left_out=ON_RISCV_32),
-    Row("any_unwrap_padded", "a key of 8 n + r bytes for every n, also of what is refused: r", most=[3], first=[1, 2, *range(4, 9)],
-        lengths_24_32=[3], left_out=ON_RISCV_32),
-    Row("any_unwrap_padded_refused", "a key of every number of semiblocks, with every wrong length", most=ONCE, lengths_24_32=ONCE,
+    Row("any_wrap_padded", "a key of 16 n + r bytes for every n: r", most=[3], more=[7, 9, 15, 16], left_out=ON_RISCV_32),
+    Row("any_unwrap_padded", "a key of 8 n + r bytes for every n, also of what is refused: r", most=[3],
+        more=[1, 2, *range(4, 9)], left_out=ON_RISCV_32),
+    Row("any_unwrap_padded_refused", "a key of every number of semiblocks, with every wrong length", most=ONCE,
         left_out=ON_RISCV_32),
     Row("wrap", "the number of semiblocks", each=[2], keys_24_32=[2]),
     Row("unwrap", "the number of semiblocks, also of what is refused", each=[3], keys_24_32=[3]),
     Row("wrap_padded", "the number of bytes", each=[7, 8, 9, 15], keys_24_32=[1]),
     Row("unwrap_padded", "the number of bytes, also of what is refused", each=[9], keys_24_32=[1]),
-    Row("any_cmac", "16 n + r bytes for every n: r", each=[1, 16], first=range(2, 16), lengths_24_32=[1, 16], left_out=ON_RISCV_32),
+    Row("any_cmac", "16 n + r bytes for every n: r", each=[1, 16], more=range(2, 16), left_out=ON_RISCV_32),
     Row("any_cmac_verify", "the same, also of what is refused: r and the tag's length", each=[(1, 16)],
-        first=[*((1, tag) for tag in cmac_ccm.CMAC_TAGS[:-1]), *((rest, 16) for rest in range(2, 17))], lengths_24_32=[(1, 16)],
+        more=[*((1, tag) for tag in cmac_ccm.CMAC_TAGS[:-1]), *((rest, 16) for rest in range(2, 17))],
         left_out=ON_RISCV_32),
     Row("cmac", "the number of bytes", most=[0, 1, 16, 23], keys_24_32=[1]),
     Row("cmac_verify", "the number of bytes and the tag's length, also of what is refused", each=FEW["cmac_verify"],
         most=[(n, tag) for n in (0, 17) for tag in cmac_ccm.CMAC_TAGS], keys_24_32=[(0, 4)]),
     *(Row(call, what, most=[*most, (13, 15, 255, 8), (8, 15, 33, 8, 6), (8, 16, 33, 8, 10)],
-          first=[*first, *LONGEST_CCM], remainders=EVERY[call], lengths_24_32=[(12, 15, 33, 8)],
-          all_=[(13, 0, 16, 16), (9, 15, 255, 4, 6), (11, 9, 0, 6, 10)], left_out=ON_RISCV_32)
+          more=[*first, *LONGEST_CCM],
+          without_every=[(13, 0, 16, 16), (9, 15, 255, 4, 6), (11, 9, 0, 6, 10)], left_out=ON_RISCV_32)
       for call, what, most, first in (("any_ccm_seal", SAYS_CCM, (), [(8, 15, 33, 8), (8, 16, 33, 8, 6)]),
                                       ("any_ccm_open", "the same", [(12, 15, 33, 8)], ()))),
     *(Row("every_" + call, "every length of nonce, additional data, text and tag" + also, every=ONCE)
       for call, also in (("ccm_seal", ""), ("ccm_open", "; also of what is refused"))),
     *(Row(call, "the lengths of nonce, additional data, text and tag", each=[(13, 8, 33, 8)],
           most=[(7, 0, 1, 4), (12, 14, 16, 16), (8, 15, 17, 6), (10, 33, 0, 14), (9, 0, 0, 10), (11, 0, 0, 12)],
-          all_=[(nonce, 20, 40, tag) for nonce, tag in zip(cmac_ccm.NONCES, cmac_ccm.CCM_TAGS)],
+          without_every=[(nonce, 20, 40, tag) for nonce, tag in zip(cmac_ccm.NONCES, cmac_ccm.CCM_TAGS)],
           keys_24_32=[(7, 0, 1, 4)])
       for call in ("ccm_seal", "ccm_open")),
     *ROUNDS]
@@ -132,38 +130,35 @@ SAYS_CAME = "the phase; after 16 k + s bytes of additional data and 16 m + t of 
 GCM_ROWS = [
     Row("wipe_message", "", each=ONCE), Row("set_key_of", "", each=ONCE, keys_24_32=ONCE),
     Row("set_key_of_none", "", each=ONCE),
-    Row("any_seal", SAYS_WHOLE + SAYS_NONCE, each=[(13, 33)], most=[(0, 129), LONGEST], first=[(13, 33, "", 8), *LONGEST_TOO],
-        remainders=EVERY["any_seal"], lengths_24_32=[(13, 33), (13, 33, "_to")],
-        all_=[(0, 0), (47, 767), (13, 33, "_to"), *OTHER_NONCES], left_out=ON_RISCV_32),
-    Row("any_open", SAYS_WHOLE + SAYS_NONCE + "; also of what is refused", most=[(13, 33), LONGEST], first=[(13, 33, "_to"), *LONGEST_TOO],
-        remainders=EVERY["any_open"], lengths_24_32=[(13, 33), (13, 33, "_to")],
-        all_=[(0, 0), (47, 767), (13, 33, "", 8), *OTHER_NONCES], left_out=ON_RISCV_32),
+    Row("any_seal", SAYS_WHOLE + SAYS_NONCE, each=[(13, 33)], most=[(0, 129), LONGEST], more=[(13, 33, "", 8), *LONGEST_TOO],
+        without_every=[(0, 0), (47, 767), (13, 33, "_to"), *OTHER_NONCES], left_out=ON_RISCV_32),
+    Row("any_open", SAYS_WHOLE + SAYS_NONCE + "; also of what is refused", most=[(13, 33), LONGEST], more=[(13, 33, "_to"), *LONGEST_TOO],
+        without_every=[(0, 0), (47, 767), (13, 33, "", 8), *OTHER_NONCES], left_out=ON_RISCV_32),
     *(Row("every_" + call, SAYS_EVERY + "; every nonce but those of 12 bytes (`other nonces`)" + also,
           every=[(way, *nonce) for nonce in ((), (EVERY_NONCE,)) for way in ("", "_to")])
       for call, also in (("seal", ""), ("open", "; also of what is refused"))),
     Row("any_seal_next", SAYS_WHOLE + "; then the counter, as in `seal_next`",
-        first=[(13, 33), LONGEST, (13, 33, CARRY)], lengths_24_32=[(13, 33)], all_=[(0, 129)], left_out=ON_RISCV_32),
+        more=[(13, 33), LONGEST, (13, 33, CARRY)], without_every=[(0, 129)], left_out=ON_RISCV_32),
     Row("every_seal_next", SAYS_EVERY + "; then the counter, as in `seal_next`", every=[(), CARRY]),
-    Row("any_begin", "a nonce of 48 k + r bytes for every k: r", most=[8, LONGEST[0]],
-        remainders=[19 * k % 48 for k in range(16) if k not in (5, 8)], lengths_24_32=[8], all_=[0, 12, 33, 47],
+    Row("any_begin", "a nonce of 48 k + r bytes for every k: r", most=[8, LONGEST[0]], without_every=[0, 12, 33, 47],
         left_out=ON_RISCV_32),
-    *(Row("any_" + call, what, first=[(3, 46)], lengths_24_32=[(3, 46)], all_=[(15, 48)], left_out=ON_RISCV)
+    *(Row("any_" + call, what, more=[(3, 46)], without_every=[(15, 48)], left_out=ON_RISCV)
       for call, what in (("additional", "48 n + r bytes for every n after 16 k + s for every k, and any J_0: s, r"),
                          ("verify", "the same, after any additional data"),
                          *((call, "the same, of 768 n + r bytes") for call in ("encrypt", "decrypt", "decrypt_unverified")))),
     Row("seal", SAYS_LENGTHS + ", and a nonce of another length", each=[(13, 33), (13, 33, (), "_to"), *FEW["seal"]],
         most=[(0, 0), (0, 5), (1, 1), (13, 0), (16, 16), (20, 64), (32, 32), (49, 1), (0, 449, ANY_J_0_NONCE), (0, 0, (), "_to"),
               *((5, 20, nonce) for nonce in NONCES)],
-        first=[*((n, 0) for n in (*AROUND, 47, 48, 49)), *((13, n, (), "_to") for n in (3, 4, 31, 32)),
-               *((13, n, ANY_J_0_NONCE) for n in (*BORDERING, 131))],
-        all_=[*((5, 40, nonce) for nonce in NONCES), *((5, n, (60,)) for n in (0, 129, 300))],
+        more=[*((n, 0) for n in (*AROUND, 47, 48, 49)), *((13, n, (), "_to") for n in (3, 4, 31, 32)),
+              *((13, n, ANY_J_0_NONCE) for n in (*BORDERING, 131))],
+        without_every=[*((5, 40, nonce) for nonce in NONCES), *((5, n, (60,)) for n in (0, 129, 300))],
         keys_24_32=[(13, 481, ANY_J_0_NONCE), (0, 0, (), "_to")]),
     Row("open", "the same, also of what is refused", each=[(13, 33), (13, 33, (), "_to"), *FEW["open"]],
         most=[(0, 0), (13, 0), (20, 64), (0, 0, (), "_to"), (3, 20, ANY_J_0_NONCE)],
-        first=[(13, n, (), "_to") for n in (3, 4, 31, 32)], all_=[(3, 20, nonce) for nonce in NONCES[1:]],
+        more=[(13, n, (), "_to") for n in (3, 4, 31, 32)], without_every=[(3, 20, nonce) for nonce in NONCES[1:]],
         keys_24_32=[(13, 33), (0, 0, (), "_to")]),
     Row("begin", "the nonce", each=[(), *((nonce,) for nonce in NONCES)], keys_24_32=[()]),
-    Row("seal_next", "the lengths of additional data and text, and the counter: `carry` is any whose last eight bytes are all 255, `no carry` "
+    Row("seal_next", "the lengths of additional data and text, and the counter: `carry` is any whose last eight bytes are all 255, `None` "
         "any other one, and 2^96 - 2 the last one but one",
         each=[(3, 1, counter) for counter in COUNTERS], most=[(3, 1, counter) for counter in LAST_COUNTERS],
         keys_24_32=[(3, 1, counter) for counter in COUNTERS], left_out=ANY_COUNTER_ON_RISCV_32),
@@ -173,8 +168,8 @@ GCM_ROWS = [
         keys_24_32=[(3, 13)]),
     Row("any_then_additional", "after 16 k + s bytes for every k, and any J_0: s, and how many bytes come", each=[(3, 13)],
         most=[(3, 5), (3, 12), (3, 100), (0, 0), (0, 5), (0, 48), (13, 13), (0, 7)],
-        first=[*((s, 1) for s in range(16)), (12, 13), *((3, n) for n in range(2, 50) if n != 12)],
-        all_=[(s, n) for s in range(16) for n in (0, 16, 32)], left_out=ON_RISCV_32),
+        more=[*((s, 1) for s in range(16)), (12, 13), *((3, n) for n in range(2, 50) if n != 12)],
+        without_every=[(s, n) for s in range(16) for n in (0, 16, 32)], left_out=ON_RISCV_32),
     Row("any_then_piece", "the call; " + SAYS_CAME + ", and how many bytes come",
         each=[*((call, ADDITIONAL, 5, 0, 3) for call in PHASES), *(("encrypt", ENCRYPTING, 5, 0, n) for n in (64, 500))],
         most=[*((call, ADDITIONAL, *numbers) for call in PHASES for numbers in ((0, 0, 16), (0, 0, 3), (5, 0, 0))),
@@ -182,21 +177,21 @@ GCM_ROWS = [
                   (4, 50), (7, 9), (4, 3), (4, 300), (11, 20))),
               *((call, phase, 0, 0, 0) for call, phase in PHASES.items()),
               ("encrypt", ENCRYPTING, 5, 5, 4), ("verify", VERIFYING, 0, 0, 9)],
-        first=[*(("encrypt", ENCRYPTING, 5, 7, n) for n in (*range(1, 28), 57, 121)),
-               *((call, phase, 5, t, 1) for call, phase in PHASES.items() for t in range(16))],
-        all_=[*((call, ADDITIONAL, s, 0, 1) for call in PHASES for s in range(16)),
-              *((call, phase, 5, t, n) for call, phase in PHASES.items() for t in range(16) for n in (0, 16, 32))],
+        more=[*(("encrypt", ENCRYPTING, 5, 7, n) for n in (*range(1, 28), 57, 121)),
+              *((call, phase, 5, t, 1) for call, phase in PHASES.items() for t in range(16))],
+        without_every=[*((call, ADDITIONAL, s, 0, 1) for call in PHASES for s in range(16)),
+                       *((call, phase, 5, t, n) for call, phase in PHASES.items() for t in range(16) for n in (0, 16, 32))],
         keys_24_32=[(call, ADDITIONAL, 5, 0, 3) for call in PHASES],
         left_out=lambda word, values: word == 4 and values[1] != ADDITIONAL),
     Row("any_then_decrypt", "after 16 k + s bytes of additional data and 16 m + t of a text of any length for every k and m, and any J_0: "
         "s, t, and how many bytes come",
         each=[(3, 7, 20)], most=[(3, *numbers) for numbers in ((7, 0), (7, 9), (5, 4), (0, 68), (11, 20))],
-        first=[(3, t, 1) for t in range(16)], all_=[(3, t, n) for t in range(16) for n in (0, 16, 32)], keys_24_32=[(3, 7, 20)],
+        more=[(3, t, 1) for t in range(16)], without_every=[(3, t, n) for t in range(16) for n in (0, 16, 32)], keys_24_32=[(3, 7, 20)],
         left_out=ON_RISCV_32),
     *(Row("any_" + call, SAYS_CAME + also,
           each=[(phase, 0, 7), *each], most=[*((ADDITIONAL, n, 0) for n in (0, 5)), (phase, 5, 0), *most],
           keys_24_32=[(phase, 0, 7), *each, *((phase, 5, n) for n in ENDS)],
-          first=[*((ADDITIONAL, n, 0) for n in ENDS if n != 5), *((phase, 5, n) for n in ENDS)])
+          more=[*((ADDITIONAL, n, 0) for n in ENDS if n != 5), *((phase, 5, n) for n in ENDS)])
       for call, phase, also, each, most in (
           ("finish", ENCRYPTING, "", (), ()),
           ("accept", VERIFYING, "; also of what is refused, and of a shorter tag",
@@ -234,28 +229,25 @@ OF_SHORT_WORDS = {
 
 SIV_ROWS = [
     Row("any_seal", SAYS_WHOLE + "; both may have 2^36 bytes", most=[(33, 77), (16, 256)],
-        first=[(13, 33, "_to"), (16, 256, "_to")], remainders=EVERY["siv any_seal"], lengths_24_32=[(33, 77), (13, 33, "_to")],
-        all_=[(0, 0), (47, 767)], left_out=ON_RISCV),
+        more=[(13, 33, "_to"), (16, 256, "_to")],
+        without_every=[(0, 0), (47, 767)], left_out=ON_RISCV),
     Row("any_open", SAYS_WHOLE + "; also of what is refused", most=[(13, 33, "_to"), (13, 225)],
-        first=[(16, 256), (16, 256, "_to")], remainders=EVERY["siv any_open"], lengths_24_32=[(13, 33, "_to"), (13, 225)],
-        all_=[(33, 48), (0, 0, "_to")], left_out=ON_RISCV),
+        more=[(16, 256), (16, 256, "_to")],
+        without_every=[(33, 48), (0, 0, "_to")], left_out=ON_RISCV),
     *(Row("every_" + call, SAYS_EVERY + also, every=["", "_to"]) for call, also in (("seal", ""), ("open", "; also of what is refused"))),
     Row("seal", SAYS_LENGTHS, each=[(13, 33), (13, 33, "_to")],
         most=[(13, 0), (1, 1), (13, 7), (0, 16), *SHORT],
-        first=[*((a, n) for n in (0, 161) for a in (1, *AROUND, 47, 48, 49)),
-               *((a, n) for a in (13, 161) for n in (*BORDERING, 67, 68, 131, 132))],
+        more=[*((a, n) for n in (0, 161) for a in (1, *AROUND, 47, 48, 49)),
+              *((a, n) for a in (13, 161) for n in (*BORDERING, 67, 68, 131, 132))],
         keys_24_32=[(13, 33), (13, 33, "_to")]),
     Row("open", "the same, also of what is refused", each=[(1, 1), (13, 33, "_to")], most=[(13, 0), (13, 7), (0, 16), *SHORT],
         keys_24_32=[(1, 1), (13, 33, "_to")])]
 
 
 def at_ends(library):
-    names = [name for name in LENGTHS[library] if name not in AMONG_REMAINDERS]
-    return [Row("at_ends", "a call, at each remainder that its lengths may leave ([remainders.py](remainders.py))", first=names,
-                remainders=[name for name in LENGTHS[library] if name not in names]),
-            Row("at_pairs", "a call, at each pair of remainders by 16 that two of its lengths may leave", remainders=PAIRS[library]),
+    return [Row("at_ends", "a call, at each remainder that its lengths may leave (remainders.py)", more=LENGTHS[library]),
             *(Row("at_carries", "the same, where the low half of the counter carries, and each place of the carry in a few blocks",
-                  first=names, lengths_24_32=names)
+                  more=names, every=names)
               for names in [CARRIES.get(library)] if names),
             *(Row("every_remainder", "a call of every length, at each remainder", every=names) for names in [EVERY_REMAINDER.get(library)]
               if names)]
@@ -274,7 +266,7 @@ LIBRARIES = {library: (keyed, [*rows, *at_ends(library)]) for library, keyed, ro
 
 
 def rows_of(library, machine):
-    """Gives the rows of a library. On RISC-V they lack what LENGTHS.md names as left out."""
+    """Gives the rows of a library. On RISC-V they lack what `left_out` says."""
     rows = LIBRARIES[library][1]
     if not issubclass(machine, Riscv):
         return rows
@@ -290,28 +282,39 @@ def as_tuple(entry):
     return entry if isinstance(entry, tuple) else (entry,)
 
 
-def is_beyond_every(row, values):
-    """Whether `every` doesn't cover these arguments of a statement."""
-    return not {row.name, values}.isdisjoint(NOT_IN_EVERY)
+def has_keys(build, key_size, is_all):
+    """Whether a build is proved with keys of this size. AES-GCM-SIV has no keys of 24 bytes."""
+    return (key_size != 24 or "/siv" not in build) and (key_size == 16 or is_all or not takes_few(build))
 
 
-def arguments_taken(row, build, key_size, level):
-    """Gives the arguments that a build has for a statement."""
-    is_late, is_first, is_all = takes_few(build), level and build in FIRST, level == "all"
-    if key_size == 16:
-        taken = [*row.each, *(row.most if is_all or not takes_few(build, level) else ()),
-                 *(row.first if is_first or is_all and not is_late else ())]
-        more = [*(row.all_ if is_all and not is_late else ()), *(row.remainders if is_first else ())]
-    else:
-        taken = [*([*row.each, *row.most] if is_all and not is_late else ()), *(row.keys_24_32 if is_all or not is_late else ())]
-        more = [*row.lengths_24_32, *(row.first if is_all else ())] if is_first else ()
-    if is_all and is_first:
-        more = [*(values for values in more if is_beyond_every(row, values)), *row.every]
-    return dict.fromkeys([*taken, *more])
+def arguments_taken(row, build, key_size, is_all):
+    """Gives the arguments that a build has for a statement. `is_all`: with PROVE=all."""
+    has_more, has_most = not takes_few(build), is_all or not takes_few(build, is_all)
+    taken = [*(row.keys_24_32 if key_size != 16 else ())]
+    if key_size == 16 or is_all and has_more:
+        taken += [*row.each, *(row.most if has_most else ())]
+    if is_all and build in HAVE_EVERY:
+        taken += row.every
+    if is_all and has_more and key_size == 16:
+        taken += [*row.more, *(row.without_every if build not in HAVE_EVERY else ())]
+    return dict.fromkeys(taken)
 
 
 def name_of(row, values):
     return " ".join([row.name] + [str(v) for v in values if v not in ("", (), NO_CARRY)])
+
+
+def list_cases(options):
+    """Prints the cases of the chosen builds, statement by statement. All builds also have set_key, and all refusals."""
+    is_all = options.level == "all"
+    for build, key_size in ((build, size) for build in options.builds for size in options.keys if has_keys(build, size, is_all)):
+        print("\n%s.s, keys of %d bytes" % (build, key_size))
+        library = build.split("/")[1][:3]
+        for row in [*common_rows(library, "as in the header"), *rows_of(library, BUILDS[build])]:
+            taken = arguments_taken(row, build, key_size, is_all)
+            names = [name_of(row, as_tuple(values))[len(row.name) + 1:] or "once" for values in taken]
+            if names and options.only in row.name:
+                print("    %s: %s\n        %s" % (row.name, row.what or "no arguments", "; ".join(names)))
 
 
 def statements(keyed, options, part, parts):
@@ -320,7 +323,7 @@ def statements(keyed, options, part, parts):
     number = itertools.count()
     refusals = collections.Counter()
     for row in [*common_rows(keyed.library, version(options.dist, keyed.library)), *rows_of(keyed.library, program.machine)]:
-        for values in arguments_taken(row, program.build, keyed.key_size, options.level):
+        for values in arguments_taken(row, program.build, keyed.key_size, options.level == "all"):
             values = as_tuple(values)
             what = name_of(row, values)
             if options.only in what and next(number) % parts == part:

@@ -1,9 +1,9 @@
 """Runs the controls of the proof: faults that are planted in the assembly (faults.py), wrong guesses of states at joints (wrong_states.py),
 faults in other files (wrong_files.py), and wrong meanings of instructions. Each has to be refused. Run it as `make prove-controls` in dist.
 
-A fault is refused if the case that it names is not proved any more. That is a case of PROVE=builds. For Windows, `_v1` and RISC-V, and for
-every length, it is one of PROVE=all. A fault for which a build has no place counts as missed. Any other failure ends the controls:
-one of gcc or ld, a case that isn't there, or a planted instruction that the program doesn't know, unless that is the fault."""
+A fault is refused if the case that it names is not proved any more. That is a case of PROVE=all. A fault for which a build has no place
+counts as missed. Any other failure ends the controls: one of gcc or ld, a case that isn't there, or a planted instruction that the program
+doesn't know, unless that is the fault."""
 import argparse
 import functools
 import re
@@ -12,7 +12,7 @@ import sys
 
 from cases import LIBRARIES, statements
 from kept import sum_of_program
-from linked.builds import BUILDS, source, takes_few
+from linked.builds import BUILDS, source
 from linked.directives import refuse_lines
 from linked.linking import assemble
 from loops import joints
@@ -27,7 +27,6 @@ from symbols.bits import Unproved
 from tasks import pool_of
 
 KEPT = "kept: "  # how the words on a fault begin that an earlier run refused
-EVERY_LENGTH = "every_"  # how the names of cases begin that prove every length, or every pair of lengths
 
 
 def verdict(what, attempt, reason=""):
@@ -81,16 +80,13 @@ class Planted:
     def cases(self):
         """Gives the cases, for the keys that set_key stores. `find` needs them before there is a fault to be refused."""
         self.keyed.set_key()
-        return {**self.cases_of("all" if takes_few(self.build) else "builds"), **self.cases_of("all", EVERY_LENGTH),
-                "set_key": None}
+        options = argparse.Namespace(dist=self.dist, level="all", only="")
+        return {**dict(statements(self.keyed, options, 0, 1)), "set_key": None}
 
     def find(self, cases):
         """Ends the controls if the build lacks one of these cases."""
         if not {*cases} <= self.cases.keys():
             raise SystemExit("controls: %s: no such case: %s" % (self.build, ", ".join(cases)))
-
-    def cases_of(self, level, only=""):
-        return dict(statements(self.keyed, argparse.Namespace(dist=self.dist, level=level, only=only), 0, 1))
 
     def prove_cases(self, assembly, cases):
         """Proves these cases of the build with this assembly."""
@@ -232,7 +228,7 @@ def try_wrong_meanings(options, machine):
 
 
 def main():
-    options = options_of(__doc__, "builds")
+    options = options_of(__doc__, all_builds=True)
     refused, missed, kept = 0, 0, 0
     tries = [(try_faults, build) for build in BUILDS_WITH_FAULTS if build in options.builds]
     if not options.only:

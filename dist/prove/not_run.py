@@ -1,4 +1,4 @@
-"""Counts for each export the instructions that it may reach and that its cases didn't run, and its conditional jumps that went one way only.
+"""Counts for each export the instructions that it may reach and that its cases didn't run, and the conditional jumps that went one way.
 not_run.tsv has the counts, and more than it has is a fault. `prove.py --record` writes it."""
 import collections
 import os
@@ -11,6 +11,7 @@ from linked.program import Program
 PATH = os.path.join(PROVE_FOLDER, "not_run.tsv")
 # Exports that need no key, which are only proved once.
 KEYLESS = r"fotsgure_\w+_(?:version|wipe|wipe_message|(?:equiv_inv_)?cipher_round(?:_par)?|(?:inv_)?mix_columns)"
+USUAL = "usual"  # the level of `make prove` in the table
 COUNTED = "instructions didn't run", "conditional jumps went one way"
 
 
@@ -34,7 +35,7 @@ def counts_of(program, build, tasks):
 
 
 def read():
-    """Reads the table: {(level, assembly file, export): counts}. The level of `make prove` is empty."""
+    """Reads the table: {(level, assembly file, export): counts}. The level of `make prove` is `usual`, and the other one `all`."""
     with open(PATH) as file:
         rows = [line.rstrip("\n").split("\t") for line in file]
     return {tuple(row[:3]): tuple(map(int, row[3:])) for row in rows}
@@ -54,12 +55,12 @@ def faults_of(level, build, counts):
     """Gives the faults of a build with these counts. Prints which numbers of the table are too high. A level without rows for a build has
     at most the counts of `make prove`, as it has all of its cases."""
     rows, assembly = read(), assembly_of(build)
-    if ("", assembly) not in {row[:2] for row in rows}:
+    if (USUAL, assembly) not in {row[:2] for row in rows}:
         print("%s.s: not_run.tsv has no rows of it: RECORD=1 writes them" % build)
         return
     for export, have in sorted(counts.items()):
         own = rows.get((level, assembly, export))
-        listed = own or rows.get(("", assembly, export))
+        listed = own or rows.get((USUAL, assembly, export))
         for x, y, what in zip(have, listed or have, COUNTED):
             if x > y:
                 yield "%s.s, %s: %d %s, and not_run.tsv has %d" % (build, export, x, what, y)
@@ -87,9 +88,10 @@ def faults_of_run(tasks, options):
         if is_whole:
             whole[build] = counts
             faults += ["%s.s, %s" % (build, fault) for fault in without_case(program, build, own)]
+    level = options.level or USUAL
     if options.record:
-        write(options.level, whole)
-    return faults + [fault for build, counts in whole.items() for fault in faults_of(options.level, build, counts)]
+        write(level, whole)
+    return faults + [fault for build, counts in whole.items() for fault in faults_of(level, build, counts)]
 
 
 def without_case(program, build, tasks):

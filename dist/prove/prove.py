@@ -7,6 +7,7 @@ import shutil
 import sys
 import time
 
+from cases import list_cases
 from kept import Kept
 from linked.builds import BUILDS, KEY_SIZES, MACHINES, library_of
 from linked.linking import PROVE_FOLDER, Built, built_cases, rust_cases
@@ -19,7 +20,7 @@ from statements.standards import pinned
 from symbols.domain import Domain
 from tasks import compare_forms, pool_of, run_all
 
-LEVELS = "", "builds", "all"  # values of PROVE: which builds and which lengths are proved (cases.py)
+LEVELS = "", "all"  # values of PROVE: which builds and which lengths are proved (cases.py)
 
 
 def missing(machine):
@@ -37,35 +38,37 @@ def print_what_is_missing(machines):
                 print("%s %s here, without %s" % (machine.__name__, consequence, ", ".join(names)))
 
 
-def options_of(description, level=os.environ.get("PROVE", "")):
-    """Reads the options of the command line. Prints for which machines tools are missing, and keeps the builds of the others."""
+def options_of(description, all_builds=False):
+    """Reads the options of the command line. Prints for which machines tools are missing, and keeps the builds of the others. By default
+    these are the builds that the Makefile built, or with `all_builds` or the level `all` every build."""
     parser = argparse.ArgumentParser(description=description)
     parser.add_argument("--dist", default=os.path.dirname(PROVE_FOLDER))
     parser.add_argument("--out", default="out/prove")
     parser.add_argument("--built", type=lambda s: s.split("="), default=("", ""), metavar="FOLDER=OUT",
                         help="where the Makefile built the libraries of the assembly in a folder; the others are built below --out")
-    parser.add_argument("--level", default=level, help="builds: also those for other machines; all: also at all lengths")
-    parser.add_argument("--builds", type=lambda s: s.split(","))
+    parser.add_argument("--level", default=os.environ.get("PROVE", ""), help="all: every build, and more lengths")
+    parser.add_argument("--builds", type=lambda s: [*BUILDS] if s == "all" else s.split(","), help="some builds, or `all`")
     parser.add_argument("--keys", type=lambda s: [int(n) for n in s.split(",")], default=KEY_SIZES)
     parser.add_argument("--only", default="", help="calls, or faults, that have this in their name")
     parser.add_argument("--record", action="store_true", help="writes how much doesn't run, not_run.tsv, for this level and these builds")
     parser.add_argument("--anew", action="store_true", help="uses nothing that earlier runs proved")
     parser.add_argument("--lines", action="store_true", help="a line for each case, which is proved anew")
+    parser.add_argument("--list", action="store_true", help="prints the table of cases, and proves nothing")
     parser.add_argument("--jobs", type=int, default=os.cpu_count())
     options = parser.parse_args()
     os.makedirs(options.out, exist_ok=True)
     if options.level not in LEVELS:
-        parser.error("PROVE may be " + " or ".join(LEVELS[1:]))
+        parser.error("PROVE may be all. (BUILDS=all proves every build at the lengths that `make prove` has.)")
     folder = options.built[0] or "x86_64"
-    options.builds = options.builds or [build for build in BUILDS if options.level or build.startswith(folder + "/")]
+    options.builds = options.builds or [build for build in BUILDS if all_builds or options.level or build.startswith(folder + "/")]
     if set(options.builds) - set(BUILDS):
         parser.error("the builds are " + ", ".join(BUILDS))
     if options.record and (options.only or options.keys != KEY_SIZES):
         parser.error("only all cases with all keys are recorded")
     print_what_is_missing({BUILDS[build]: None for build in options.builds})
-    all_builds, options.kept = options.builds, Kept(options.dist, options.anew)
-    options.builds = [build for build in all_builds if not missing(BUILDS[build])]
-    options.left_out = len(all_builds) - len(options.builds)
+    wanted, options.kept = options.builds, Kept(options.dist, options.anew)
+    options.builds = [build for build in wanted if not missing(BUILDS[build])]
+    options.left_out = len(wanted) - len(options.builds)
     return options
 
 
@@ -123,6 +126,8 @@ def print_cases(cases):
 def main():
     """Proves all cases, prints the results, and gives whether anything failed."""
     options = options_of(__doc__)
+    if options.list:
+        return list_cases(options)
     start, tasks = time.time(), []
     vectors = pinned(Domain())
     proved, failed = print_cases(cases_of_files(options))

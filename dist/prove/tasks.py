@@ -4,7 +4,7 @@ import concurrent.futures
 import gc
 import time
 
-from cases import FIRST, LIBRARIES, statements
+from cases import HAVE_EVERY, LIBRARIES, has_keys, statements
 from kept import sum_of, sum_of_program
 from linked.builds import BUILDS, is_windows, narrow_word, takes_few
 from linked.linking import program_of
@@ -20,7 +20,7 @@ SEED = 1
 FORMS_IN_A_MINUTE = 500  # that a processor compares
 RESULTS = "proved", "failed", "vectors", "used", "compared", "calls", "kept_key", "ran"  # what is kept of a Task
 
-# Calls that also run on the processor: by default, with builds of few lengths, on RISC-V, and with all lengths.
+# Calls that also run on the processor: by default, with builds of few lengths, on RISC-V, and with PROVE=all.
 BESIDE = "blocks encrypt 17", "add_keystream 21 11 1", "seal 13 33"
 FEW_BESIDE = "add_keystream 0 33", "seal 13 33"  # (but none with `_v1` for Windows)
 ON_RISCV = "blocks encrypt 2", "add_keystream 21 40 1", "additional 3 13"
@@ -98,13 +98,14 @@ class Task:
 
     def beside(self):
         """Gives the cases that also run on the processor."""
-        if self.key_size != self.options.keys[0] or self.library == "siv" and (self.options.level != "all" or narrow_word(self.build)):
+        is_all = self.options.level == "all"
+        if self.key_size != self.options.keys[0] or self.library == "siv" and (not is_all or narrow_word(self.build)):
             return ()
         if self.machine.relaxed:
             return ON_RISCV
-        if takes_few(self.build, self.options.level):
+        if takes_few(self.build, is_all):
             return () if is_windows(self.build) and narrow_word(self.build) else FEW_BESIDE
-        return (*ALL_BESIDE, *["set_key"] * (self.part == 0)) if self.options.level == "all" else BESIDE
+        return (*ALL_BESIDE, *["set_key"] * (self.part == 0)) if is_all else BESIDE
 
     def case(self, what, prove):
         """Proves one case, and counts it. `prove` also runs it on the processor if it is given a seed."""
@@ -129,22 +130,20 @@ def pool_of(jobs, **more):
     return concurrent.futures.ProcessPoolExecutor(jobs, initializer=gc.disable, **more)
 
 
-def parts_of(level, build, size):
+def parts_of(is_all, build, size):
     """Gives in how many parts the calls of a build are proved. All parts should run about as long, and not need too much memory."""
-    if level == "all":
-        return 8 if build in FIRST or "/aes" in build and not takes_few(build) else 3
-    if size != 16 or takes_few(build, level):
-        return 1
-    return 4 if level and build in FIRST else 1 if level else 2
+    if is_all:
+        return 8 if build in HAVE_EVERY or "/aes" in build and not takes_few(build) else 3
+    return 1 if size != 16 or takes_few(build, is_all) else 2
 
 
 def run_all(pool, options):
     """Runs all tasks, the longest first. Gives each one when it has run, and a text about those that are left."""
+    is_all = options.level == "all"
     tasks = [Task(options, build, size, part, parts) for size in options.keys for build in options.builds
-             if (size != 24 or "siv" not in build) and (size == 16 or options.level == "all" or not takes_few(build))
-             for parts in [parts_of(options.level, build, size)] for part in range(parts)]
-    if options.level == "all":
-        tasks.sort(key=lambda task: task.build not in FIRST)  # (with each size of key)
+             if has_keys(build, size, is_all) for parts in [parts_of(is_all, build, size)] for part in range(parts)]
+    if is_all:
+        tasks.sort(key=lambda task: task.build not in HAVE_EVERY)  # (with each size of key)
     seconds = {task.name: options.kept.read(task.of_seconds()) for task in tasks}
     left = {*seconds}
     for future in concurrent.futures.as_completed([pool.submit(task.run) for task in tasks]):

@@ -42,7 +42,7 @@ def is_windows(build):
     return BUILDS[build] is Windows
 
 
-def takes_few(build, level="all"):
-    """Whether a build is proved at fewer lengths than others (cases.py). Such builds have the same source as others. Without PROVE `_v3` is
-    one of them."""
-    return suffix_of(build) == "_v1" or is_windows(build) or issubclass(BUILDS[build], Riscv) or not level and suffix_of(build) == "_v3"
+def takes_few(build, is_all=True):
+    """Whether a build is proved at fewer lengths than others (cases.py). Such builds have the same source as others. Without PROVE=all
+    `_v3` is one of them."""
+    return suffix_of(build) == "_v1" or is_windows(build) or issubclass(BUILDS[build], Riscv) or not is_all and suffix_of(build) == "_v3"

@@ -110,8 +110,8 @@ def end_of(m, part, names):
 
 
 def facts_of_ends(ends, part, begin):
-    """Gives the facts at the ends of runs of a part, as end_of does, with those that say that the length is that of `begin`. Leaves out ends
-    at which it leaves another remainder."""
+    """Gives the facts at the ends of runs of a part, as end_of does, with those that say that the length is that of `begin`. Leaves out
+    ends at which it leaves another remainder."""
     own, length = unknown(part.length), begin.known(unknown(part.length))
     return [facts | {own - length, length - own} for end, facts in ends if may_be_zero(end - length)]
 

@@ -129,7 +129,7 @@ GCM_FAULTS = {
         Fault("a byte left out of additional data of 16 n + 11 bytes where the text has 16 m + 4", SEAL, found=ENTRY,
               becomes=r"\1\tmovq\t8(%rsp), %r11\n" + mask("r11", 4) + r"\tmovq\t%rax, %r10\n" + mask("r8", 11) + r"\tandq\t%r10, %rax\n"
                       r"\taddq\t%rax, %r8\n",
-              case="at_pairs seal"),
+              case="every_seal"),
         Fault("a round key in a message for a while", FINISH, found=r"\tmovq\t%rsi, %r14\n(?:\tcallq\t.*\n){2}",
               becomes=r"\g<0>\tmovq\t(%rsp), %rdi\n\tmovups\t(%rdi), %xmm0\n\tmovups\t%xmm0, 64(%r14)\n", case="any_finish 2 0 7"),
         Fault("a field of the message moved", BEGIN, found=r"\t\$1, 24\(", becomes="\t$1, 16(", case="begin"),
