@@ -436,11 +436,19 @@ static void at_lengths(const struct call *call)
         }
 }
 
+/* PROVED names what dist/prove has for a machine at each of these lengths, with keys of 16 bytes. */
+static int is_proved(const struct call *call)
+{
+    char name[40];
+    snprintf(name, sizeof name, " %s ", call->name);
+    return now.size == 16 && strstr(" " PROVED " ", name);
+}
+
 int main(void)
 {
     for (now.size = 16; now.size <= 32; now.size += 8)
         for (const struct call *call = calls; call < calls + OF(calls); call++)
-            if (call->mode != SIV || now.size != 24)
+            if (!is_proved(call) && (call->mode != SIV || now.size != 24))
                 at_lengths(call);
     return 0;
 }
