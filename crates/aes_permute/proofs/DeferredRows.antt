@@ -12,7 +12,8 @@ use Rattle.aes_planes.proofs.Standard.LinearSteps.{shift_map}
 use Rattle.aes_planes.proofs.Standard.Steps.{length-shift_times, shift_times_bytes}
 use Rattle.aes_permute.specs.Lookup.{is_index, AreIndices}
 use Rattle.aes_permute.specs.Stored.{untower, key_untower}
-use Rattle.aes_permute.specs.declared.tables.TheConstants.{SHIFTED_ROWS, NEXT_ROW, ROW_BEFORE}
+use Rattle.aes_permute.specs.declared.tables.TheConstants.{SHIFTED_ROWS, NEXT_ROW}
+use Rattle.aes_permute.specs.declared.tables.TheConstants.{NEXT_ROW_BUT_ONE, ROW_BEFORE}
 use Rattle.aes_permute.proofs.ExpandedLanes.{inner_is}
 use Rattle.aes_permute.proofs.RoundLanes.{by_1, by_2, plain_sbox, permuted, paired, round_of}
 use Rattle.aes_permute.proofs.RoundLanes.{last_sum_of, round_is, last_round_is}
@@ -45,6 +46,11 @@ pub next_indices : (n : ℕ) → AreIndices (places_in NEXT_ROW (n % 4))
 unfolding is_index
 next_indices = indices_at NEXT_ROW refl refl refl refl
 
+-- each table of NEXT_ROW_BUT_ONE has indices
+pub next_but_one_indices : (n : ℕ) → AreIndices (places_in NEXT_ROW_BUT_ONE (n % 4))
+unfolding is_index
+next_but_one_indices = indices_at NEXT_ROW_BUT_ONE refl refl refl refl
+
 -- each table of ROW_BEFORE has indices
 pub before_indices : (n : ℕ) → AreIndices (places_in ROW_BEFORE (n % 4))
 unfolding is_index
@@ -53,7 +59,7 @@ before_indices = indices_at ROW_BEFORE refl refl refl refl
 -- ---- ShiftRows some times
 
 -- a change of each byte and ShiftRows can be exchanged
-times_map : (f : ℕ → ℕ) (k : ℕ) (s : List ℕ) → length s ≡ 16
+pub times_map : (f : ℕ → ℕ) (k : ℕ) (s : List ℕ) → length s ≡ 16
     → map f (shift_times k s) ≡ shift_times k (map f s)
 unfolding shift_times
 times_map f zero s l = refl
@@ -62,7 +68,7 @@ times_map f (suc k) s l =
     ∙ ap shift_rows (times_map f k s l)
 
 -- a block stays a block
-times_block : (k : ℕ) (s : List ℕ) → IsBlock s → IsBlock (shift_times k s)
+pub times_block : (k : ℕ) (s : List ℕ) → IsBlock s → IsBlock (shift_times k s)
 times_block k s (long, small) = (length-shift_times k s long, shift_times_bytes k s small)
 
 -- entry k of SHIFTED_ROWS has the places of k ShiftRows
@@ -124,7 +130,7 @@ round_at k o p key =
     (permuted p (places_in NEXT_ROW k))
 
 -- with the deferred ShiftRows made up for, the round is one that defers none
-abbrev MadeUp : ℕ → List ℕ → List ℕ → List ℕ → Type 0
+abbrev pub MadeUp : ℕ → List ℕ → List ℕ → List ℕ → Type 0
 MadeUp k o t key = (shift_times k (round_at k o (pairs_at k o t) key)
     ≡ round_of (shift_times (before k) o)
     (paired (shift_times (before k) o) (shift_times (before k) t)) (shift_times k key))
@@ -137,7 +143,7 @@ made_up_on_lanes = by_four (λ k. (f g h : ℕ → ℕ) → MadeUp k (build 16 f
     (λ f g h. (refl, refl)) (λ f g h. (refl, refl)) (λ f g h. (refl, refl)) (λ f g h. (refl, refl))
 
 -- any blocks have `MadeUp`, since each is built of its bytes
-made_up : (k : ℕ) (o t key : List ℕ) → k < 4 → length o ≡ 16 → length t ≡ 16 → length key ≡ 16
+pub made_up : (k : ℕ) (o t key : List ℕ) → k < 4 → length o ≡ 16 → length t ≡ 16 → length key ≡ 16
     → MadeUp k o t key
 made_up k o t key small l m n =
     subst (λ o. MadeUp k o t key) (build-get_or 16 o 0 l)
@@ -147,7 +153,7 @@ made_up k o t key small l m n =
     (made_up_on_lanes k small (λ i. get_or o i 0) (λ i. get_or t i 0) (λ i. get_or key i 0))))
 
 -- how many ShiftRows are left out before round n is how many are after round n - 1
-deferred_before_round : (n : ℕ) → 1 ≤ n → before (n % 4) ≡ (n - 1) % 4
+pub deferred_before_round : (n : ℕ) → 1 ≤ n → before (n % 4) ≡ (n - 1) % 4
 deferred_before_round n some = omega arith
 
 -- a round is the standard's of what the bytes stand for in their places
