@@ -9,10 +9,10 @@ use Rattle.aes_planes.specs.Fips197.{shift_times, inv_shift_rows, inv_shift_time
 use Rattle.aes_planes.proofs.Bits.ByteCases.{by_four}
 use Rattle.aes_planes.proofs.Lists.{same_on_block}
 use Rattle.aes_planes.proofs.Standard.Steps.{length-inv_shift_rows}
+use Rattle.aes_permute.specs.MixedRows.{permuted, places_in}
 use Rattle.aes_permute.specs.declared.tables.TheConstants.{SHIFTED_ROWS}
 use Rattle.aes_permute.proofs.DeferredRows.{before}
-use Rattle.aes_permute.proofs.DeferredRows.{places_in, shifted_is, times_map}
-use Rattle.aes_permute.proofs.RoundLanes.{permuted}
+use Rattle.aes_permute.proofs.DeferredRows.{shifted_is, times_map}
 
 -- any number of InvShiftRows leave sixteen bytes
 pub length-inv_shift_times : (k : ℕ) (s : List ℕ) → length s ≡ 16 → length (inv_shift_times k s) ≡ 16

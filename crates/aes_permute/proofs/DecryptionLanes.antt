@@ -17,6 +17,7 @@ use Rattle.aes_planes.proofs.Standard.Steps.{length-shift_times}
 use Rattle.aes_cipher.proofs.BlockNumbers.{blocks_summed}
 use Rattle.aes_permute.specs.TwoIndices.{first_of, second_of}
 use Rattle.aes_permute.specs.Lookup.{by_nibbles}
+use Rattle.aes_permute.specs.MixedRows.{permuted, places_in}
 use Rattle.aes_permute.specs.Stored.{as_is, inv_untower, decryption_untower}
 use Rattle.aes_permute.specs.declared.tables.TheConstants.{INV_TOWER_LOW, INV_TOWER_HIGH}
 use Rattle.aes_permute.specs.declared.tables.TheConstants.{INV_SBOX_FIRST, INV_SBOX_SECOND}
@@ -24,9 +25,8 @@ use Rattle.aes_permute.specs.declared.tables.TheConstants.{INV_5_FIRST, INV_5_SE
 use Rattle.aes_permute.specs.declared.tables.TheConstants.{INV_4_SECOND}
 use Rattle.aes_permute.specs.declared.tables.TheConstants.{SHIFTED_ROWS}
 use Rattle.aes_permute.proofs.DeferredRows.{before, deferred_before_round}
-use Rattle.aes_permute.proofs.DeferredRows.{places_in, shifted_is}
+use Rattle.aes_permute.proofs.DeferredRows.{shifted_is}
 use Rattle.aes_permute.proofs.Lookups.{map-ext_by_test, map-ext_bytes}
-use Rattle.aes_permute.proofs.RoundLanes.{permuted}
 use Rattle.aes_permute.proofs.RoundLanes.{through, zip_sum_bytes}
 use Rattle.aes_permute.proofs.MixedBack.{products_are, MakesProduct}
 use Rattle.aes_permute.proofs.BackShifts.{inv_times_map, others_back, shifted_back_on}

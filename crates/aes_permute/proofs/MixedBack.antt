@@ -21,16 +21,16 @@ use Rattle.aes_planes.proofs.Standard.States.{state_same}
 use Rattle.aes_planes.proofs.Standard.Steps.{length-shift_times}
 use Rattle.aes_cipher.proofs.BlockNumbers.{blocks_summed}
 use Rattle.aes_permute.specs.Lookup.{by_nibbles}
+use Rattle.aes_permute.specs.MixedRows.{mixed_at, permuted, places_in}
 use Rattle.aes_permute.specs.Stored.{inv_untower, decryption_untower}
 use Rattle.aes_permute.specs.declared.tables.TheConstants.{INV_DOUBLE_LOW}
 use Rattle.aes_permute.specs.declared.tables.TheConstants.{INV_DOUBLE_HIGH, KEY_5_LOW, KEY_5_HIGH}
 use Rattle.aes_permute.specs.declared.tables.TheConstants.{KEY_4_LOW, KEY_4_HIGH}
 use Rattle.aes_permute.specs.declared.tables.TheConstants.{NEXT_ROW_BUT_ONE}
-use Rattle.aes_permute.proofs.DeferredRows.{before, made_up, pairs_at}
-use Rattle.aes_permute.proofs.DeferredRows.{places_in, round_at, times_block, times_map}
+use Rattle.aes_permute.proofs.DeferredRows.{before, made_up, times_block, times_map}
 use Rattle.aes_permute.proofs.Linear.{decryption_untower_three, inv_untower_sum, Makes}
 use Rattle.aes_permute.proofs.Lookups.{map-ext_by_test}
-use Rattle.aes_permute.proofs.RoundLanes.{mix_products, paired, permuted, round_of, sums_mixed}
+use Rattle.aes_permute.proofs.RoundLanes.{mix_products, mixed_of, sums_mixed}
 
 -- ---- what is looked up
 
@@ -180,26 +180,24 @@ half_is k small x five four long four_long is_5 is_4 is_one =
     ∙ halves_shifted k small x long
 
 -- the sums that `mixed_back` makes stand for InvMixColumns and the sum with a round key
-pub mixed_back_is : (n : ℕ) (x key five four : List ℕ) {one two p : List ℕ} → IsBlock x
+pub mixed_back_is : (n : ℕ) (x key five four : List ℕ) {one two : List ℕ} → IsBlock x
     → length key ≡ 16 → length four ≡ 16 → IsBlock one
     → map inv_untower five ≡ map (field_mul 5) x → map inv_untower four ≡ map (field_mul 4) x
-    → one ≡ half_at (n % 4) five four → two ≡ map doubled one → p ≡ pairs_at (n % 4) one two
-    → shift_times (n % 4) (map decryption_untower (round_at (n % 4) one p key))
+    → one ≡ half_at (n % 4) five four → two ≡ map doubled one
+    → shift_times (n % 4) (map decryption_untower (mixed_at (n % 4) one two key))
     ≡ add_round_key (inv_mix_columns (shift_times (n % 4) x))
     (shift_times (n % 4) (map decryption_untower key))
-mixed_back_is n x key five four {one = one} block key_long four_long one_block is_5 is_4 is_one is_two is_p =
+mixed_back_is n x key five four {one = one} block key_long four_long one_block is_5 is_4 is_one is_two =
     let k : ℕ = n % 4 in
     let small : k < 4 = omega arith in
     let l : length one ≡ 16 = one_block.0 in
     let two : List ℕ = map doubled one in
     let y : List ℕ = shift_times (before k) one in
     let made = made_up k one two key small l (length-map one doubled ∙ l) key_long in
-    (λ i. shift_times k (map decryption_untower
-    (round_at k one ((is_p ∙ (λ j. pairs_at k one (is_two j))) i) key)))
-    ∙ sym (times_map decryption_untower k (round_at k one (pairs_at k one two) key) made.1)
+    (λ i. shift_times k (map decryption_untower (mixed_at k one (is_two i) key)))
+    ∙ sym (times_map decryption_untower k (mixed_at k one two key) made.1)
     ∙ ap (map decryption_untower) (made.0
-    ∙ (λ i. round_of (sym (map-id y) i)
-    (paired (sym (map-id y) i) (sym (times_map doubled (before k) one l) i)) (shift_times k key)))
+    ∙ (λ i. mixed_of (sym (map-id y) i) (sym (times_map doubled (before k) one l) i) (shift_times k key)))
     ∙ sums_mixed (λ b. b) doubled decryption_untower inv_untower decryption_untower 0x63 0x63 0x63
     decryption_untower_three doubles_made (λ b. add_zero (decryption_untower b)) y (shift_times k key)
     (times_block (before k) one one_block) (length-shift_times k key key_long)

@@ -17,7 +17,8 @@ use Rattle.aes_planes.proofs.Standard.States.{state_same}
 use Rattle.aes_planes.proofs.Standard.Steps.{add_block}
 use Rattle.aes_cipher.proofs.BlockNumbers.{blocks_summed}
 use Rattle.aes_permute.specs.TwoIndices.{first_of, second_of, at_indices}
-use Rattle.aes_permute.specs.Lookup.{looked, by_nibbles}
+use Rattle.aes_permute.specs.Lookup.{by_nibbles}
+use Rattle.aes_permute.specs.MixedRows.{permuted}
 use Rattle.aes_permute.specs.Stored.{as_is, untower, key_untower}
 use Rattle.aes_permute.specs.declared.tables.TheConstants.{TOWER_LOW, TOWER_HIGH, SBOX_FIRST}
 use Rattle.aes_permute.specs.declared.tables.TheConstants.{SBOX_SECOND, ONE_FIRST, ONE_SECOND}
@@ -79,30 +80,26 @@ abbrev pub same_row : List ℕ
 same_row = 0 ∷ 5 ∷ 10 ∷ 15 ∷ 4 ∷ 9 ∷ 14 ∷ 3 ∷ 8 ∷ 13 ∷ 2 ∷ 7 ∷ 12 ∷ 1 ∷ 6 ∷ 11 ∷ []
 
 -- the lanes one row further down
-abbrev pub next_row : List ℕ
+abbrev next_row : List ℕ
 next_row = 5 ∷ 10 ∷ 15 ∷ 0 ∷ 9 ∷ 14 ∷ 3 ∷ 4 ∷ 13 ∷ 2 ∷ 7 ∷ 8 ∷ 1 ∷ 6 ∷ 11 ∷ 12 ∷ []
 
 -- the lanes three rows further down
-abbrev pub three_rows_on : List ℕ
+abbrev three_rows_on : List ℕ
 three_rows_on = 15 ∷ 0 ∷ 5 ∷ 10 ∷ 3 ∷ 4 ∷ 9 ∷ 14 ∷ 7 ∷ 8 ∷ 13 ∷ 2 ∷ 11 ∷ 12 ∷ 1 ∷ 6 ∷ []
 
--- a block with its lanes from these places of it
-abbrev pub permuted : List ℕ → List ℕ → List ℕ
-permuted xs ks = map (looked xs) ks
-
--- the lanes of the next row, before the rows are shifted
-abbrev pub row_before : List ℕ
-row_before = 5 ∷ 6 ∷ 7 ∷ 4 ∷ 9 ∷ 10 ∷ 11 ∷ 8 ∷ 13 ∷ 14 ∷ 15 ∷ 12 ∷ 1 ∷ 2 ∷ 3 ∷ 0 ∷ []
+-- the lanes of the next row, from where the rows are shifted
+abbrev next_of_shifted : List ℕ
+next_of_shifted = 5 ∷ 6 ∷ 7 ∷ 4 ∷ 9 ∷ 10 ∷ 11 ∷ 8 ∷ 13 ∷ 14 ∷ 15 ∷ 12 ∷ 1 ∷ 2 ∷ 3 ∷ 0 ∷ []
 
 -- the doubles, each with the byte of the next row
-abbrev pub paired : List ℕ → List ℕ → List ℕ
-paired o t = zip2 bit_xor t (permuted o row_before)
+abbrev paired : List ℕ → List ℕ → List ℕ
+paired o t = zip2 bit_xor t (permuted o next_of_shifted)
 
--- the sum that a round makes of what it looked up for 1, the pairs, and a round key
-abbrev pub round_of : List ℕ → List ℕ → List ℕ → List ℕ
-round_of o p k =
-    zip2 bit_xor (zip2 bit_xor (zip2 bit_xor (permuted o three_rows_on) k) (permuted p same_row))
-    (permuted p next_row)
+-- the sum that a round makes of what it looked up for 1 and for 2, and a round key
+abbrev pub mixed_of : List ℕ → List ℕ → List ℕ → List ℕ
+mixed_of o t k =
+    zip2 bit_xor (zip2 bit_xor (zip2 bit_xor (permuted o three_rows_on) k) (permuted (paired o t) same_row))
+    (permuted (paired o t) next_row)
 
 -- the sum of a byte, in the order in which a round on lanes makes it, and in that of `added`
 abbrev pairs_summed : ℕ → ℕ → ℕ → ℕ → ℕ → ℕ → ℕ
@@ -125,7 +122,7 @@ pairs_parted a o t c d y =
 module _ (one two v g w : ℕ → ℕ) (at_2 at_3 at_1 : ℕ) where
   -- the round on lanes, from what it looks up
   abbrev on_lanes : List ℕ → List ℕ → List ℕ
-  on_lanes x k = map v (round_of (map one x) (paired (map one x) (map two x)) k)
+  on_lanes x k = map v (mixed_of (map one x) (map two x) k)
 
   -- the round as the standard has it, of what the lanes stand for
   abbrev standard : List ℕ → List ℕ → List ℕ
@@ -173,13 +170,12 @@ module _ (one two v g w : ℕ → ℕ) (at_2 at_3 at_1 : ℕ) where
       ∙ round_sums_are x k is_block.0 k_long
 
 -- a round on lanes is SubBytes, ShiftRows, MixColumns and AddRoundKey of what the lanes stand for
-pub round_is : (x k : List ℕ) {o t p : List ℕ} → IsBlock x → length k ≡ 16 → o ≡ map by_1 x
-    → t ≡ map by_2 x
-    → p ≡ paired o t → map untower (round_of o p k)
+pub round_is : (x k : List ℕ) {o t : List ℕ} → IsBlock x → length k ≡ 16 → o ≡ map by_1 x
+    → t ≡ map by_2 x → map untower (mixed_of o t k)
     ≡ add_round_key (mix_columns (shift_rows (sub_bytes (map untower x)))) (map key_untower k)
 unfolding key_untower sub_bytes
-round_is x k is_block k_long o_is t_is p_is =
-    (λ i. map untower (round_of (o_is i) ((p_is ∙ (λ j. paired (o_is j) (t_is j))) i) k))
+round_is x k is_block k_long o_is t_is =
+    (λ i. map untower (mixed_of (o_is i) (t_is i) k))
     ∙ sums_mixed by_1 by_2 untower boxed key_untower 0xc6 0xa5 0x63 untower_three products_made
     (λ y. refl) x k is_block k_long
     ∙ ap (λ v. add_round_key (mix_columns (shift_rows v)) (map key_untower k))

@@ -4,6 +4,7 @@
 ghost use Rattle.std.specs.Prelude.{◌≡◌, ◌-◌, ◌%◌, ◌≤◌, ℕ, List, true, false, map};
 ghost use Rattle.aes_planes.specs.Fips197 as fips;
 ghost use Rattle.aes_permute.specs.Keys.{cipher_form, inverse_form};
+ghost use Rattle.aes_permute.specs.MixedRows.{mixed_at};
 ghost use Rattle.aes_permute.specs.Stored.{untower, inv_untower, decryption_untower};
 ghost use Rattle.aes_permute.specs.Stored.{key_untower};
 
@@ -39,15 +40,7 @@ impl LaneRounds for Encrypt {
         let at = indices_of(x);
         let one = looked_up(at, ONE_FIRST, ONE_SECOND);
         let two = looked_up(at, TWO_FIRST, TWO_SECOND);
-        // The double of each byte plus the byte of the next row. One row further on, these sums
-        // have the other part of the product with 3.
-        let next = one.permuted(NEXT_ROW[number % 4]);
-        let pairs = two.sum(next);
-        let second = pairs.permuted(NEXT_ROW[number % 4]);
-        let fourth = one.permuted(ROW_BEFORE[number % 4]);
-        let with_key = fourth.sum(key);
-        let most = with_key.sum(pairs);
-        most.sum(second)
+        mixed_columns(one, two, key, number)
     }
 
     #[inline(always)]
@@ -117,10 +110,28 @@ impl LaneRounds for Decrypt {
     fn rounds_follow_the_standard() {}
 }
 
-// InvMixColumns and AddRoundKey, from the products of each byte with 5 and with 4 (FIPS 197, 5.3.3,
-// 5.1.4). InvMixColumns is MixColumns after a matrix whose first row is 5, 0, 4, 0. `left_out` says
+// MixColumns and AddRoundKey, from each byte and its double (FIPS 197, 5.1.3, 5.1.4). `left_out` says
 // how many ShiftRows are left out: the columns are those after them, and the bytes are where they
 // were before.
+#[inline(always)]
+fn mixed_columns<L: Lanes>(one: L, two: L, key: L, left_out: usize) -> L
+    ensures { (i : ℕ) → L.block result i
+        ≡ mixed_at (left_out % 4) (L.block one i) (L.block two i) (L.block key i) }
+{
+    // The double of each byte plus the byte of the next row. One row further on, these sums have the
+    // other part of the product with 3.
+    let next = one.permuted(NEXT_ROW[left_out % 4]);
+    let pairs = two.sum(next);
+    let second = pairs.permuted(NEXT_ROW[left_out % 4]);
+    let fourth = one.permuted(ROW_BEFORE[left_out % 4]);
+    let with_key = fourth.sum(key);
+    let most = with_key.sum(pairs);
+    most.sum(second)
+}
+
+// InvMixColumns and AddRoundKey, from the products of each byte with 5 and with 4 (FIPS 197, 5.3.3,
+// 5.1.4). InvMixColumns is MixColumns after a matrix whose first row is 5, 0, 4, 0. `left_out` is
+// that of `mixed_columns`.
 #[inline(always)]
 fn mixed_back<L: Lanes>(by_5: L, by_4: L, key: L, left_out: usize) -> L
     ensures { (i : ℕ) (x : List ℕ) → fips.IsBlock x
@@ -137,14 +148,7 @@ fn mixed_back<L: Lanes>(by_5: L, by_4: L, key: L, left_out: usize) -> L
     let one = by_5.sum(third);
     one.blocks_have_16_bytes();
     let two = looked_up_by_nibbles(one, INV_DOUBLE_LOW, INV_DOUBLE_HIGH);
-    // From here on as in a round of Cipher.
-    let next = one.permuted(NEXT_ROW[left_out % 4]);
-    let pairs = two.sum(next);
-    let second = pairs.permuted(NEXT_ROW[left_out % 4]);
-    let fourth = one.permuted(ROW_BEFORE[left_out % 4]);
-    let with_key = fourth.sum(key);
-    let most = with_key.sum(pairs);
-    most.sum(second)
+    mixed_columns(one, two, key, left_out)
 }
 
 /// Returns a block in the tower basis.

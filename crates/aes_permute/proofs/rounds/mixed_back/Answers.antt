@@ -2,32 +2,19 @@
 use Rattle.std.proofs.Common.{◌%◌, refl, ap, map, ◌∙◌}
 use Rattle.aes_planes.specs.Fips197.{shift_times}
 use Rattle.aes_permute.specs.Stored.{decryption_untower}
-use Rattle.aes_permute.proofs.MixedBack.{mixed_back_is}
-use Rattle.aes_permute.proofs.DeferredRows.{next_indices, next_but_one_indices, before_indices}
+use Rattle.aes_permute.proofs.DeferredRows.{next_but_one_indices}
 use Rattle.aes_permute.proofs.Lookups.{summed}
+use Rattle.aes_permute.proofs.MixedBack.{mixed_back_is}
 use Rattle.aes_permute.proofs.rounds.mixed_back.Goals as goal
 
 pub permuted-third-requires : goal.permuted-third-requires
 permuted-third-requires g c = record { are_indices = next_but_one_indices c.args.left_out }
 
-pub permuted-next-requires : goal.permuted-next-requires
-permuted-next-requires g c = record { are_indices = next_indices c.args.left_out }
-
-pub permuted-second-requires : goal.permuted-second-requires
-permuted-second-requires g c = record { are_indices = next_indices c.args.left_out }
-
-pub permuted-fourth-requires : goal.permuted-fourth-requires
-permuted-fourth-requires g c = record { are_indices = before_indices c.args.left_out }
-
 pub returns : goal.returns
 returns g c i x block is_5 is_4 =
-    ap (λ v. shift_times (c.args.left_out % 4) (map decryption_untower v))
-    (summed (c.sum.ensures i) (summed (c.sum-most.ensures i)
-    (summed (c.sum-with_key.ensures i) (c.permuted-fourth.ensures i) refl) refl)
-    (c.permuted-second.ensures i))
+    ap (λ v. shift_times (c.args.left_out % 4) (map decryption_untower v)) (c.mixed_columns.ensures i)
     ∙ mixed_back_is c.args.left_out x (g.L.Lanes.block c.args.key i) _ _ block
     (c.blocks_have_16_bytes-3.ensures i).0 (c.blocks_have_16_bytes-2.ensures i).0
     (c.blocks_have_16_bytes-4.ensures i)
     is_5 is_4 (summed (c.sum-one.ensures i) refl (c.permuted-third.ensures i))
     (c.looked_up_by_nibbles-two.ensures i)
-    (summed (c.sum-pairs.ensures i) refl (c.permuted-next.ensures i))
