@@ -66,7 +66,7 @@ fn process_two_vectors<D: LaneRounds, L: Lanes>(keys: &[Block], one: L, other: L
 /// Processes a block under stored round keys. Inlined, so that a block that depends on the one
 /// before it, as in a chain, stays in a register.
 #[inline(always)]
-pub fn process_one<D: LaneRounds>(keys: &[Block], block: &mut Block)
+pub fn process_block<D: LaneRounds>(keys: &[Block], block: &mut Block)
     requires two { 2 ≤ length keys.now }
     ensures { block.new ≡ all_rounds D.step D.last_step (round_keys_of D.form keys.now) block.old }
 {

@@ -31,7 +31,7 @@ UNCOVERED = [
         ("x86_64/.*", r"zeroize\.stack\.wipe_stack"), ("(?!x86_64/).*", r"zeroize\.\w+(\.\w+)?"))),
     (".*", r"expand_lanes|store_planes|process_on_lanes|process_planes|chaining\.chain|tags\.tag|_halves|put_mask|put_subkey|"
      r"_in_place|expand_words|process_outlined", "A loop over the round keys asks for each one whether it is there. It always is."),
-    (".*", "process_few|process_filled_up", "It asks whether there are any blocks. It is called only if there are."),
+    (".*", "process_filled_up", "It asks whether there are any blocks. It is called only if there are."),
     (".*/aes.*", r"ccm\.message\.put_tag|ccm\.mode\.\w+", "Only a few builds are tried with additional data of 65,280 bytes or more. "
      "The export refuses a text that is too long. The code asks for that a second time, and that never succeeds."),
     ("riscv32/aes", "_in_place", "A number of semiblocks has 64 bits. Its higher half is 0, as no buffer has more on this machine."),
@@ -100,7 +100,7 @@ SAME = [
      "or of a number that is too large. Others ask how many whole batches come first."),
     ("x86_64/.*", r"add_in_batches\.\w+|add_gctr|fotsgure_\w+|zeroize\.\w+\.\w+|siv\.derive_and_prepare",
      "It stores zeros where it wipes, in structs and on the stack, and the length of a key."),
-    ("x86_64/.*", r"process_on_planes|lend_planes_to_encrypt|siv\.(open|seal)_in", "memset wipes what a function used of the stack, which "
+    ("x86_64/.*", r"process_on_planes|lend_planes|siv\.(open|seal)_in", "memset wipes what a function used of the stack, which "
      "isn't always at the same depth."),
     ("x86_64/.*", "process_planes", "The round keys on planes aren't always at the same depth of the stack. A round key is as far from the "
      "first one each time."),
@@ -113,7 +113,7 @@ SAME = [
 LOOK_UPS = [
     (".*", r"expand_lanes|expand_words", "KeyExpansion reads a round constant in each step. In some builds a table says where to jump for "
      "the size of a key."),
-    (".*", r"fotsgure_aes_(cbc_encrypt|set_key)|process_on_lanes|process_one\w*|put_subkey|put_mask|chaining\.chain|tags\.tag|_halves|"
+    (".*", r"fotsgure_aes_(cbc_encrypt|set_key)|process_on_lanes|put_subkey|put_mask|chaining\.chain|tags\.tag|_halves|"
      "put_tag",
      "Each round on vectors reads the permutation of bytes for as many deferred ShiftRows as there are."),
 ]
