@@ -63,7 +63,12 @@ impl<'a, W> BorrowedCipher<'a, Encrypt, W> {
         requires { IsCipherSchedule keys.now }
         ensures { result ≡ key_of_lanes keys.now }
     {
-        BorrowedCipher::new(keys, keys)
+        BorrowedCipher {
+            keys,
+            direction_keys: keys,
+            direction: PhantomData,
+            width: PhantomData,
+        }
     }
 }
 

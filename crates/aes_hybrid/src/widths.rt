@@ -52,7 +52,7 @@ impl Width for Width128 {
 
     const LEAST_TO_ENCRYPT: usize = 15;
 
-    const LEAST_TO_DECRYPT: usize = 16;
+    const LEAST_TO_DECRYPT: usize = 15;
 
     const LEAST_FOR_CLOSURES: usize = 8;
 
