@@ -1,5 +1,5 @@
 -- Rounds of Cipher that leave ShiftRows out: the bytes are taken from where they are.
-use Rattle.std.proofs.Common.{◌≡◌, ℕ, zero, suc, ◌+◌, ◌-◌, ◌%◌, ◌<◌, ◌≤◌, bit_xor, List, []}
+use Rattle.std.proofs.Common.{◌≡◌, ℕ, zero, suc, ◌+◌, ◌-◌, ◌%◌, ◌<◌, ◌≤◌, bit_xor, List}
 use Rattle.std.proofs.Common.{length, map, get_or, replicate, refl, ap, sym, subst, ◌∙◌, arith}
 use Rattle.std.proofs.lemmas.List.{length-map}
 use lib.Lanes.{zip2}
