@@ -3,7 +3,7 @@ use Rattle.std.proofs.Common.{◌∙◌, arith}
 use Rattle.std.proofs.lemmas.Grind.{common_steps}
 use Rattle.aes_planes.proofs.Lists.{map-ext}
 use Rattle.aes_permute.proofs.KeyOfLanes.{two_stored, direction_rounds}
-use Rattle.aes_hybrid.proofs.borrowed_cipher.BorrowedCipher.process_few.Goals as goal
+use Rattle.aes_hybrid.proofs.borrowed_cipher.BorrowedCipher.process_on_vectors.Goals as goal
 
 pub process_on_lanes-requires : goal.process_on_lanes-requires
 process_on_lanes-requires g c = record {

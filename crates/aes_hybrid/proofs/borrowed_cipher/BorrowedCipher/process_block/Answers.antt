@@ -2,10 +2,10 @@
 use Rattle.std.proofs.Common.{◌∙◌, arith}
 use Rattle.std.proofs.lemmas.Grind.{common_steps}
 use Rattle.aes_permute.proofs.KeyOfLanes.{two_stored, direction_rounds}
-use Rattle.aes_hybrid.proofs.borrowed_cipher.BorrowedCipher.process_one.Goals as goal
+use Rattle.aes_hybrid.proofs.borrowed_cipher.BorrowedCipher.process_block.Goals as goal
 
-pub process_one-requires : goal.process_one-requires
-process_one-requires g c = record {
+pub process_block-requires : goal.process_block-requires
+process_block-requires g c = record {
   two = two_stored g.D.LaneRounds.form c.rounds_use_every_key.ensures _ _ c.self.invariant.1;
 }
 
@@ -13,7 +13,7 @@ pub returns : goal.returns
 returns g c = grind (
   arith,
   common_steps,
-  c.process_one.ensures
+  c.process_block.ensures
       ∙ direction_rounds g.D.Direction.step g.D.Direction.last_step g.D.LaneRounds.form
       c.rounds_follow_the_standard.ensures _ _ c.self.invariant.1 c.args.block.now,
 )
