@@ -205,8 +205,8 @@ class Build:
             if assembly.library != PROGRAM and bool(SHUFFLES.search(text)) != variant.has_shuffle:
                 has = "has no" if variant.has_shuffle else "has a"
                 sys.exit(f"dist: {assembly.name}.s {has} byte shuffle, so that tables would be read at secret places")
-            if variant.is_aligned and (found := frames.UNALIGNED.search(text)):
-                sys.exit(f"dist: {assembly.name}.s keeps vectors of 32 bytes in a frame that isn't aligned: {found[0].strip()}")
+            if variant.is_aligned and (found := frames.keeps_unaligned(text)):
+                sys.exit(f"dist: {assembly.name}.s keeps vectors of 32 bytes in a frame that isn't aligned: {', '.join(found)}")
         return self
 
     def assemblies(self):
