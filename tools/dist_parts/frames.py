@@ -16,18 +16,18 @@ import subprocess
 import sys
 
 # The functions that keep many such vectors.
-ROUNDS = re.compile(r'^(define [^@\n]*@"aes_soft::soft::ciphers::planes::\w+::process_planes\b[^\n]*) \{$', re.M), r'\1 "stackrealign" {'
+ROUNDS = re.compile(r'^(define [^\n]*@"aes_soft::soft::ciphers::planes::\w+::process_planes\b[^\n]*)(?= \{$)', re.M), r'\1 "stackrealign"'
 # The planes of 15 round keys.
 ROUND_KEYS = re.compile(r"(?<= = alloca \[3840 x i8\], align )\d+$", re.M), "32"
 # The planes of a batch: of two variables of that size, the one whose address is kept. The stack is aligned to 16 bytes, so that they begin
 # with the larger variable, or 16 bytes after that.
-BATCH = re.compile(r"""^(define [^@\n]*@"aes_soft::soft::ciphers::planes::process::(?:(?!^\}$)[\s\S])*?)
-    ^[ ]+(%\w+)[ ]=[ ]alloca[ ]\[256[ ]x[ ]i8\],[ ]align[ ]\d+$(?=(?:(?!^\}$)[\s\S])*?^[ ]+store[ ]ptr[ ]\2,)""", re.M | re.X), r"""\1
+BATCH = re.compile(r'''(^define [^\n]*@"aes_soft::soft::ciphers::planes::process::(?:.(?!^\}))*?)'''
+                   r"^  (%\w+) = alloca \[256 x i8\], align \d+$(?=(?:.(?!^\}))*?^  store ptr \2,)", re.M | re.S), r"""\1
   \2.room = alloca [272 x i8], align 16
   \2.last = getelementptr i8, ptr \2.room, i64 16
   \2 = call ptr @llvm.ptrmask.p0.i64(ptr \2.last, i64 -32)"""
-# How clang writes that it keeps a vector of 32 bytes in a frame that isn't aligned, or reads it. A function may keep one. To align the frame
-# of blocks on vectors, which keep one, takes 1.01 of the time of a single block, and brings nothing that could be measured.
+# How clang writes that it keeps a vector of 32 bytes in a frame that isn't aligned, or reads it. A function may keep one. To align the
+# frame of blocks on vectors, which keep one, takes 1.01 of the time of a single block, and brings nothing that could be measured.
 UNALIGNED, MOST = re.compile(r"^\tvmov(?:dqu|up[ds])\t.*# 32-byte (?:Spill|Reload)$", re.M), 2
 FUNCTION = re.compile(r"^(?=[^\s#.][^\n:]*:[ \t]+# @)", re.M)
 
