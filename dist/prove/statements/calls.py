@@ -125,17 +125,17 @@ def prove_call(domain, program, call, seed=None):
     the most of the stack."""
     ends = []
     for past in range(0, 2 * ABI_ALIGN, ABI_ALIGN):
-        ends.append(prove_on_stack(domain, program, call, seed, Stack(stack_before(domain, program), past)))
+        ends.append(prove_on_stack(domain, program, call, seed, past))
         if not ends[-1].regions["stack"].counts:
             break
     return max(ends, key=lambda m: m.stack.depth())
 
 
-def prove_on_stack(domain, program, call, seed, stack):
-    """Proves a call on this stack."""
+def prove_on_stack(domain, program, call, seed, past):
+    """Proves a call on a stack that begins so many bytes after a multiple of 32."""
     if len(domain.products) > MOST_SUMS_OF_PRODUCTS:
         domain.forget_products()
-    m = machine_before(domain, program, call, stack)
+    m = machine_before(domain, program, call, past)
     if call.parts:
         return prove_parts(m, call)
     known = lengths.GeneralStates()
@@ -160,14 +160,10 @@ def prove_on_stack(domain, program, call, seed, stack):
     return m
 
 
-def stack_before(domain, program):
-    """Gives the bytes of the stack that a call may use."""
-    return [domain.undefined] * (STACK - program.machine.word * len(program.machine.pushed))
-
-
-def machine_before(domain, program, call, stack):
+def machine_before(domain, program, call, past):
     """Makes a machine at the first instruction of a call."""
-    regions = {b.name: b.region(program.machine) for b in call.buffers} | {"stack": stack}
+    regions = {b.name: b.region(program.machine) for b in call.buffers}
+    regions["stack"] = Stack([domain.undefined] * (STACK - program.machine.word * len(program.machine.pushed)), past)
     arguments = [Pointer(a.name, 0) if isinstance(a, Buffer) else a for a in call.arguments]
     m = program.machine(domain, program, regions, program.exports["fotsgure_" + call.name], arguments)
     m.allowed = Allowed(call.reveals is not None, functools.partial(is_known_false, call), call.any_length, call.divides)
