@@ -40,8 +40,8 @@ SAYS_CCM = ("16 a + b bytes of additional data, none if b is 0, and 256 n + r of
             "the encoded length of additional data has 2 bytes, or 6 or 10 if the case names that")
 AES_ROWS = [
     Row("any_blocks", "16 n + r blocks for every n: the direction, r, into the same buffer or another (`_to`), or under a key (`_with`)",
-        each=[(way, 7, to) for way in DIRECTIONS for to in ("", "_to")] + [(way, 1, "_with") for way in DIRECTIONS],
-        most=[(way, rest) for way in DIRECTIONS for rest in range(16) if rest != 7]
+        each=[(way, *rest) for way in DIRECTIONS for rest in ((15,), (7, "_to"), (1, "_with"))],
+        most=[(way, rest) for way in DIRECTIONS for rest in range(15)]
              + [(way, *more) for way in DIRECTIONS for more in ((1, "_to"), (7, "_with"))],
         more=[(way, rest, "_to") for way in DIRECTIONS for rest in (0, 2, 14)],
         left_out=lambda word, values: word == 4 and "_to" in values),
