@@ -198,7 +198,7 @@ GCM_ROWS = [
           keys_24_32=[(phase, 0, 7), *each, *((phase, 5, n) for n in ENDS)],
           first=[*((ADDITIONAL, n, 0) for n in ENDS if n != 5), *((phase, 5, n) for n in ENDS)])
       for call, phase, also, each, most in (
-          ("finish", ENCRYPTING, "", (), ()),
+          ("finish", ENCRYPTING, "", (), ()), ("finish_unverified", VERIFYING, "", (), ()),
           ("accept", VERIFYING, "; also of what is refused, and of a shorter tag",
            [(VERIFYING, 0, 7, 12), *((ADDITIONAL, 5, 0, n) for n in SHORT_TAGS)],
            [(VERIFYING, 0, 7, n) for n in SHORT_TAGS if n != 12]))),
@@ -206,7 +206,8 @@ GCM_ROWS = [
     *(Row("every_%s_%s" % (which, call), "every %s piece" % which, every=ONCE)
       for call in ("encrypt", "decrypt_unverified") for which in ("first", "later")),
     Row("every_decrypt", SAYS_EVERY_PIECE, every=ONCE),
-    Row("every_finish", "after every number of bytes of additional data and of text, also more than the standard allows", every=ONCE),
+    *(Row("every_" + call, "after every number of bytes of additional data and of text, also more than the standard allows", every=ONCE)
+      for call in ("finish", "finish_unverified")),
     Row("every_accept", "the same; also of what is refused, and of a shorter tag", every=[(), *SHORT_TAGS])]
 
 # Where calls of every length aren't proved (Row.left_out). Some have one longer length.

@@ -61,6 +61,7 @@ PAIRS = {
         "any_then_additional": BY_16, "any_then_decrypt": PAIRS_OF_THREE,
         "any_then_piece": [(call, phase, *three) for call, phase in PHASES.items() for three in PAIRS_OF_THREE],
         "any_finish": [(ENCRYPTING, *pair) for pair in BY_16] + CAME,
+        "any_finish_unverified": [(VERIFYING, *pair) for pair in BY_16] + CAME,
         "any_accept": [(VERIFYING, *pair) for pair in BY_16] + CAME},
     "siv": {"seal": BY_16, "open": BY_16}}
 
