@@ -188,13 +188,13 @@ GCM_ROWS = [
         each=[(3, 7, 20)], most=[(3, *numbers) for numbers in ((7, 0), (7, 9), (5, 4), (0, 68), (11, 20))],
         more=[(3, t, 1) for t in range(16)], without_every=[(3, t, n) for t in range(16) for n in (0, 16, 32)], keys_24_32=[(3, 7, 20)],
         left_out=ON_RISCV_32),
-    *(Row("any_" + call, SAYS_CAME + also,
+    *(Row("any_" + call, what,
           each=[(phase, 0, 7), *each], most=[*((ADDITIONAL, n, 0) for n in (0, 5)), (phase, 5, 0), *most],
           keys_24_32=[(phase, 0, 7), *each, *((phase, 5, n) for n in ENDS)],
           more=[*((ADDITIONAL, n, 0) for n in ENDS if n != 5), *((phase, 5, n) for n in ENDS)])
-      for call, phase, also, each, most in (
-          ("finish", ENCRYPTING, "", (), ()),
-          ("accept", VERIFYING, "; also of what is refused, and of a shorter tag",
+      for call, phase, what, each, most in (
+          ("finish", ENCRYPTING, SAYS_CAME, (), ()), ("finish_unverified", VERIFYING, "the same", (), ()),
+          ("accept", VERIFYING, "the same; also of what is refused, and of a shorter tag",
            [(VERIFYING, 0, 7, 12), *((ADDITIONAL, 5, 0, n) for n in SHORT_TAGS)],
            [(VERIFYING, 0, 7, n) for n in SHORT_TAGS if n != 12]))),
     *(Row("every_" + call, SAYS_EVERY_PIECE, every=ONCE) for call in ("additional", "verify")),
@@ -202,6 +202,7 @@ GCM_ROWS = [
       for call in ("encrypt", "decrypt_unverified") for which in ("first", "later")),
     Row("every_decrypt", SAYS_EVERY_PIECE, every=ONCE),
     Row("every_finish", "after every number of bytes of additional data and of text, also more than the standard allows", every=ONCE),
+    Row("every_finish_unverified", "the same", every=ONCE),
     Row("every_accept", "the same; also of what is refused, and of a shorter tag", every=[(), *SHORT_TAGS])]
 
 # Where calls of every length aren't proved (Row.left_out). Some have one longer length.
