@@ -83,8 +83,10 @@ class Planted:
     def cases(self):
         """Gives the cases, for the keys that set_key stores. `find` needs them before there is a fault to be refused."""
         self.keyed.set_key()
-        options = argparse.Namespace(dist=self.dist, level="all", only="")
-        return {**dict(statements(self.keyed, options, 0, 1)), "set_key": None}
+        return {**self.cases_of("all"), "set_key": None}
+
+    def cases_of(self, level):
+        return dict(statements(self.keyed, argparse.Namespace(dist=self.dist, level=level, only=""), 0, 1))
 
     def find(self, case):
         """Ends the controls if the build lacks a case."""
