@@ -3,13 +3,14 @@
 ghost use Rattle.std.specs.Prelude.{◌≡◌, ◌≢◌, ◌↔◌, length};
 ghost use Rattle.gcm_siv.specs.GcmSiv as rfc;
 ghost use Rattle.gcm_siv.specs.GcmSiv.{IsAuthentic, IsSivKeySize};
-ghost use Rattle.gcm_c.specs.Form.{key_in, IsKept};
+ghost use Rattle.gcm_c.specs.Form.{key_in, no_key, IsKept};
 ghost use Rattle.gcm_c.specs.Siv.{HoldsSivKey, IsSivMade, IsSivLength, IsSivTooLong};
 
 use crate::form::{BuildCipher, KeptKey, LongRoom, ShortRoom, cipher_of};
 use crate::siv_kept::{Siv, is_siv_key_size};
 use crate::status::{DONE, NO_KEY, REFUSED, TOO_LONG};
 use aes_cipher::cipher::{Block, BlockCipherEncrypt};
+use aes_cipher::zeroize::Zeroize;
 use gcm_siv::{LONGEST, MessageKey, add_keystream, open_message, seal_message};
 
 /// Returns the status that refuses these lengths or this struct, or `DONE`.
@@ -28,31 +29,52 @@ pub(crate) fn siv_refusal(siv: &Siv, additional: usize, text: usize) -> u32
     DONE
 }
 
-// The key of a message, in the form of this build.
-impl MessageKey for KeptKey {
+// Room for the key of a message, in the form of this build.
+#[derive(Drop)]
+struct MessageRoom {
+    kept: KeptKey,
+}
+
+impl Zeroize for MessageRoom {
+    ghost ZERO = { record { kept = no_key } };
+
+    #[inline(always)]
+    fn zero() -> MessageRoom {
+        MessageRoom {
+            kept: KeptKey::zero(),
+        }
+    }
+
+    #[inline(always)]
+    fn zeroize(&mut self) {
+        self.kept.zeroize();
+    }
+}
+
+impl MessageKey for MessageRoom {
     type ShortRoom = ShortRoom;
 
     type LongRoom = LongRoom;
 
     ghost IsAllowed = { IsSivKeySize };
 
-    ghost IsSet = { λ room. IsKept room × HoldsSivKey room };
+    ghost IsSet = { λ room. IsKept room.kept × HoldsSivKey room.kept };
 
-    ghost own_key = { key_in };
+    ghost own_key = { λ room. key_in room.kept };
 
     #[inline(always)]
     fn set(&mut self, key: &[u8]) {
-        KeptKey::set(self, key);
+        self.kept.set(key);
     }
 
     #[inline(always)]
     fn encrypt_block(&self, block: &mut Block) {
-        cipher_of(self).encrypt_block(block);
+        cipher_of(&self.kept).encrypt_block(block);
     }
 
     #[inline(always)]
     fn add_keystream(&self, start: &Block, bytes: &mut [u8]) {
-        add_keystream(&cipher_of(self), start, bytes);
+        add_keystream(&cipher_of(&self.kept), start, bytes);
     }
 }
 
@@ -82,7 +104,7 @@ pub extern "C" fn fotsgure_gcm_siv_seal(
     if status != DONE {
         return status;
     }
-    *tag = seal_message::<BuildCipher<'_>, KeptKey>(
+    *tag = seal_message::<BuildCipher<'_>, MessageRoom>(
         &cipher_of(siv),
         siv.length as usize,
         nonce,
@@ -119,7 +141,7 @@ pub extern "C" fn fotsgure_gcm_siv_open(
     if status != DONE {
         return status;
     }
-    let is_right = open_message::<BuildCipher<'_>, KeptKey>(
+    let is_right = open_message::<BuildCipher<'_>, MessageRoom>(
         &cipher_of(siv),
         siv.length as usize,
         nonce,
