@@ -50,7 +50,7 @@ UNCOVERED = [
      "only the blocks from which AES-GCM-SIV derives keys, at most six."),
     (".*/gcm.*", r"hash_on|hash_piece|hash_singly|put_tag|put_tag_so_far",
      "A string may end anywhere in a group of three blocks. Not all ends are tried."),
-    (".*/gcm.*", r"siv\.\w+|keys\.derive|gcm_siv\.message\.\w+",
+    (".*/gcm.*", r"gcm_siv\.(keys|message|course)\.\w+",
      "AES-GCM-SIV is tried at fixed lengths only. Not all ends of a string are among them."),
     (".*/aes.*", r"key_wrap\.\w+\.\w+", "Some loops are for copies that overlap, which the header excludes. They copy only a few "
      "semiblocks here."),
@@ -98,10 +98,10 @@ SAME = [
     ("x86_64/aes", r"key_wrap\.\w+\.\w+", "The last semiblock has eight bytes or fewer."),
     ("x86_64/.*", r"fotsgure_\w+|BorrowedGcm\.\w+|whole_to\.copy", "Some instructions ask whether a call is refused, because of its state "
      "or of a number that is too large. Others ask how many whole batches come first."),
-    ("x86_64/.*", r"add_in_batches\.\w+|add_gctr|fotsgure_\w+|zeroize\.\w+\.\w+|siv\.derive_and_prepare",
+    ("x86_64/.*", r"add_in_batches\.\w+|add_gctr|fotsgure_\w+|zeroize\.\w+\.\w+|keys\.derive_and_prepare",
      "It stores zeros where it wipes, in structs and on the stack, and the length of a key."),
-    ("x86_64/.*", r"process_on_planes|lend_planes_to_encrypt|siv\.(open|seal)_in", "memset wipes what a function used of the stack, which "
-     "isn't always at the same depth."),
+    ("x86_64/.*", r"process_on_planes|lend_planes_to_encrypt|course\.(open|seal)_in",
+     "memset wipes what a function used of the stack, which isn't always at the same depth."),
     ("x86_64/.*", "process_planes", "The round keys on planes aren't always at the same depth of the stack. A round key is as far from the "
      "first one each time."),
     ("x86_64/.*", r"chaining\.chain|hash_piece|put_mask", "It reads an address from a struct on the stack, which isn't always at the same "
