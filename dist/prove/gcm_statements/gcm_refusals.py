@@ -134,7 +134,8 @@ class Refusals:
         allows."""
         n = unknown("n")
         last = {"finish": [unused_buffer("tag")], "finish_unverified": [unused_buffer("tag")],
-                "accept": [Buffer("tag", self.keyed.in_block(self.keyed.tag, 0)), 16], "accept_short": [12, unused_buffer("tag", False), 12]}
+                "accept": [Buffer("tag", self.keyed.in_block(self.keyed.tag, 0)), 16],
+                "accept_short": [12, unused_buffer("tag", False), 12]}
         read = {"additional": unused_buffer("additional", False), "verify": unused_buffer("text", False)}
         for call, phases in TURNS.items():
             arguments = last.get(call, [read.get(call, unused_buffer("text")), n])
