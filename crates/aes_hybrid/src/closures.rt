@@ -27,7 +27,8 @@ use std::slice;
 // modes do. From 2 KB on libc's memset is slower.
 const CLOSURE_STACK: usize = 2032;
 
-/// A caller's closure in the direction D.
+/// A caller's closure in the direction D. The public traits of closures have one direction each. By
+/// this one, planes are lent by the same function in both.
 pub(crate) trait ClosureIn<D: LaneRounds> {
     /// What the work does: the relation of the closure's own trait.
     ghost did_in: { Self → List (List ℕ) → Self → Type 0 };
