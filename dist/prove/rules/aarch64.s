@@ -47,9 +47,9 @@ fotsgure_aes_key_length:
 	read
 	return
 
-// RULE a sum with a byte of a register that is shorter than its operand | 
+// RULE a sum with a byte of a register: the bytes above are no part of it, and the lower half is wiped | proved
 	function
-	ldrb	w10, [x0, #4]
+	ldr	w10, [x0, #4]
 	mov	x9, #0
 	add	x9, x9, w10, uxtb
 	sub	sp, sp, #32
@@ -60,7 +60,7 @@ fotsgure_aes_key_length:
 	read
 	return
 
-// RULE a wipe by an exclusive store without the load before it | 
+// RULE a wipe by an exclusive store without the load before it | an exclusive store that isn't tried until it succeeds
 	function
 	sub	sp, sp, #16
 	ldr	x9, [x0, #4]
@@ -71,7 +71,7 @@ fotsgure_aes_key_length:
 	read
 	return
 
-// RULE two loads into one register | 
+// RULE two loads into one register | gcc warns
 	function
 	ldp	q0, q0, [x0]
 	movi	v0.2d, #0

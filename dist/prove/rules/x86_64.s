@@ -38,7 +38,7 @@ fotsgure_aes_key_length_v2:
 	read
 	return
 
-# RULE a return by a jump | 
+# RULE a return by a jump | where a jump leads isn't constant
 	function
 	read
 	movq	%rcx, %rax
@@ -47,7 +47,7 @@ fotsgure_aes_key_length_v2:
 	popq	%rcx
 	notrack jmpq	*%rcx
 
-# RULE two bytes pushed and popped | 
+# RULE two bytes pushed and popped | moves fewer bytes than a word to the stack, or from it, or pops into memory
 	function
 	pushw	%ax
 	popw	%ax
@@ -55,14 +55,14 @@ fotsgure_aes_key_length_v2:
 	read
 	return
 
-# RULE a stack pointer that is deeper for a while | 
+# RULE a stack pointer that is deeper for a while | the stack pointer is deeper than the header says
 	function
 	subq	$60000, %rsp
 	addq	$60000, %rsp
 	read
 	return
 
-# RULE a sum with a negated address that is one more | 
+# RULE a sum with a negated address that is one more | and not
 	function
 	read
 	movl	$1000, %eax
@@ -73,7 +73,7 @@ fotsgure_aes_key_length_v2:
 	addq	%rax, %rcx
 	return
 
-# RULE a negated address used as the address | 
+# RULE a negated address used as the address | an address depends on the key or on data
 	function
 	movq	%rdi, -8(%rsp)
 	xorl	%eax, %eax
@@ -83,21 +83,21 @@ fotsgure_aes_key_length_v2:
 	read
 	return
 
-# RULE a constant read at a number | 
+# RULE a constant read at a number | accesses memory at
 	function
 	movabsq	$0x123456714000, %rax
 	movq	(%rax), %rax
 	read
 	return
 
-# RULE a jump to a number | 
+# RULE a jump to a number | goes on at a number
 	function
 	movabsq	$0x123456702321, %rcx
 	notrack jmpq	*%rcx
 	read
 	return
 
-# RULE the bytes behind a constant taken for granted | 
+# RULE the bytes behind a constant taken for granted | which aren't in a section
 	function
 	read
 	.section	.rodata.one,"a",@progbits
@@ -116,7 +116,7 @@ fotsgure_aes_key_length_v2:
 	addq	.Lone(%rip), %rcx
 	return
 
-# RULE a constant of another object | 
+# RULE a constant of another object | an address that depends on where code lies
 	function
 	read
 	.section	.rodata.zz,"a",@progbits
@@ -129,7 +129,7 @@ fotsgure_aes_key_length_v2:
 	addq	%rax, %rcx
 	return
 
-# RULE code that goes on in the section before it, where an instruction not covered lies | 
+# RULE code that goes on in the section before it, where an instruction not covered lies | instruction not covered: int3
 	function
 	read
 	movq	%rcx, %rax
@@ -139,7 +139,7 @@ fotsgure_aes_key_length_v2:
 	retq
 	.section	.text.rule,"ax",@progbits
 
-# RULE another result where the struct lies at 4,096 | 
+# RULE another result where the struct lies at 4,096 | computes with a byte of which only the name is known: (
 	function
 	leaq	-4096(%rdi), %rax
 	testq	%rax, %rax
@@ -150,7 +150,7 @@ fotsgure_aes_key_length_v2:
 	read
 	return
 
-# RULE flags of a comparison that depends on the key | 
+# RULE flags of a comparison that depends on the key | leaves flags that depend on the key or on data: c, z, s, o
 	function
 	movq	%rdi, %r11
 	read
@@ -166,7 +166,7 @@ fotsgure_aes_key_length_v2:
 	movl	$0, %r11d
 	retq
 
-# RULE a flag of a byte of the key, shifted by more than its size | 
+# RULE a flag of a byte of the key, shifted by more than its size | leaves flags that depend on the key or on data: c
 	function
 	movq	%rdi, %r11
 	read
@@ -180,7 +180,7 @@ fotsgure_aes_key_length_v2:
 	movl	$0, %r11d
 	retq
 
-# RULE a flag of a rotated byte of the key | 
+# RULE a flag of a rotated byte of the key | leaves flags that depend on the key or on data: o
 	function
 	movq	%rdi, %r11
 	read
@@ -194,7 +194,7 @@ fotsgure_aes_key_length_v2:
 	movl	$0, %r11d
 	retq
 
-# RULE memset with a byte of the key | 
+# RULE memset with a byte of the key | bytes in registers (key), in vector
 	function
 	movq	%rdi, %r11
 	read
@@ -220,19 +220,19 @@ fotsgure_aes_key_length_v2:
 	movl	$0, %r11d
 	retq
 
-# RULE a constant at a distance that no name says | 
+# RULE a constant at a distance that no name says | which aren't in a section
 	function
 	read
 	addq	0x10000(%rip), %rcx
 	return
 
-# RULE a jump to a distance that no name says | 
+# RULE a jump to a distance that no name says | which aren't in a section
 	function
 	read
 	jmp	.+0x200
 	return
 
-# RULE the distance of a table added to another address | 
+# RULE the distance of a table added to another address | which aren't in a section
 	function
 	read
 	xorl	%eax, %eax
@@ -249,7 +249,7 @@ fotsgure_aes_key_length_v2:
 	.section	.text.rule,"ax",@progbits
 	return
 
-# RULE a number that isn't from a table, added where a distance from one is added | 
+# RULE a number that isn't from a table, added where a distance from one is added | which aren't in a section
 	function
 	read
 	xorl	%r8d, %r8d
@@ -277,7 +277,7 @@ fotsgure_aes_key_length_v2:
 	.section	.text.rule,"ax",@progbits
 	return
 
-# RULE the address of a function of libc beside another one | 
+# RULE the address of a function of libc beside another one | an address beside one of another file
 	function
 	read
 	pushq	memset@GOTPCREL(%rip)
@@ -293,7 +293,7 @@ fotsgure_aes_key_length_v2:
 	xorl	%edx, %edx
 	return
 
-# RULE addresses of two functions of libc compared | 
+# RULE addresses of two functions of libc compared | compares addresses of which the distance depends on a length, or on where code lies
 	function
 	read
 	pushq	memset@GOTPCREL(%rip)
@@ -309,7 +309,7 @@ fotsgure_aes_key_length_v2:
 	xorl	%edx, %edx
 	return
 
-# RULE a constant at a distance from another one | 
+# RULE a constant at a distance from another one | reads constants of another section than the one from which the address was made
 	function
 	read
 	two_constants	.quad, 1
@@ -318,7 +318,7 @@ fotsgure_aes_key_length_v2:
 	subq	$3, %rcx
 	return
 
-# RULE the distance of two constants as a number | 
+# RULE the distance of two constants as a number | reads a number that depends on where code lies
 	function
 	read
 	two_constants	.long, .Ltwo-.Lone
@@ -327,7 +327,7 @@ fotsgure_aes_key_length_v2:
 	addq	%rax, %rcx
 	return
 
-# RULE the highest byte of the distance of two constants | 
+# RULE the highest byte of the distance of two constants | reads a number that depends on where code lies
 	function
 	read
 	two_constants	.long, .Ltwo-.Lone
@@ -337,13 +337,13 @@ fotsgure_aes_key_length_v2:
 	addq	%rax, %rcx
 	return
 
-# RULE two instructions after a carriage return, which only some assemblers read | 
+# RULE two instructions after a carriage return, which only some assemblers read | is no line that an assembly file may have
 	function
 #	xorl	%eax, %eax	retq
 	read
 	return
 
-# RULE addresses of two constants compared | 
+# RULE addresses of two constants compared | compares addresses of which the distance depends on a length, or on where code lies
 	function
 	read
 	two_constants	.quad, 1
@@ -356,7 +356,7 @@ fotsgure_aes_key_length_v2:
 77:
 	return
 
-# RULE a bit of the key in a flag | 
+# RULE a bit of the key in a flag | leaves flags that depend on the key or on data: z, s
 	function
 	movq	%rdi, -8(%rsp)
 	read
@@ -368,7 +368,7 @@ fotsgure_aes_key_length_v2:
 	movl	$0, %r11d
 	retq
 
-# RULE bits of the key in flags of a double shift | 
+# RULE bits of the key in flags of a double shift | leaves flags that depend on the key or on data: c, z, s, o
 	function
 	movq	%rdi, -8(%rsp)
 	read
@@ -381,7 +381,7 @@ fotsgure_aes_key_length_v2:
 	movl	$0, %r11d
 	retq
 
-# RULE a bit of the key in a flag that an instruction needn't change | 
+# RULE a bit of the key in a flag that an instruction needn't change | leaves flags that depend on the key or on data: s, o
 	function
 	movq	%rdi, -8(%rsp)
 	read
@@ -395,7 +395,7 @@ fotsgure_aes_key_length_v2:
 	btl	$0, %r11d
 	retq
 
-# RULE a call that takes more stack than the header says | 
+# RULE a call that takes more stack than the header says | the stack pointer is deeper than the header says
 	function
 	subq	$3280, %rsp
 	movb	$0, (%rsp)
@@ -411,7 +411,7 @@ fotsgure_aes_key_length_v2:
 	read
 	return
 
-# RULE the distance of code and constants as a number | 
+# RULE the distance of code and constants as a number | has a number that depends on where code lies
 	function
 	read
 	two_constants	.quad, 1
@@ -422,7 +422,7 @@ fotsgure_aes_key_length_v2:
 	addq	%rax, %rcx
 	return
 
-# RULE instructions behind a constant that a linker may move | 
+# RULE instructions behind a constant that a linker may move | which aren't in a section
 	function
 	read
 	.section	.rodata.cst16,"aM",@progbits,16
@@ -439,7 +439,7 @@ fotsgure_aes_key_length_v2:
 	addq	%rax, %rcx
 	return
 
-# RULE constants that go on in the section behind them | 
+# RULE constants that go on in the section behind them | which aren't in a section
 	function
 	read
 	two_constants	.quad, 0
@@ -448,10 +448,153 @@ fotsgure_aes_key_length_v2:
 	addq	%rax, %rcx
 	return
 
-# RULE code that goes on in the section behind it | 
+# RULE code that goes on in the section behind it | instruction not covered: int3
 	function
 	read
 	movq	%rcx, %rax
 	xorl	%ecx, %ecx
 	.section	.text.behind,"ax",@progbits
 	retq
+
+# RULE zeros in the code, which write to an address | 
+	function
+	.zero	32
+	read
+	return
+
+# RULE code that runs before all calls | 
+	function
+	.section	.init_array,"aw"
+	.quad	0
+	.section	.text.rule,"ax",@progbits
+	read
+	return
+
+# RULE room for a state of its own | 
+	function
+	.data
+	.quad	0
+	.section	.text.rule,"ax",@progbits
+	read
+	return
+
+# RULE room in memory that is never used | 
+	function
+	.lcomm	room, 64
+	read
+	return
+
+# RULE a stack that may be run | 
+	function
+	.pushsection	.note.GNU-stack,"x",@progbits,unique,7
+	.popsection
+	read
+	return
+
+# RULE a note that asks for other processors | 
+	function
+	.pushsection	.note.gnu.property,"a"
+	.long	4, 16, 5
+	.asciz	"GNU"
+	.long	0xc0008002, 4, 8, 0
+	.popsection
+	read
+	return
+
+# RULE a second note without the marks of indirect calls | 
+	function
+	.pushsection	.note.gnu.property,"a"
+	.long	4, 16, 5
+	.asciz	"GNU"
+	.long	0xc0000002, 4, 0, 0
+	.popsection
+	read
+	return
+
+# RULE a section that a linker acts on, though it isn't loaded | 
+	function
+	.pushsection	.gnu.warning,"",@progbits
+	.ascii	"beware"
+	.popsection
+	read
+	return
+
+# RULE a function of libc that a program may do without | 
+	function
+	.weak	memset
+	read
+	return
+
+# RULE a file of the machine that builds | 
+	function
+	.pushsection	.note.fotsgure,"a"
+	.incbin	"/etc/os-release"
+	.popsection
+	read
+	return
+
+# RULE other code by an assembler that keeps blanks | 
+	function
+	.ifnc	a  b,a b
+	movb	$1, (%rdi)
+	.endif
+	read
+	return
+
+# RULE a function that another library may have | 
+	function
+	.weak	hook
+	movq	hook@GOTPCREL(%rip), %rax
+	testq	%rax, %rax
+	je	77f
+	callq	*%rax
+77:
+	read
+	return
+
+# RULE an instruction that not all processors have | 
+	function
+	vpxor	%xmm0, %xmm0, %xmm0
+	read
+	return
+
+# RULE an instruction that not all processors have, as bytes | 
+	function
+	.byte	0xc4, 0xe2, 0x7d, 0x58, 0xc0
+	read
+	return
+
+# RULE a jump with a prefix, which is not covered | 
+	function
+	.byte	0x66
+	jmp	77f
+77:
+	read
+	return
+
+# RULE a store below the red zone | 
+	function
+	movq	%rax, -136(%rsp)
+	read
+	return
+
+# RULE a function that nothing calls | 
+	function
+	read
+	return
+unreached:
+	xorl	%eax, %eax
+	retq
+
+# RULE a function of its own with the name of libc's | 
+	function
+	read
+	return
+memset:
+	retq
+
+# RULE a function that another file may have instead | 
+	function
+	read
+	return
+	.weak	fotsgure_aes_key_length_v2
