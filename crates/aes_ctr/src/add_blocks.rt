@@ -7,10 +7,10 @@ ghost use Rattle.aes_ctr.specs.Private.{byte_of_blocks};
 use aes_cipher::cipher::Block;
 use std::simd::prelude::*;
 
-/// Adds to bytes the bytes of a block from one place on: all sixteen as one vector.
+// Adds to bytes the bytes of a block from one place on: all sixteen as one vector.
 #[tactic(auto, using(crate::proofs::Runs::part_calls))]
 #[inline(always)]
-pub fn add_part(block: &Block, from: usize, bytes: &mut [u8])
+fn add_part(block: &Block, from: usize, bytes: &mut [u8])
     requires { from + length bytes.old ≤ 16 }
     ensures { bytes.new ≡ plus_stream (slice_index block.now) from bytes.old }
 {

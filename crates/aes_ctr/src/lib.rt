@@ -11,7 +11,6 @@ mod keystream;
 mod laws;
 mod mode;
 
-pub use add_blocks::add_part;
 pub use add_in_batches::{add_keystream, add_stream};
 pub use counter_blocks::{CounterBlocks, WholeBlock};
 pub use errors::KeystreamEnd;

@@ -24,7 +24,7 @@ power_positive : (q : ℕ) → 0 < 256 ^ q
 power_positive q = omega (arith, pow_pos (8 * q), eight_bits q)
 
 -- a number in q bytes has q bytes
-pub length-bytes : (q x : ℕ) → length (bytes q x) ≡ q
+length-bytes : (q x : ℕ) → length (bytes q x) ≡ q
 unfolding bytes
 length-bytes zero x = refl
 length-bytes (suc q) x = ap suc (length-bytes q x)

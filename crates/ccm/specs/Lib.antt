@@ -1,3 +1,2 @@
 -- The files of definitions.
 pub mod Ccm
-pub mod Chains

@@ -8,9 +8,7 @@ mod formatting;
 mod laws;
 mod message;
 mod mode;
-mod text;
 
 pub use errors::{InvalidMessage, NotDecrypted};
 pub use laws::text_twice;
 pub use mode::{decrypt, encrypt};
-pub use text::Direction;

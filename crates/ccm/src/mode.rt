@@ -6,8 +6,7 @@ ghost use Rattle.ccm.specs.Ccm.{Fits, IsNonceLength, IsTagLength};
 
 use crate::errors::{InvalidMessage, NotDecrypted};
 use crate::formatting::check;
-use crate::message::{is_opened, process};
-use crate::text::{Direction, add_text_stream};
+use crate::message::{is_tag, process_text, put_tag};
 use aes_cipher::cipher::BlockCipherEncrypt;
 
 /// Encrypts a text in place, and writes the tag, which shows whether the text or the additional
@@ -19,7 +18,7 @@ use aes_cipher::cipher::BlockCipherEncrypt;
 /// `TagLength` exactly if the tag doesn't have 4, 6, 8, 10, 12, 14 or 16 bytes. Else `NonceLength`
 /// exactly if the nonce doesn't have 7 to 13 bytes. Else `TooLong` exactly if the text has 2^(8 (15
 /// - n)) bytes or more, where n is how many the nonce has. Text and tag are then unchanged.
-#[tactic(auto, unfolding(crate::specs::Ccm::tag, crate::specs::Chains::plain_of))]
+#[tactic(auto, unfolding(crate::specs::Ccm::tag))]
 #[inline(never)]
 pub fn encrypt<C: BlockCipherEncrypt>(
     cipher: &C,
@@ -45,16 +44,9 @@ pub fn encrypt<C: BlockCipherEncrypt>(
 {
     check(nonce.len(), text.len(), tag.len())?;
     let mut whole = [0; 16];
-    process(
-        cipher,
-        nonce,
-        additional,
-        Direction::Sealing,
-        text,
-        tag.len(),
-        &mut whole,
-    );
+    put_tag(cipher, nonce, tag.len(), additional, text, &mut whole);
     tag.copy_from_slice(&whole[..tag.len()]);
+    process_text(cipher, nonce, text);
     Ok(())
 }
 
@@ -92,9 +84,10 @@ pub fn decrypt<C: BlockCipherEncrypt>(
     if let Err(invalid) = check(nonce.len(), text.len(), tag.len()) {
         return Err(NotDecrypted::Invalid(invalid));
     }
-    if is_opened(cipher, nonce, additional, text, tag) {
+    process_text(cipher, nonce, text);
+    if is_tag(cipher, nonce, additional, text, tag) {
         return Ok(());
     }
-    add_text_stream(cipher, nonce, text);
+    process_text(cipher, nonce, text);
     Err(NotDecrypted::Refused)
 }

@@ -1,21 +1,16 @@
 -- Strings that come in pieces: what is kept of them, by what has come so far.
-use Rattle.std.specs.Prelude.{◌≡◌, ℕ, ◌+◌, ◌*◌, ◌≤◌, List, length, replicate, take, drop}
+use Rattle.std.specs.Prelude.{◌≡◌, ℕ, ◌-◌, ◌*◌, List, length, replicate, take, drop}
 use Rattle.cmac.specs.Chain.{chained}
 use Rattle.cmac.specs.Cmac.{before_last}
 use Rattle.cmac.specs.declared.chain_in_pieces.ChainInPieces.{ChainInPieces}
 use Rattle.cmac.specs.declared.pieces.Message.{Message}
 
--- of a chain from the value y on, the string s has come: the value after its first k blocks is
--- kept, and the bytes after them, of which there are at most 16
-pub record IsChainingAt (k : ℕ) (w : List (List ℕ)) (y s : List ℕ) (c : ChainInPieces) : Type 0 where
-  pub value : c.value ≡ chained w y s k
-  pub rest_length : 16 * k + c.rest_length ≡ length s
-  pub few : c.rest_length ≤ 16
-  pub rest : take c.rest_length c.rest ≡ drop (16 * k) s
-
--- the same where what is kept is the last block, of 1 to 16 bytes, if there is a byte
-abbrev pub IsChaining : List (List ℕ) → List ℕ → List ℕ → ChainInPieces → Type 0
-IsChaining w y s c = IsChainingAt (before_last (length s)) w y s c
+-- of a chain from the value y on, the string s has come: its last block, of 1 to 16 bytes, is kept
+-- as it is, with the value after the blocks before it
+pub record IsChaining (w : List (List ℕ)) (y s : List ℕ) (c : ChainInPieces) : Type 0 where
+  pub value : c.value ≡ chained w y s (before_last (length s))
+  pub rest_length : c.rest_length ≡ length s - 16 * before_last (length s)
+  pub rest : take c.rest_length c.rest ≡ drop (16 * before_last (length s)) s
 
 -- a message has begun, and isn't over
 abbrev pub HasBegun : Message → Type 0

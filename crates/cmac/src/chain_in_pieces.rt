@@ -1,12 +1,9 @@
 //! A chain through a string that comes in pieces.
 
-ghost use Rattle.std.specs.Prelude.{◌≡◌, ℕ, List, ◌++◌, ◌+◌, ◌<◌, ◌≤◌, length};
-ghost use Rattle.aes_planes.specs.Fips197 as fips;
-ghost use Rattle.aes_cipher.specs.Blocks.{padded};
-ghost use Rattle.cmac.specs.Pieces.{IsChaining, IsChainingAt};
+ghost use Rattle.std.specs.Prelude.{◌≡◌, ℕ, List, ◌++◌, ◌≤◌, length};
+ghost use Rattle.cmac.specs.Pieces.{IsChaining};
 
 use crate::chaining::chain;
-use aes_cipher::blocks::sum_of_blocks;
 use aes_cipher::cipher::{Block, BlockCipherEncrypt};
 use aes_cipher::not_clone::NotClone;
 use aes_cipher::zeroize::{Zeroize, zeroize_elements};
@@ -58,19 +55,6 @@ impl ChainInPieces {
         self.rest_length.min(16) as usize
     }
 
-    /// Writes bytes of the string after those of the last block that have come, of which there are
-    /// `filled`. The last block has room for them.
-    #[inline(always)]
-    pub fn put(&mut self, filled: usize, bytes: &[u8])
-        requires { filled + length bytes.now ≤ 16 }
-        ensures length { self.new.rest_length ≡ filled + length bytes.now }
-        ensures put { (k : ℕ) (w : List (List ℕ)) (y s : List ℕ) → self.old.rest_length ≡ filled
-            → IsChainingAt k w y s self.old → IsChainingAt k w y (s ++ bytes.now) self.new }
-    {
-        self.rest[filled..filled + bytes.len()].copy_from_slice(bytes);
-        self.rest_length = (filled + bytes.len()) as u64;
-    }
-
     /// Takes a piece of the string, of any size. The last block stays as it is until more bytes
     /// come, since it may be the last one of the string.
     #[inline(never)]
@@ -80,7 +64,8 @@ impl ChainInPieces {
     {
         let rest_length = self.rest_length();
         if bytes.len() <= 16 - rest_length {
-            self.put(rest_length, bytes);
+            self.rest[rest_length..rest_length + bytes.len()].copy_from_slice(bytes);
+            self.rest_length = (rest_length + bytes.len()) as u64;
             return;
         }
         let (first, others) = bytes.split_at(16 - rest_length);
@@ -90,31 +75,5 @@ impl ChainInPieces {
         chain(cipher, &mut self.value, whole);
         self.rest[..last.len()].copy_from_slice(last);
         self.rest_length = last.len() as u64;
-    }
-
-    /// Fills the last block up with zeros.
-    pub fn fill_up(&mut self)
-        ensures { (w : List (List ℕ)) (y s : List ℕ) → 0 < length s → IsChaining w y s self.old
-            → IsChaining w y (padded s) self.new }
-    {
-        let filled = self.rest_length();
-        self.put(filled, &[0; 16][filled..]);
-    }
-
-    /// Chains the last block, which has sixteen bytes, and encrypts another block, in one call of
-    /// the cipher on both.
-    #[inline(always)]
-    pub fn chain_beside<C: BlockCipherEncrypt>(&mut self, cipher: &C, other: &mut Block)
-        ensures other { other.new ≡ fips.cipher_with (C.round_keys cipher.now) other.old }
-        ensures chained { (k : ℕ) (y s : List ℕ) → self.old.rest_length ≡ 16
-            → IsChainingAt k (C.round_keys cipher.now) y s self.old
-            → IsChainingAt (k + 1) (C.round_keys cipher.now) y s self.new }
-        ensures empty { self.new.rest_length ≡ 0 }
-    {
-        let mut pair = [sum_of_blocks(&self.value, &self.rest), *other];
-        cipher.encrypt_blocks(&mut pair);
-        self.value = pair[0];
-        self.rest_length = 0;
-        *other = pair[1];
     }
 }

@@ -1,13 +1,13 @@
 -- A piece that the last block has room for, and one that fills it and goes on behind it.
-use Rattle.std.proofs.Common.{◌≡◌, ◌∙◌, ◌-◌, ◌/◌, ◌≤◌, ◌++◌, ℕ, List, length, length-append, take, ap, arith, sym}
+use Rattle.std.proofs.Common.{◌≡◌, ◌∙◌, ◌+◌, ◌-◌, ◌/◌, ◌≤◌, ◌++◌, ℕ, List, length, take, ap, arith, sym}
 use Rattle.std.proofs.Common.{drop, length-drop, length-take, subst}
 use Rattle.std.proofs.lemmas.List.{take_all, take-append-drop}
 use Rattle.std.proofs.lemmas.Slice.{take-put_mid}
 use Rattle.std.proofs.Math.Seq.{take-append_seam}
 use Rattle.cmac.specs.Chain.{chained_through}
 use Rattle.cmac.specs.Cmac.{before_last}
-use Rattle.cmac.specs.Pieces.{IsChaining, IsChainingAt}
-use Rattle.cmac.proofs.InPieces.{filled}
+use Rattle.cmac.specs.Pieces.{IsChaining}
+use Rattle.cmac.proofs.InPieces.{unfilled, filled}
 use Rattle.cmac.proofs.chain_in_pieces.ChainInPieces.extend.Goals as goal
 use borrow.Rule.Slice.PartMut.{post_of, put_mid, same_len_mid}
 
@@ -16,20 +16,17 @@ unfolding before_last
 returns-then-bytes-rest_length g c y s is =
     let w = g.C.RoundKeysUser.round_keys c.args.cipher.now in
     let b : List ℕ = c.args.bytes.now in
-    let m : ℕ = before_last (length s) in
-    let count : c.args.self.now.rest_length ≡ c.rest_length-rest_length.result =
-    sym (c.rest_length-rest_length.ensures.same is.few) in
-    let same : m ≡ before_last (length (s ++ b)) =
-    omega (
-      arith,
-      length-append s b,
-      is.rest_length,
-      count,
-      c.if-bytes-rest_length.true,
-      c.rest_length-rest_length.ensures.few,
-    ) in
-    let P : ℕ → Type 0 = λ k. IsChainingAt k w y (s ++ b) c.put.new.self in
-    subst P same (c.put.ensures.put m w y s count is)
+    let rest : List ℕ = c.args.self.now.rest in
+    let f : ℕ = c.rest_length-rest_length.result in
+    let count : f ≡ c.args.self.now.rest_length =
+    c.rest_length-rest_length.ensures.same (omega (arith, is.rest_length)) in
+    let copied : List ℕ = c.copy_from_slice.new.self in
+    let same : copied ≡ b = c.copy_from_slice.ensures.after in
+    unfilled w y s b (put_mid f (f + length b - f) rest copied) (f + length b) c.args.self.now is
+    (omega (arith, count)) (omega (arith, c.if-bytes-rest_length.true, c.rest_length-rest_length.ensures.few))
+    (take-put_mid f (f + length b - f) rest copied (f + length b) (omega (arith, ap length same))
+    (omega arith)
+    ∙ (λ t. take (count t) rest ++ same t))
 
 pub returns : goal.returns
 unfolding before_last
@@ -39,14 +36,14 @@ returns g c y s is =
     let rest : List ℕ = c.args.self.now.rest in
     let f : ℕ = c.rest_length-rest_length.result in
     let count : f ≡ c.args.self.now.rest_length =
-    c.rest_length-rest_length.ensures.same is.few in
+    c.rest_length-rest_length.ensures.same (omega (arith, is.rest_length)) in
     let few : f ≤ 16 = c.rest_length-rest_length.ensures.few in
     let first : List ℕ = c.split_at.result.0.now in
     let whole : List ℕ = c.split_at-2.result.0.now in
     let last : List ℕ = c.split_at-2.result.1.now in
-    let copied : List ℕ = c.copy_from_slice.new.self in
+    let copied : List ℕ = c.copy_from_slice-2.new.self in
     let block : List ℕ = put_mid f (16 - f) rest copied in
-    let same : copied ≡ first = c.copy_from_slice.ensures.after in
+    let same : copied ≡ first = c.copy_from_slice-2.ensures.after in
     let sized : length block ≡ length rest =
     same_len_mid f (16 - f) rest copied
     (omega (
@@ -67,8 +64,8 @@ returns g c y s is =
     ++ c.split_at-2.ensures.back u)
     ∙ take-append-drop _ c.split_at.result.1.now ∙ c.split_at.ensures.back) t)
     ∙ take-append-drop (16 - f) b) in
-    let copied_last : List ℕ = c.copy_from_slice-2.new.self in
-    let same_last : copied_last ≡ last = c.copy_from_slice-2.ensures.after in
+    let copied_last : List ℕ = c.copy_from_slice-3.new.self in
+    let same_last : copied_last ≡ last = c.copy_from_slice-3.ensures.after in
     let tail : List ℕ = post_of 0 (length last) block in
     let after : List ℕ = copied_last ++ tail in
     let value : c.chain-2.new.value

@@ -13,7 +13,7 @@ returns g c s is =
     let chain = c.args.self.now.chain in
     let m : ℕ = before_last (length s) in
     let count : c.rest_length-rest_length.result ≡ chain.rest_length =
-    c.rest_length-rest_length.ensures.same is.chaining.few in
+    c.rest_length-rest_length.ensures.same (omega (arith, is.chaining.rest_length)) in
     let rest : take c.rest_length-rest_length.result chain.rest
     ≡ take (length s - 16 * m) (drop (16 * m) s) =
     ap (λ n. take n chain.rest) count ∙ is.chaining.rest

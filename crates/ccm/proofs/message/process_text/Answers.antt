@@ -1,6 +1,6 @@
 use Rattle.std.proofs.Common.{◌∙◌}
 use Rattle.ccm.proofs.Counters.{text_by_blocks}
-use Rattle.ccm.proofs.text.add_text_stream.Goals as goal
+use Rattle.ccm.proofs.message.process_text.Goals as goal
 
 pub returns : goal.returns
 returns g c =
