@@ -32,7 +32,8 @@ def functions_of(name):
 def answer_to(build, shared, text, out):
     """Gives how the program answers to a function."""
     machine, domain = BUILDS[build], Domain()
-    for ending, content in ((".s", shared + text), (".own.s", text)):
+    one_by_one = re.sub(r"(?m)^\t([\w.$]+:)$", r"\1", re.sub(r"(?m)^\t([\w.]+) ", r"\t\1\t", text.replace("; ", "\n\t")))
+    for ending, content in ((".s", shared + text), (".own.s", one_by_one)):
         with open(out + ending, "w", newline="") as file:
             file.write(content)
     key = [domain.fresh("key[%d]" % k, KEY) for k in range(64)]
