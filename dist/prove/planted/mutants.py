@@ -8,10 +8,10 @@ import re
 from planted.inputs import TIMES, Inputs
 from symbols.bits import Unproved
 
-# Conditions of jumps and of choices, each with its contrary. (`adc` and `sbb` lose or get their carry.)
+# Conditions of jumps and of choices, each with its contrary.
 CONTRARY = {a: b for pair in (
     "e ne", "b ae", "be a", "s ns", "eq ne", "cs cc", "hs lo", "hi ls", "mi pl", "lt ge", "gt le", "beq bne", "blt bge", "bltu bgeu",
-    "c.beqz c.bnez", "cbz cbnz", "tbz tbnz", "adc add", "sbb sub", "adcs adds") for a, b in (pair.split(), pair.split()[::-1])}
+    "c.beqz c.bnez", "cbz cbnz", "tbz tbnz") for a, b in (pair.split(), pair.split()[::-1])}
 BY_NAME = re.compile(r"(j|set|cmov|b\.)(\w+)$")  # a condition is the end of a name
 MOST = 20  # instructions of a call that are changed
 NOPS = "nop", "hint\t#0", "c.nop"  # of x86-64, ARM and RISC-V
@@ -43,7 +43,7 @@ def changed(name, operands, is_jump):
         found = list(NUMBER.finditer(operands[k]))
         if found and not (is_jump and k == len(operands) - 1):
             at = found[-1]
-            number = int(at[1].lstrip("#") + "1") * int(at[2], 0)
+            number = int(at[1].lstrip("#") + at[2], 16 if at[2][:2] == "0x" else 10)
             number += 16 if "[" in operands[k] or "(" in operands[k] else 1
             text = at[1].replace("-", "") + ("-" if number < 0 else "") + (hex if at[2][:2] == "0x" else str)(abs(number))
             return name, [*operands[:k], operands[k][:at.start()] + text + operands[k][at.end():], *operands[k + 1:]]

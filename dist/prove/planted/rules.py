@@ -4,6 +4,7 @@ program says when it refuses the function. Each function is to return the first 
 import os
 import re
 
+from kept import KEPT
 from linked.builds import BUILDS
 from linked.directives import refuse_lines
 from linked.linking import PROVE_FOLDER, program_of
@@ -51,8 +52,14 @@ def answer_to(build, shared, text, out):
 
 def try_rules(options, name):
     """Tries the functions of a file. Gives (whether the answer is the right one, what to print)."""
-    build = OF_BUILDS[name]
+    build, kept, verdicts = OF_BUILDS[name], options.kept, []
     for what, answer, shared, text in functions_of(name):
-        have = answer_to(build, shared, text, "%s/rule_%s" % (options.out, name))
+        of_kept = kept.name("rule", build, answer, shared, text)
+        known = kept.of(of_kept)
+        have = known or answer_to(build, shared, text, "%s/rule_%s" % (options.out, name))
         right = have == answer if PROVED in (have, answer) else answer in have
-        yield right, "%s: %s (rules/%s.s): %s" % (("refused" if have != PROVED else PROVED) if right else "MISSED", what, name, have[:160])
+        if right and not known:
+            kept.keep(of_kept, have)
+        words = "refused" if have != PROVED else PROVED
+        verdicts.append((right, KEPT * bool(known) + "%s: %s (rules/%s.s): %s" % (words if right else "MISSED", what, name, have[:160])))
+    return verdicts
