@@ -1,6 +1,6 @@
-"""Runs the controls of the proof. Each of the following has to be refused: planted faults, one for each promise and machine (faults.py); changes
-of instructions that ran (mutants.py); wrong guesses of states at joints (wrong_states.py); faults in other files (wrong_files.py); and wrong
-meanings of instructions. The functions of rules/*.s have to be answered as they say (rules.py). Run it as `make prove-controls` in dist.
+"""Runs the controls of the proof, as `make prove-controls` in dist. Each of the following has to be refused: one planted fault for each
+promise and machine (faults.py); changes of instructions that ran (mutants.py); wrong guesses of states at joints (wrong_states.py); faults
+in other files (wrong_files.py); and wrong meanings of instructions. The functions of rules/*.s have to be answered as they say (rules.py).
 
 A planted fault is refused if the case that it names is not proved any more. That is a case of PROVE=all. A fault for which a build has no
 place counts as missed. Any other failure ends the controls: one of gcc or ld, a case that isn't there, or a planted instruction that the
@@ -12,7 +12,7 @@ import shutil
 import sys
 
 from cases import LIBRARIES, statements
-from kept import sum_of_program
+from kept import KEPT, sum_of_program
 from linked.builds import BUILDS, source
 from linked.directives import refuse_lines
 from linked.linking import assemble
@@ -30,8 +30,7 @@ from statements.headers import parameters_of
 from symbols.bits import Unproved
 from tasks import pool_of
 
-KEPT = "kept: "  # how the words on a fault begin that an earlier run refused
-SAMPLE = 8  # of so many statements one has instructions changed
+SAMPLE = 24  # of so many statements of a build, or fewer, one has instructions changed
 
 
 def verdict(what, attempt, reason=""):
@@ -133,7 +132,7 @@ def try_mutants(options, build):
         if isinstance(call, Call) and "refused" not in what:
             by_statement.setdefault(what.split()[0], (what, call))
     cases = list(by_statement.values())
-    first = list(BUILDS).index(build) % SAMPLE  # so that builds have different statements
+    first = list(BUILDS).index(build) % min(SAMPLE, len(cases))  # so that builds have different statements
     for what, call in cases if options.level == "all" else cases[first::SAMPLE]:
         name = options.kept.name("mutants", build, planted.unchanged, what)
         known = options.kept.of(name)

@@ -8,10 +8,10 @@ import re
 from planted.inputs import TIMES, Inputs
 from symbols.bits import Unproved
 
-# Conditions of jumps and of choices, each with its contrary. (`adc` and `sbb` lose or get their carry.)
+# Conditions of jumps and of choices, each with its contrary.
 CONTRARY = {a: b for pair in (
     "e ne", "b ae", "be a", "s ns", "eq ne", "cs cc", "hs lo", "hi ls", "mi pl", "lt ge", "gt le", "beq bne", "blt bge", "bltu bgeu",
-    "c.beqz c.bnez", "cbz cbnz", "tbz tbnz", "adc add", "sbb sub", "adcs adds") for a, b in (pair.split(), pair.split()[::-1])}
+    "c.beqz c.bnez", "cbz cbnz", "tbz tbnz") for a, b in (pair.split(), pair.split()[::-1])}
 BY_NAME = re.compile(r"(j|set|cmov|b\.)(\w+)$")  # a condition is the end of a name
 MOST = 20  # instructions of a call that are changed
 NOPS = "nop", "hint\t#0", "c.nop"  # of x86-64, ARM and RISC-V
@@ -43,7 +43,7 @@ def changed(name, operands, is_jump):
         found = list(NUMBER.finditer(operands[k]))
         if found and not (is_jump and k == len(operands) - 1):
             at = found[-1]
-            number = int(at[1].lstrip("#") + "1") * int(at[2], 0)
+            number = int(at[1].lstrip("#") + at[2], 16 if at[2][:2] == "0x" else 10)
             number += 16 if "[" in operands[k] or "(" in operands[k] else 1
             text = at[1].replace("-", "") + ("-" if number < 0 else "") + (hex if at[2][:2] == "0x" else str)(abs(number))
             return name, [*operands[:k], operands[k][:at.start()] + text + operands[k][at.end():], *operands[k + 1:]]
@@ -89,15 +89,17 @@ def is_known(program, text):
 
 
 def has_effect(right, used):
-    """Gives the meaning of an instruction that also notes where it changes something. That doesn't count if it empties a register that
-    holds no secret."""
+    """Gives the meaning of an instruction that also notes where it changes something. It doesn't count if a register is emptied that holds
+    no secret."""
     def meaning(m, name, *operands):
-        before, flags, written, following = [*m.general.values(), *map(tuple, m.vectors)], m.flags, m.last_written, m.next_address
+        before, flags, written, following = [*m.general.values(), *m.vectors], m.flags, m.last_written, m.next_address
         right(m, name, *operands)
-        d, after = m.domain, [*m.general.values(), *map(tuple, m.vectors)]
-        empties = lambda old, new: new in (0, (0,) * m.vector_size) and not (type(old) is tuple and any(map(d.symbolic, old)))
-        if (m.last_written is not written or m.next_address != following or m.flags is not flags and name[:1] in "ctb"
-                or any(old != new and not empties(old, new) for old, new in zip(before, after))):
+        for old, new in zip(before, [*m.general.values(), *m.vectors]):
+            if old is not new:
+                pairs = zip(*(m.to_bytes(v, m.word if type(v) is not list else len(v)) for v in (old, new)))
+                if any(x != y and (y or m.domain.symbolic(x)) for x, y in pairs):
+                    used.add(m.last)
+        if m.last_written is not written or m.next_address != following or m.flags is not flags and name[:1] in "ctb":
             used.add(m.last)
     return meaning
 
@@ -167,9 +169,9 @@ class Mutants:
         right = self.program.lines[address]
         try:
             self.change(address, text)
-            words = {one.judge() for one in inputs}
+            same = all([one.judge() for one in inputs])
         except Unproved as e:
             return False, "MISSED: %s: %s" % (what, e)
         finally:
             self.change(address, right)
-        return True, "%s: %s" % ("otherwise: " if len(words) > 1 or "other" in words else "no change: ", what)
+        return True, ("no change: " if same else "otherwise: ") + what

@@ -4,6 +4,7 @@ program says when it refuses the function. Each function is to return the first 
 import os
 import re
 
+from kept import KEPT
 from linked.builds import BUILDS
 from linked.directives import refuse_lines
 from linked.linking import PROVE_FOLDER, program_of
@@ -32,7 +33,8 @@ def functions_of(name):
 def answer_to(build, shared, text, out):
     """Gives how the program answers to a function."""
     machine, domain = BUILDS[build], Domain()
-    for ending, content in ((".s", shared + text), (".own.s", text)):
+    one_by_one = re.sub(r"(?m)^\t([\w.$]+:)$", r"\1", re.sub(r"(?m)^\t([\w.]+) ", r"\t\1\t", text.replace("; ", "\n\t")))
+    for ending, content in ((".s", shared + text), (".own.s", one_by_one)):
         with open(out + ending, "w", newline="") as file:
             file.write(content)
     key = [domain.fresh("key[%d]" % k, KEY) for k in range(64)]
@@ -50,8 +52,14 @@ def answer_to(build, shared, text, out):
 
 def try_rules(options, name):
     """Tries the functions of a file. Gives (whether the answer is the right one, what to print)."""
-    build = OF_BUILDS[name]
+    build, kept, verdicts = OF_BUILDS[name], options.kept, []
     for what, answer, shared, text in functions_of(name):
-        have = answer_to(build, shared, text, "%s/rule_%s" % (options.out, name))
+        of_kept = kept.name("rule", build, answer, shared, text)
+        known = kept.of(of_kept)
+        have = known or answer_to(build, shared, text, "%s/rule_%s" % (options.out, name))
         right = have == answer if PROVED in (have, answer) else answer in have
-        yield right, "%s: %s (rules/%s.s): %s" % (("refused" if have != PROVED else PROVED) if right else "MISSED", what, name, have[:160])
+        if right and not known:
+            kept.keep(of_kept, have)
+        words = "refused" if have != PROVED else PROVED
+        verdicts.append((right, KEPT * bool(known) + "%s: %s (rules/%s.s): %s" % (words if right else "MISSED", what, name, have[:160])))
+    return verdicts
