@@ -1,6 +1,6 @@
 """Judges what the prover says of a wrong body: whether it refused it at a value of a function.
 
-docs/WRONG_BODIES.md says what counts. A refusal for an unknown reason doesn't.
+The head of tools/edits says what counts. A refusal for an unknown reason doesn't.
 """
 import re
 
