@@ -1,5 +1,5 @@
-"""Counts for each export the instructions that it may reach and that its cases didn't run, and the conditional jumps that went one way.
-not_run.tsv has the counts, and more than it has is a fault. `prove.py --record` writes it."""
+"""Counts for each export the instructions that it may reach and that its cases didn't run, and the conditional jumps that didn't go both
+ways. not_run.tsv has the counts, and more than it has is a fault. `prove.py --record` writes it."""
 import collections
 import os
 import re
@@ -12,7 +12,7 @@ PATH = os.path.join(PROVE_FOLDER, "not_run.tsv")
 # Exports that need no key, which are only proved once.
 KEYLESS = r"fotsgure_\w+_(?:version|wipe|wipe_message|(?:equiv_inv_)?cipher_round(?:_par)?|(?:inv_)?mix_columns)"
 USUAL = "usual"  # the level of `make prove` in the table
-COUNTED = "instructions didn't run", "conditional jumps went one way"
+COUNTED = "instructions didn't run", "conditional jumps didn't go both ways"
 
 
 def of_build(build, exports):
@@ -21,15 +21,15 @@ def of_build(build, exports):
 
 
 def counts_of(program, build, tasks):
-    """Gives {export: (how many of its instructions didn't run, how many of its conditional jumps went one way)}. It may reach all
-    instructions of its function, of those that these lead to, and so on."""
+    """Gives {export: (how many of its instructions didn't run, how many of its conditional jumps didn't go both ways)}. It may reach
+    all instructions of its function, of those that these lead to, and so on."""
     functions, out = program.functions(), {}
     names_reached = program.reached_by_exports(functions)
     for export in of_build(build, program.exports):
         reached = set().union(*(functions[name] for name in names_reached[export]))
         ran, ways = (set().union(*(task.ran.get(export, ((), ()))[k] for task in tasks)) for k in (0, 1))
         times = collections.Counter(address for address, _ in ways)
-        jumps = {a for a in ran & reached if re.match(program.machine.conditional, program.lines[a])}
+        jumps = {a for a in reached if re.match(program.machine.conditional, program.lines[a])}
         out[export] = len(reached - ran), sum(times[a] < 2 for a in jumps)
     return out
 

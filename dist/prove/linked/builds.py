@@ -4,10 +4,10 @@ from machines.riscv import Riscv, Riscv32, Riscv64
 from machines.x86_64 import X86_64, Windows
 
 # Builds whose proofs run longest come first. `siv` are the calls of AES-GCM-SIV in gcm.s.
-BUILDS = {"%s/%s%s" % (folder, library, wide): machine for library in ("aes", "siv", "gcm") for folder, machine, wide in (
-    ("x86_64", X86_64, ""), ("aarch64", Aarch64, ""), ("x86_64", X86_64, "_v3"), ("x86_64", X86_64, "_v1"),
+BUILDS = {"%s/%s%s" % (folder, library, wide): machine for library in ("aes", "gcm", "siv") for folder, machine, wide in (
+    ("x86_64", X86_64, ""), ("aarch64", Aarch64, ""), ("x86_64", X86_64, "_v1"), ("x86_64", X86_64, "_v3"),
     *(("windows_x86_64", Windows, wide) for wide in ("_v1", "", "_v3")))}
-BUILDS |= {build: machine for library in ("aes", "siv", "gcm") for build, machine in (
+BUILDS |= {build: machine for library in ("aes", "gcm", "siv") for build, machine in (
     ("riscv32/" + library, Riscv32), ("riscv64/%s_narrow" % library, Riscv64))}
 KEY_SIZES = 16, 32, 24  # bytes, in the order in which they are proved
 MACHINES = {build.split("/")[0]: machine for build, machine in BUILDS.items()}

@@ -142,10 +142,6 @@ class Program:
         """Gives bytes of constants."""
         return next(content[address - start:][:size] for start, content in self.constants if start <= address < start + len(content))
 
-    def is_in_table(self, address):
-        """Whether an address is in the linker's table of addresses."""
-        return any(content is self.addresses and start <= address < start + len(content) for start, content in self.constants)
-
     def ran_from(self, entry):
         """Gives what a call notes that begins here: {address: the instruction that ran}, and (the address of a jump, where it led). Refused
         calls have any length, so the ways of their jumps don't count."""

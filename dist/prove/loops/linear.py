@@ -1,6 +1,5 @@
 """Computes with unknown public numbers, such as lengths, and decides what follows from facts about them. Such a number is a constant plus
 multiples of unknown integers."""
-import bisect
 import functools
 import itertools
 import math
@@ -224,21 +223,6 @@ def without_equations(facts, kept):
             if k in (1, -1) and name != kept:
                 return without_equations({replaced(x, name, unknown(name) - f * k) for x in facts}, kept)
     return facts
-
-
-def fulfilled(facts):
-    """Whether it finds integers that make all these numbers >= 0. For one unknown after the other it tries the lowest value from 0 on that
-    isn't refuted. False may mean that it didn't find them."""
-    while not any(f < 0 for f in facts if not isinstance(f, Linear)):
-        facts = frozenset(f for f in facts if isinstance(f, Linear))
-        if not facts:
-            return True
-        name = min(name for f in facts for name in terms(f))
-        if refuted(facts):
-            return False
-        lowest = bisect.bisect_left(range(1 << 62), True, key=lambda value: not refuted(facts | {value - unknown(name)}))
-        facts = frozenset(replaced(f, name, lowest) for f in facts)
-    return False
 
 
 def implied(facts, x):

@@ -156,7 +156,7 @@ def is_zero(m, a):
 
 
 def marked(m, name, to):
-    """Gives where a jump or a call leads. If it is indirect, that has to be libc's function, or a mark. `bti c` is a mark for calls, and for
+    """Gives where a jump or a call leads. If it is indirect, that has to be libc's function or a mark. `bti c` is a mark for calls, and for
     jumps by x16 and x17."""
     address = m.code_target(m.get(to))
     is_mark = is_int(address) and re.match(m.landing_mark, m.program.lines.get(address, ""))

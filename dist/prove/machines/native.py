@@ -56,8 +56,8 @@ class Native:
     def parts_of_registers(self, have):
         """Gives the registers of which only some bytes are known, with the processor's other bytes."""
         word, others = self.m.word, [r for r in self.m.registers if self.values.word(self.m.general[r]) is None]
-        return {r: int.from_bytes(self.known_or(self.m.to_bytes(self.m.general[r], word), lambda: have[r].to_bytes(word, "little")), "little")
-                for r in others}
+        known = {r: self.known_or(self.m.to_bytes(self.m.general[r], word), lambda: have[r].to_bytes(word, "little")) for r in others}
+        return {r: int.from_bytes(b, "little") for r, b in known.items()}
 
     def memory(self, name):
         """Gives the processor's bytes of a buffer."""

@@ -100,7 +100,7 @@ class Riscv(Machine):
 
     def is_equal(self, x, y):
         """Gives a flag: whether two words are equal. If one is a word of a counter and the other a number, this is a question. But the
-        lowest word is 0 only in block `wrap`, once 1 was added to it, up to `end`. Then the word above it isn't 0, unless it is the highest."""
+        lowest word is 0 only in block `wrap`, once 1 was added to it, up to `end`. Then the word above isn't 0, unless it's the highest."""
         x, y = (y, x) if is_int(x) else (x, y)
         if self.is_counter(x) and is_int(y):
             if y == 0 and x.base == self.counter.word and self.implied(x.offset - 1) and self.implied(self.counter.end - x.offset * 16):

@@ -171,8 +171,8 @@ def machine_before(domain, program, call):
 
 
 def is_known_false(call, m, flag):
-    """Whether a flag asks if all bytes are 0 of which the call assumes that not all are, or among which are all bytes of a number that isn't
-    0. The unknowns of that number are those of the statement. (Later, or in a part of a call, the same names may stand for others.)"""
+    """Whether a flag asks if all bytes are 0 of which the call assumes that not all are, or among which are all bytes of a number that
+    isn't 0. The unknowns of that number are those of the statement. (Later, or in a part of a call, these names may stand for others.)"""
     if call.assumes and asked_of(m, flag) == asked_of(m, ("zero", *call.assumes)):
         return True
     unknowns = set() if call.parts else names_in(call.facts) - {name for name, _ in m.replaced}
