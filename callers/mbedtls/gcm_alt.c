@@ -1,8 +1,8 @@
 /* mbedtls' GCM (mbedtls/gcm.h, of 2.28 and 3.x) over fotsgure_gcm, for AES alone. Compile mbedtls and this file with MBEDTLS_GCM_ALT.
  *
- * Everything is done by proved calls. mbedtls_gcm_finish gives out the tag of a message that was decrypted in pieces, so that the caller
- * compares it. No call of the library gives out such a tag. So while a message in pieces is decrypted, a copy of the text is encrypted
- * again for the tag, which needs twice the time. mbedtls_gcm_auth_decrypt, which TLS calls, compares the tag before it decrypts. */
+ * Everything is done by proved calls. mbedtls_gcm_finish gives out the right tag of a message that was decrypted in pieces, so that its
+ * caller compares it, without an early exit. mbedtls_gcm_auth_decrypt, which TLS calls, compares the tag before it decrypts. Of tags of 5,
+ * 6, 7, 9, 10 and 11 bytes, which SP 800-38D doesn't allow, it compares the first bytes of the right one after it decrypted. */
 #include "glue.h"
 
 #if defined(MBEDTLS_GCM_C) && defined(MBEDTLS_GCM_ALT)
@@ -46,9 +46,7 @@ static int begin(mbedtls_gcm_context *ctx, int mode, const unsigned char *iv, si
 {
     ctx->text = 0;
     ctx->decrypting = mode == MBEDTLS_GCM_DECRYPT;
-    int failed = result(fotsgure_gcm_begin(&ctx->key, &ctx->message, iv, iv_len));
-    if (!failed && ctx->decrypting)
-        failed = result(fotsgure_gcm_begin(&ctx->key, &ctx->decrypted, iv, iv_len));
+    const int failed = result(fotsgure_gcm_begin(&ctx->key, &ctx->message, iv, iv_len));
     ctx->begun = !failed;
     return failed;
 }
@@ -57,20 +55,6 @@ static int additional(mbedtls_gcm_context *ctx, const unsigned char *add, size_t
 {
     /* (mbedtls allows no bytes at any time.) */
     return add_len == 0 ? 0 : result(fotsgure_gcm_additional(&ctx->key, &ctx->message, add, add_len));
-}
-
-static int encrypt_again(mbedtls_gcm_context *ctx, const unsigned char *bytes, size_t length)
-{
-    unsigned char again[64];
-    int failed = 0;
-    for (size_t done = 0; done < length && !failed;) {
-        const size_t count = length - done < sizeof again ? length - done : sizeof again;
-        memcpy(again, bytes + done, count);
-        failed = result(fotsgure_gcm_encrypt(&ctx->key, &ctx->message, again, count));
-        done += count;
-    }
-    mbedtls_platform_zeroize(again, sizeof again);
-    return failed;
 }
 
 /* Whether an output begins within its input, so that it would overwrite what hasn't been read: mbedtls refuses that. */
@@ -87,10 +71,8 @@ static int text(mbedtls_gcm_context *ctx, const unsigned char *input, unsigned c
         return MBEDTLS_ERR_GCM_BAD_INPUT;
     fotsgure_put(output, input, length);
     ctx->text += length;
-    if (!ctx->decrypting)
-        return result(fotsgure_gcm_encrypt(&ctx->key, &ctx->message, output, length));
-    const int failed = result(fotsgure_gcm_decrypt_unverified(&ctx->key, &ctx->decrypted, output, length));
-    return failed ? failed : encrypt_again(ctx, output, length);
+    return result(ctx->decrypting ? fotsgure_gcm_decrypt_unverified(&ctx->key, &ctx->message, output, length)
+                                  : fotsgure_gcm_encrypt(&ctx->key, &ctx->message, output, length));
 }
 
 static int finish(mbedtls_gcm_context *ctx, unsigned char *tag, size_t tag_len)
@@ -98,8 +80,8 @@ static int finish(mbedtls_gcm_context *ctx, unsigned char *tag, size_t tag_len)
     unsigned char whole[FOTSGURE_GCM_TAG];
     if (tag_len < 4 || tag_len > sizeof whole)
         return MBEDTLS_ERR_GCM_BAD_INPUT;
-    const int failed = result(fotsgure_gcm_finish(&ctx->key, &ctx->message, whole));
-    fotsgure_gcm_wipe_message(&ctx->decrypted);
+    const int failed = result(ctx->decrypting ? fotsgure_gcm_finish_unverified(&ctx->key, &ctx->message, whole)
+                                              : fotsgure_gcm_finish(&ctx->key, &ctx->message, whole));
     ctx->begun = 0;
     if (!failed)
         memcpy(tag, whole, tag_len);

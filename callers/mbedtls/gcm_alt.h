@@ -6,9 +6,8 @@
 
 typedef struct mbedtls_gcm_context {
     struct fotsgure_gcm key;
-    struct fotsgure_gcm_message message;   /* the message whose tag mbedtls_gcm_finish writes */
-    struct fotsgure_gcm_message decrypted; /* only while a message in pieces is decrypted: gives out its text */
-    uint64_t text;                         /* bytes of text that have come */
+    struct fotsgure_gcm_message message;
+    uint64_t text; /* bytes of text that have come */
     unsigned char begun, decrypting;
 } mbedtls_gcm_context;
 

@@ -2,7 +2,7 @@
  * tags; every status. */
 static uint8_t plain[300], text[300], sealed[300], additional[300], tag[16], wanted[16];
 
-/* Whether a message in pieces of `piece` bytes is that of one call, and comes back in pieces, in both ways. */
+/* Whether a message in pieces of `piece` bytes is that of one call, and comes back in pieces, in each way. */
 static int cut(const struct fotsgure_gcm *gcm, const uint8_t *nonce, size_t nonce_length, size_t piece, size_t extra,
     size_t length)
 {
@@ -10,9 +10,9 @@ static int cut(const struct fotsgure_gcm *gcm, const uint8_t *nonce, size_t nonc
     memcpy(sealed, plain, length);
     memcpy(text, plain, length);
     int right = fotsgure_gcm_seal(gcm, nonce, nonce_length, additional, extra, sealed, length, wanted) == 0;
-    for (int way = 0; way < 3; way++) {
+    for (int way = 0; way < 4; way++) {
         size_t at, n;
-        if (way == 2)
+        if (way >= 2)
             memcpy(text, sealed, length);
         right &= fotsgure_gcm_begin(gcm, &message, nonce, nonce_length) == FOTSGURE_GCM_DONE;
         for (at = 0; at < extra; at += n) {
@@ -25,9 +25,12 @@ static int cut(const struct fotsgure_gcm *gcm, const uint8_t *nonce, size_t nonc
                     : way == 1 ? fotsgure_gcm_verify(gcm, &message, text + at, n)
                                : fotsgure_gcm_decrypt_unverified(gcm, &message, text + at, n)) == FOTSGURE_GCM_DONE;
         }
-        if (way == 0) {
-            right &= fotsgure_gcm_finish(gcm, &message, tag) == FOTSGURE_GCM_DONE && memcmp(tag, wanted, 16) == 0;
-            right &= memcmp(text, sealed, length) == 0 && all(&message, sizeof message, 0);
+        if (way == 0 || way == 3) {
+            memset(tag, 0, 16);
+            right &= (way == 0 ? fotsgure_gcm_finish(gcm, &message, tag)
+                               : fotsgure_gcm_finish_unverified(gcm, &message, tag)) == FOTSGURE_GCM_DONE;
+            right &= memcmp(tag, wanted, 16) == 0 && memcmp(text, way == 0 ? sealed : plain, length) == 0;
+            right &= all(&message, sizeof message, 0);
             continue;
         }
         tag[length % 16] ^= 8;
@@ -122,19 +125,20 @@ static void fields(const struct fotsgure_gcm *gcm)
     fotsgure_gcm_wipe_message(&message);
 }
 
-/* What each call on a message answers in each phase: additional, encrypt, finish, verify, accept, decrypt. */
+/* What each call on a message answers in each phase: additional, encrypt, finish, verify, accept, decrypt, decrypt_unverified,
+ * finish_unverified. */
 static void out_of_turn(const struct fotsgure_gcm *gcm)
 {
     enum { DONE = FOTSGURE_GCM_DONE, OUT = FOTSGURE_GCM_OUT_OF_TURN, LONG = FOTSGURE_GCM_TOO_LONG,
            REFUSED = FOTSGURE_GCM_REFUSED };
-    static const int answers[6][7] = {
-        {OUT, OUT, OUT, OUT, OUT, OUT, OUT}, {DONE, DONE, DONE, DONE, REFUSED, OUT, DONE},
-        {OUT, DONE, DONE, OUT, OUT, OUT, OUT}, {OUT, OUT, OUT, DONE, REFUSED, OUT, DONE},
-        {OUT, OUT, OUT, OUT, OUT, LONG, OUT}, {OUT, OUT, OUT, OUT, OUT, OUT, OUT},
+    static const int answers[6][8] = {
+        {OUT, OUT, OUT, OUT, OUT, OUT, OUT, OUT}, {DONE, DONE, DONE, DONE, REFUSED, OUT, DONE, DONE},
+        {OUT, DONE, DONE, OUT, OUT, OUT, OUT, OUT}, {OUT, OUT, OUT, DONE, REFUSED, OUT, DONE, DONE},
+        {OUT, OUT, OUT, OUT, OUT, LONG, OUT, OUT}, {OUT, OUT, OUT, OUT, OUT, OUT, OUT, OUT},
     };
     const uint8_t nonce[12] = {1};
     for (uint64_t phase = 0; phase < 6; phase++) {
-        for (int call = 0; call < 7; call++) {
+        for (int call = 0; call < 8; call++) {
             struct fotsgure_gcm_message message, before;
             uint8_t bytes[3] = {7, 7, 7}, made[16];
             memset(made, 9, sizeof made);
@@ -148,9 +152,10 @@ static void out_of_turn(const struct fotsgure_gcm *gcm)
                 : call == 3 ? (int)fotsgure_gcm_verify(gcm, &message, bytes, 3)
                 : call == 4 ? (int)fotsgure_gcm_accept(gcm, &message, made, 16)
                 : call == 5 ? (int)fotsgure_gcm_decrypt(gcm, &message, bytes, 3)
-                            : (int)fotsgure_gcm_decrypt_unverified(gcm, &message, bytes, 3);
+                : call == 6 ? (int)fotsgure_gcm_decrypt_unverified(gcm, &message, bytes, 3)
+                            : (int)fotsgure_gcm_finish_unverified(gcm, &message, made);
             int same = memcmp(&message, &before, sizeof message) == 0 && all(bytes, 3, 7) && all(made, 16, 9);
-            expect(status == answers[phase][call] && (status == DONE || same), "out of turn", 7 * phase + (size_t)call);
+            expect(status == answers[phase][call] && (status == DONE || same), "out of turn", 8 * phase + (size_t)call);
         }
     }
 }
@@ -192,6 +197,7 @@ static void refused_pieces(const struct fotsgure_gcm *gcm, const struct fotsgure
     expect(fotsgure_gcm_accept(none, &message, tag, 16) == FOTSGURE_GCM_NO_KEY, "no key", 5);
     expect(fotsgure_gcm_decrypt(none, &message, NULL, 0) == FOTSGURE_GCM_NO_KEY, "no key", 6);
     expect(fotsgure_gcm_decrypt_unverified(none, &message, NULL, 0) == FOTSGURE_GCM_NO_KEY, "no key", 7);
+    expect(fotsgure_gcm_finish_unverified(none, &message, tag) == FOTSGURE_GCM_NO_KEY, "no key", 8);
     expect(IS_32 || fotsgure_gcm_additional(gcm, &message, key, (size_t)FOTSGURE_GCM_MOST_ADDITIONAL + 1) ==
         FOTSGURE_GCM_TOO_LONG, "too long", 0);
     expect(IS_32 || fotsgure_gcm_encrypt(gcm, &message, key, (size_t)FOTSGURE_GCM_MOST + 1) == FOTSGURE_GCM_TOO_LONG,

@@ -15,6 +15,9 @@
  *    place, use the calls with one buffer. What a call only reads may overlap.
  *  - A struct fotsgure_aes that fotsgure_aes_set_key or fotsgure_aes_wipe wrote last, or a copy of such a struct, or one
  *    whose bytes are all 0. For these two calls it may be uninitialized.
+ *  - A struct fotsgure_aes_cmac_message may hold anything but uninitialized bytes. For fotsgure_aes_cmac_begin and
+ *    fotsgure_aes_cmac_wipe it may be uninitialized too. What calls promise about a message holds if all its calls had the
+ *    same key, the first was fotsgure_aes_cmac_begin, and nothing else wrote the struct.
  *  - No data race: during the call no other thread writes what it reads, or reads or writes what it writes.
  *  - FOTSGURE_AES_STACK bytes of stack, and a processor with little-endian words: any on x86-64, 64-bit ARM and RISC-V; on
  *    32-bit ARM an ARMv7 or later, or a Cortex-M. On microcontrollers docs/MICROCONTROLLERS.md says how much stack a call
@@ -36,7 +39,8 @@
  *
  * Copies and threads: a struct fotsgure_aes may be copied and moved as bytes. Every copy is as secret as the key and has
  * to be wiped too. Any number of threads may use one struct at the same time, in calls that have it as const.
- * A struct fotsgure_aes_ctr belongs to one thread at a time; a copy of it would give out the same keystream again.
+ * A struct fotsgure_aes_ctr belongs to one thread at a time; a copy of it would give out the same keystream again. A
+ * struct of a message also belongs to one thread at a time.
  *
  * A block cipher alone protects no message, and counter mode doesn't show whether a message was changed. For
  * messages use fotsgure_gcm.h, or CCM if a protocol asks for it. */
@@ -94,7 +98,8 @@ enum fotsgure_aes_status {
                                       * message */
     FOTSGURE_AES_TAG_LENGTH = 7,     /* the tag has a length that isn't allowed */
     FOTSGURE_AES_NONCE_LENGTH = 8,   /* the nonce doesn't have 7 to 13 bytes */
-    FOTSGURE_AES_TOO_LONG = 9        /* more text than a nonce of this length allows */
+    FOTSGURE_AES_TOO_LONG = 9,       /* more text than a nonce of this length allows */
+    FOTSGURE_AES_OUT_OF_TURN = 10    /* the calls for a message came in the wrong order */
 };
 
 /* The words of a key schedule. Of the builds for 64-bit RISC-V, the one without vectors has words of 64 bits. */
@@ -125,9 +130,18 @@ struct fotsgure_aes_cbc {
     uint8_t previous[16]; /* the last encrypted block; before the first, the initialization vector */
 };
 
+/* A message in pieces whose tag is made by CMAC. Read and write it by the calls below alone. It is as secret as the key. */
+struct fotsgure_aes_cmac_message {
+    uint64_t begun;       /* 1: a message has begun; every other number: no message */
+    uint64_t rest_length; /* how many bytes of the last block have come */
+    uint8_t value[16];
+    uint8_t rest[16];
+};
+
 FOTSGURE_AES_ASSERT(sizeof(struct fotsgure_aes) == 121 * sizeof(fotsgure_aes_word), "no padding");
 FOTSGURE_AES_ASSERT(sizeof(struct fotsgure_aes_ctr) == 24, "no padding");
 FOTSGURE_AES_ASSERT(sizeof(struct fotsgure_aes_cbc) == 16, "no padding");
+FOTSGURE_AES_ASSERT(sizeof(struct fotsgure_aes_cmac_message) == 48, "no padding");
 
 /* Returns FOTSGURE_AES_VERSION of the header that the library was built with. */
 uint32_t fotsgure_aes_version(void) FOTSGURE_AES_NOEXCEPT;
@@ -229,6 +243,34 @@ FOTSGURE_AES_CHECK enum fotsgure_aes_status fotsgure_aes_cmac_verify(const struc
     const uint8_t *message, size_t message_length,
     const uint8_t *tag, size_t tag_length) FOTSGURE_AES_NOEXCEPT;
 
+/* CMAC of a message in pieces. Call begin once, then update any number of times, and then finish, which writes the tag, or
+ * accept, which compares one. Pieces have any size, and the tag is that of the whole message, however the pieces are cut. A
+ * message can end at any time by fotsgure_aes_cmac_wipe, or by beginning another.
+ *
+ * Begins a message. *message may be uninitialized: none of it is read, and nothing is left of a message that was there.
+ * NO_KEY; else DONE. */
+FOTSGURE_AES_CHECK enum fotsgure_aes_status fotsgure_aes_cmac_begin(const struct fotsgure_aes *aes,
+    struct fotsgure_aes_cmac_message *FOTSGURE_AES_ALONE message) FOTSGURE_AES_NOEXCEPT;
+/* Takes a piece of the message.
+ * NO_KEY; OUT_OF_TURN if no message has begun, or it is over; else DONE. */
+FOTSGURE_AES_CHECK enum fotsgure_aes_status fotsgure_aes_cmac_update(const struct fotsgure_aes *aes,
+    struct fotsgure_aes_cmac_message *FOTSGURE_AES_ALONE message,
+    const uint8_t *bytes, size_t count) FOTSGURE_AES_NOEXCEPT;
+/* Ends the message, and writes its tag (SP 800-38B, 6.2). Then *message is all zeros.
+ * NO_KEY; OUT_OF_TURN if no message has begun, or it is over; else DONE. */
+FOTSGURE_AES_CHECK enum fotsgure_aes_status fotsgure_aes_cmac_finish(const struct fotsgure_aes *aes,
+    struct fotsgure_aes_cmac_message *FOTSGURE_AES_ALONE message,
+    uint8_t tag[FOTSGURE_AES_BLOCK]) FOTSGURE_AES_NOEXCEPT;
+/* Compares a tag with that of the message, without an early exit (6.3), as fotsgure_aes_cmac_verify does. If the tag is
+ * right, the message is over, and *message is all zeros.
+ * NO_KEY; TAG_LENGTH if the tag has fewer than 4 bytes, or more than 16; OUT_OF_TURN if no message has begun, or it is over;
+ * REFUSED; else DONE. */
+FOTSGURE_AES_CHECK enum fotsgure_aes_status fotsgure_aes_cmac_accept(const struct fotsgure_aes *aes,
+    struct fotsgure_aes_cmac_message *FOTSGURE_AES_ALONE message,
+    const uint8_t *tag, size_t tag_length) FOTSGURE_AES_NOEXCEPT;
+/* Overwrites a message with zeros. There is then no message. */
+void fotsgure_aes_cmac_wipe(struct fotsgure_aes_cmac_message *FOTSGURE_AES_ALONE message) FOTSGURE_AES_NOEXCEPT;
+
 /* CCM (SP 800-38C, 6.1; RFC 3610): encrypts `text_length` bytes in place, and writes a tag, which shows whether the text
  * or the additional data was changed. Never use a nonce twice under one key. The additional data isn't encrypted, nor is
  * it part of the text. A nonce has 7 to 13 bytes. A text has fewer than 2^(8 * (15 - nonce_length)) bytes: with a nonce of
@@ -292,6 +334,7 @@ static inline const char *fotsgure_aes_status_text(enum fotsgure_aes_status stat
     case FOTSGURE_AES_TAG_LENGTH: return "the tag has a length that isn't allowed";
     case FOTSGURE_AES_NONCE_LENGTH: return "a nonce has 7 to 13 bytes";
     case FOTSGURE_AES_TOO_LONG: return "the text is longer than a nonce of this length allows";
+    case FOTSGURE_AES_OUT_OF_TURN: return "the call came in the wrong order";
     }
     return "this header doesn't know the status";
 }
@@ -400,6 +443,18 @@ FOTSGURE_AES_CHECK static inline enum fotsgure_aes_status fotsgure_aes_not_null_
     return fotsgure_aes_cmac_verify(aes, fotsgure_aes_not_null(message), message_length, fotsgure_aes_not_null(tag),
         tag_length);
 }
+FOTSGURE_AES_CHECK static inline enum fotsgure_aes_status fotsgure_aes_not_null_cmac_update(
+    const struct fotsgure_aes *aes, struct fotsgure_aes_cmac_message *message, const uint8_t *bytes,
+    size_t count) FOTSGURE_AES_NOEXCEPT
+{
+    return fotsgure_aes_cmac_update(aes, message, fotsgure_aes_not_null(bytes), count);
+}
+FOTSGURE_AES_CHECK static inline enum fotsgure_aes_status fotsgure_aes_not_null_cmac_accept(
+    const struct fotsgure_aes *aes, struct fotsgure_aes_cmac_message *message, const uint8_t *tag,
+    size_t tag_length) FOTSGURE_AES_NOEXCEPT
+{
+    return fotsgure_aes_cmac_accept(aes, message, fotsgure_aes_not_null(tag), tag_length);
+}
 FOTSGURE_AES_CHECK static inline enum fotsgure_aes_status fotsgure_aes_not_null_ccm_seal(
     const struct fotsgure_aes *aes, const uint8_t *nonce, size_t nonce_length, const uint8_t *additional,
     size_t additional_length, uint8_t *text, size_t text_length, uint8_t *tag, size_t tag_length) FOTSGURE_AES_NOEXCEPT
@@ -449,6 +504,8 @@ FOTSGURE_AES_CHECK static inline enum fotsgure_aes_status fotsgure_aes_not_null_
 #define fotsgure_aes_unwrap_padded(...) fotsgure_aes_not_null_unwrap_padded(__VA_ARGS__)
 #define fotsgure_aes_cmac(...) fotsgure_aes_not_null_cmac(__VA_ARGS__)
 #define fotsgure_aes_cmac_verify(...) fotsgure_aes_not_null_cmac_verify(__VA_ARGS__)
+#define fotsgure_aes_cmac_update(...) fotsgure_aes_not_null_cmac_update(__VA_ARGS__)
+#define fotsgure_aes_cmac_accept(...) fotsgure_aes_not_null_cmac_accept(__VA_ARGS__)
 #define fotsgure_aes_ccm_seal(...) fotsgure_aes_not_null_ccm_seal(__VA_ARGS__)
 #define fotsgure_aes_ccm_open(...) fotsgure_aes_not_null_ccm_open(__VA_ARGS__)
 #define fotsgure_aes_encrypt_blocks_with(...) fotsgure_aes_not_null_encrypt_blocks_with(__VA_ARGS__)

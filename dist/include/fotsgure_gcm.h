@@ -241,7 +241,7 @@ FOTSGURE_GCM_CHECK enum fotsgure_gcm_status fotsgure_gcm_open_to(const struct fo
  *
  * A call in the wrong order is refused and changes nothing. So is a call that would make the message longer than the
  * standard allows. fotsgure_gcm_decrypt decrypts only after a call has found the tag right.
- * fotsgure_gcm_decrypt_unverified doesn't wait for it. A message may be abandoned at any time. Wipe it when you are done.
+ * fotsgure_gcm_decrypt_unverified and fotsgure_gcm_finish_unverified don't wait for it. A message may be abandoned at any time. Wipe it when you are done.
  * Once some of its text was encrypted, its nonce is used, even if the message was never finished: begin again, with a new
  * nonce. */
 
@@ -314,6 +314,14 @@ FOTSGURE_GCM_CHECK enum fotsgure_gcm_status fotsgure_gcm_decrypt(const struct fo
 FOTSGURE_GCM_CHECK enum fotsgure_gcm_status fotsgure_gcm_decrypt_unverified(const struct fotsgure_gcm *gcm,
     struct fotsgure_gcm_message *FOTSGURE_GCM_ALONE message,
     uint8_t *FOTSGURE_GCM_ALONE text, size_t text_length) FOTSGURE_GCM_NOEXCEPT;
+
+/* Ends a message whose tag was to be compared: writes its right tag, and overwrites *message with zeros. NOBODY HAS
+ * AUTHENTICATED THE MESSAGE, AND WHO LEARNS ITS RIGHT TAG HAS FORGED IT. This is for interfaces that leave the comparison
+ * to you; otherwise use fotsgure_gcm_accept. Compare all bytes of the tag that came, without an early exit. If it differs,
+ * discard what was decrypted. In both cases wipe the right tag.
+ * NO_KEY or OUT_OF_TURN; else DONE. */
+FOTSGURE_GCM_CHECK enum fotsgure_gcm_status fotsgure_gcm_finish_unverified(const struct fotsgure_gcm *gcm,
+    struct fotsgure_gcm_message *FOTSGURE_GCM_ALONE message, uint8_t tag[FOTSGURE_GCM_TAG]) FOTSGURE_GCM_NOEXCEPT;
 
 /* Overwrites *message with zeros: there is no message then. It may be uninitialized. Copies are not wiped. */
 void fotsgure_gcm_wipe_message(struct fotsgure_gcm_message *message) FOTSGURE_GCM_NOEXCEPT;

@@ -40,8 +40,8 @@ SAYS_CCM = ("16 a + b bytes of additional data, none if b is 0, and 256 n + r of
             "the encoded length of additional data has 2 bytes, or 6 or 10 if the case names that")
 AES_ROWS = [
     Row("any_blocks", "16 n + r blocks for every n: the direction, r, into the same buffer or another (`_to`), or under a key (`_with`)",
-        each=[(way, 7, to) for way in DIRECTIONS for to in ("", "_to")] + [(way, 1, "_with") for way in DIRECTIONS],
-        most=[(way, rest) for way in DIRECTIONS for rest in range(16) if rest != 7]
+        each=[(way, *rest) for way in DIRECTIONS for rest in ((15,), (7, "_to"), (1, "_with"))],
+        most=[(way, rest) for way in DIRECTIONS for rest in range(15)]
              + [(way, *more) for way in DIRECTIONS for more in ((1, "_to"), (7, "_with"))],
         more=[(way, rest, "_to") for way in DIRECTIONS for rest in (0, 2, 14)],
         left_out=lambda word, values: word == 4 and "_to" in values),
@@ -188,13 +188,13 @@ GCM_ROWS = [
         each=[(3, 7, 20)], most=[(3, *numbers) for numbers in ((7, 0), (7, 9), (5, 4), (0, 68), (11, 20))],
         more=[(3, t, 1) for t in range(16)], without_every=[(3, t, n) for t in range(16) for n in (0, 16, 32)], keys_24_32=[(3, 7, 20)],
         left_out=ON_RISCV_32),
-    *(Row("any_" + call, SAYS_CAME + also,
+    *(Row("any_" + call, what,
           each=[(phase, 0, 7), *each], most=[*((ADDITIONAL, n, 0) for n in (0, 5)), (phase, 5, 0), *most],
           keys_24_32=[(phase, 0, 7), *each, *((phase, 5, n) for n in ENDS)],
           more=[*((ADDITIONAL, n, 0) for n in ENDS if n != 5), *((phase, 5, n) for n in ENDS)])
-      for call, phase, also, each, most in (
-          ("finish", ENCRYPTING, "", (), ()),
-          ("accept", VERIFYING, "; also of what is refused, and of a shorter tag",
+      for call, phase, what, each, most in (
+          ("finish", ENCRYPTING, SAYS_CAME, (), ()), ("finish_unverified", VERIFYING, "the same", (), ()),
+          ("accept", VERIFYING, "the same; also of what is refused, and of a shorter tag",
            [(VERIFYING, 0, 7, 12), *((ADDITIONAL, 5, 0, n) for n in SHORT_TAGS)],
            [(VERIFYING, 0, 7, n) for n in SHORT_TAGS if n != 12]))),
     *(Row("every_" + call, SAYS_EVERY_PIECE, every=ONCE) for call in ("additional", "verify")),
@@ -202,6 +202,7 @@ GCM_ROWS = [
       for call in ("encrypt", "decrypt_unverified") for which in ("first", "later")),
     Row("every_decrypt", SAYS_EVERY_PIECE, every=ONCE),
     Row("every_finish", "after every number of bytes of additional data and of text, also more than the standard allows", every=ONCE),
+    Row("every_finish_unverified", "the same", every=ONCE),
     Row("every_accept", "the same; also of what is refused, and of a shorter tag", every=[(), *SHORT_TAGS])]
 
 # Where calls of every length aren't proved (Row.left_out). Some have one longer length.

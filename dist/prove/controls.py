@@ -1,9 +1,10 @@
-"""Runs the controls of the proof: faults that are planted in the assembly (faults.py), wrong guesses of states at joints (wrong_states.py),
-faults in other files (wrong_files.py), and wrong meanings of instructions. Each has to be refused. Run it as `make prove-controls` in dist.
+"""Runs the controls of the proof, as `make prove-controls` in dist. Each of the following has to be refused: one planted fault for each
+promise and machine (faults.py); changes of instructions that ran (mutants.py); wrong guesses of states at joints (wrong_states.py); faults
+in other files (wrong_files.py); and wrong meanings of instructions. The functions of rules/*.s have to be answered as they say (rules.py).
 
-A fault is refused if the case that it names is not proved any more. That is a case of PROVE=all. A fault for which a build has no place
-counts as missed. Any other failure ends the controls: one of gcc or ld, a case that isn't there, or a planted instruction that the program
-doesn't know, unless that is the fault."""
+A planted fault is refused if the case that it names is not proved any more. That is a case of PROVE=all. A fault for which a build has no
+place counts as missed. Any other failure ends the controls: one of gcc or ld, a case that isn't there, or a planted instruction that the
+program doesn't know, unless that is the fault."""
 import argparse
 import functools
 import re
@@ -11,22 +12,25 @@ import shutil
 import sys
 
 from cases import LIBRARIES, statements
-from kept import sum_of_program
+from kept import KEPT, sum_of_program
 from linked.builds import BUILDS, source
 from linked.directives import refuse_lines
 from linked.linking import assemble
 from loops import joints
 from machines.native import NEVER_ALONE, compare_all
 from machines.processors import MEANINGS, PROCESSORS
-from planted.faults import BUILDS_WITH_FAULTS, faults_of
+from planted.faults import FAULTS
+from planted.mutants import Mutants
+from planted.rules import OF_BUILDS, try_rules
 from planted.wrong_files import WRONG_FILES
 from planted.wrong_states import BUILD, CASE, WRONG_STATES
 from prove import cases_of_files, last_line, options_of
+from statements.calls import Call
 from statements.headers import parameters_of
 from symbols.bits import Unproved
 from tasks import pool_of
 
-KEPT = "kept: "  # how the words on a fault begin that an earlier run refused
+SAMPLE = 24  # of so many statements of a build, or fewer, one has instructions changed
 
 
 def verdict(what, attempt, reason=""):
@@ -53,26 +57,24 @@ def kept_verdict(kept, name, attempt):
 
 def edited_assembly(assembly, fault):
     """Gives the assembly with a fault in it, and the line of it. If there is no place for it, gives None."""
-    for label, pattern, becomes in fault.places():
-        at = re.search(r"(?m)^" + label, assembly)
-        end = at and re.compile(r"\t?\.(?:size|seh_endproc)|\Z").search(assembly, at.end())
-        found = at and re.compile(pattern).search(assembly, at.end(), end.start())
-        if not found:
-            return None, 0
-        put = becomes(found) if callable(becomes) else found.expand(becomes)
-        line, assembly = assembly.count("\n", 0, found.start()) + 1, assembly[:found.start()] + put + assembly[found.end():]
-    return assembly, line
+    at = re.search(r"(?m)^" + fault.label, assembly)
+    end = at and re.compile(r"\t?\.(?:size|seh_endproc)|\Z").search(assembly, at.end())
+    found = at and re.compile(fault.found).search(assembly, at.end(), end.start())
+    if not found:
+        return None, 0
+    put = fault.becomes(found) if callable(fault.becomes) else found.expand(fault.becomes)
+    return assembly[:found.start()] + put + assembly[found.end():], assembly.count("\n", 0, found.start()) + 1
 
 
 class Planted:
-    """Keeps the assembly of a build, in which faults are planted, and the cases that the build has with keys of one size. What runs at
+    """Keeps the assembly of a build, in which faults are planted, and the cases that the build has with keys of 16 bytes. What runs at
     the same time has another `task`, and files of its own."""
 
-    def __init__(self, options, build, task, key_size=16):
+    def __init__(self, options, build, task):
         self.build, self.out = build, "%s/%s_%s" % (options.out, task, build.replace("/", "_"))
         self.dist, self.library = options.dist, build.split("/")[1][:3]
         self.assembly = open(source(options.dist, build)).read()
-        self.keyed = LIBRARIES[self.library][0](assemble(build, source(options.dist, build), self.out), key_size)
+        self.keyed = LIBRARIES[self.library][0](assemble(build, source(options.dist, build), self.out), 16)
         self.unchanged = sum_of_program(self.keyed.program)
         self.parameters = parameters_of(options.dist, self.library)
 
@@ -80,47 +82,65 @@ class Planted:
     def cases(self):
         """Gives the cases, for the keys that set_key stores. `find` needs them before there is a fault to be refused."""
         self.keyed.set_key()
-        options = argparse.Namespace(dist=self.dist, level="all", only="")
-        return {**dict(statements(self.keyed, options, 0, 1)), "set_key": None}
+        return {**self.cases_of("all"), "set_key": None}
 
-    def find(self, cases):
-        """Ends the controls if the build lacks one of these cases."""
-        if not {*cases} <= self.cases.keys():
-            raise SystemExit("controls: %s: no such case: %s" % (self.build, ", ".join(cases)))
+    def cases_of(self, level):
+        return dict(statements(self.keyed, argparse.Namespace(dist=self.dist, level=level, only=""), 0, 1))
 
-    def prove_cases(self, assembly, cases):
-        """Proves these cases of the build with this assembly."""
+    def find(self, case):
+        """Ends the controls if the build lacks a case."""
+        if case not in self.cases:
+            raise SystemExit("controls: %s: no such case: %s" % (self.build, case))
+
+    def prove_case(self, assembly, case):
+        """Proves a case of the build with this assembly."""
         keyed = self.keyed
         with open(self.out + ".s", "w") as file:
             file.write(assembly)
         keyed.program = assemble(self.build, self.out + ".s", self.out)
-        for case in cases:
-            if self.cases[case]:
-                keyed.prove_statement(self.cases[case], parameters=self.parameters)
-            else:
-                type(keyed)(keyed.program, keyed.key_size).set_key()
+        if self.cases[case]:
+            keyed.prove_statement(self.cases[case], parameters=self.parameters)
+        else:
+            type(keyed)(keyed.program, keyed.key_size).set_key()
         refuse_lines(self.out + ".s", BUILDS[self.build])
 
     def try_fault(self, fault, kept):
-        """Gives the verdict on a fault."""
-        changed, line = edited_assembly(self.assembly, fault)
-        if changed in (None, self.assembly):
-            return False, "MISSED: %s (%s): there is no such place, or nothing changes" % (fault.what, self.build)
-        name = kept.name("fault", self.build, self.keyed.key_size, self.unchanged, changed, fault.what, fault.cases())
-        return kept_verdict(kept, name, lambda: self.verdict_of_cases(fault, changed, line))
-
-    def verdict_of_cases(self, fault, changed, line):
         """Gives the verdict on a fault. Its case has to refuse it."""
-        what, cases = "%s (%s.s:%d, %s)" % (fault.what, self.build, line, fault.case), fault.cases()
-        self.find(cases)
-        return verdict(what, lambda: self.prove_cases(changed, cases))
+        changed, line = edited_assembly(self.assembly, fault)
+        what = "%s (%s.s:%d, %s)" % (fault.what, self.build, line, fault.case)
+        if changed in (None, self.assembly):
+            return False, "MISSED: %s: there is no such place, or nothing changes" % what
+
+        def attempt():
+            self.find(fault.case)
+            return verdict(what, lambda: self.prove_case(changed, fault.case))
+        return kept_verdict(kept, kept.name("fault", self.build, self.unchanged, changed, fault.what, fault.case), attempt)
 
 
 def try_faults(options, build):
     """Tries the faults of one build."""
-    faults = [fault for fault in faults_of(build) if options.only in fault.what]
-    planted = {size: Planted(options, build, "faults", size) for size in {fault.key_size for fault in faults}}
-    return [planted[fault.key_size].try_fault(fault, options.kept) for fault in faults]
+    planted = Planted(options, build, "faults")
+    return [planted.try_fault(fault, options.kept) for fault in FAULTS[build] if options.only in fault.what]
+
+
+def try_mutants(options, build):
+    """Changes instructions that ran in some cases of a build, or with PROVE=all in one case of each statement."""
+    planted, verdicts = Planted(options, build, "mutants"), []
+    planted.keyed.set_key()
+    by_statement = {}
+    for what, call in planted.cases_of("").items():
+        if isinstance(call, Call) and "refused" not in what:
+            by_statement.setdefault(what.split()[0], (what, call))
+    cases = list(by_statement.values())
+    first = list(BUILDS).index(build) % min(SAMPLE, len(cases))  # so that builds have different statements
+    for what, call in cases if options.level == "all" else cases[first::SAMPLE]:
+        name = options.kept.name("mutants", build, planted.unchanged, what)
+        known = options.kept.of(name)
+        found = known or list(Mutants(planted.keyed, what, call, planted.parameters).verdicts())
+        if not known and all(good for good, _ in found):
+            options.kept.keep(name, found)
+        verdicts += [(good, KEPT * bool(known) + "%s: %s" % (build, words)) for good, words in found]
+    return verdicts
 
 
 def try_wrong_states(options, build):
@@ -135,8 +155,8 @@ def try_wrong_states(options, build):
         return guess
 
     def attempt():
-        planted.find([CASE])
-        return verdict("a state with " + what, lambda: planted.prove_cases(planted.assembly, [CASE]))
+        planted.find(CASE)
+        return verdict("a state with " + what, lambda: planted.prove_case(planted.assembly, CASE))
     for what, wrongly in WRONG_STATES:
         joints.Joint.forgetful = guessed(wrongly)
         name = options.kept.name("state", planted.unchanged, what, CASE)
@@ -163,8 +183,8 @@ def try_wrong_files(options, wrong):
             raise Unproved(", ".join(faults))
         if wrong.case:
             planted = Planted(these, wrong.build, "headers")
-            planted.find([wrong.case])
-            planted.prove_cases(planted.assembly, [wrong.case])
+            planted.find(wrong.case)
+            planted.prove_case(planted.assembly, wrong.case)
     what = "%s (%s, %s)" % (wrong.what, wrong.file, wrong.build)
     return [verdict(what, attempt) if changed != text else (False, "MISSED: %s: there is no such place" % what)]
 
@@ -230,8 +250,10 @@ def try_wrong_meanings(options, machine):
 def main():
     options = options_of(__doc__, all_builds=True)
     refused, missed, kept = 0, 0, 0
-    tries = [(try_faults, build) for build in BUILDS_WITH_FAULTS if build in options.builds]
+    tries = [(try_faults, build) for build in FAULTS if build in options.builds]
     if not options.only:
+        tries += [(try_mutants, build) for build in options.builds]
+        tries += [(try_rules, name) for name, build in OF_BUILDS.items() if build in options.builds]
         tries += [(try_wrong_states, BUILD)] * (BUILD in options.builds)
         tries += [(try_wrong_files, wrong) for wrong in WRONG_FILES if wrong.build in options.builds]
         tries += [(try_wrong_meanings, machine) for machine in set(MEANINGS.values()) if not PROCESSORS[machine].missing()]

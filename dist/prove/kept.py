@@ -14,6 +14,7 @@ from linked.linking import PROVE_FOLDER
 from machines.operands import Pointer
 from machines.processors import PROCESSORS
 
+KEPT = "kept: "  # how words begin that an earlier run kept
 RECORDS = {record.__name__: record for record in (Pointer,)}
 CONTAINERS = {container.__name__: container for container in (dict, frozenset, list, set, tuple)}
 OF_ONE_RUN = "path", "machine", "cache", "ran", "refuses", "other"  # what `sum_of_program` leaves out, or reads otherwise

@@ -45,6 +45,7 @@ LENGTHS = {
                           + [(call, phase, *three) for call, phase in PHASES.items() for three in PAIRS_OF_THREE],
         "any_then_decrypt": [(3, n, 17 + 2 * n) for n in PARTS] + PAIRS_OF_THREE,
         "any_finish": [(ENCRYPTING, *pair) for pair in BY_16] + CAME,
+        "any_finish_unverified": [(VERIFYING, *pair) for pair in BY_16] + CAME,
         "any_accept": [(VERIFYING, 5, n, tag) for n in PARTS for tag in SHORT_TAGS]
                       + [(ADDITIONAL, n, 0, tag) for n in BLOCK for tag in SHORT_TAGS]
                       + [(VERIFYING, *pair) for pair in BY_16] + CAME},

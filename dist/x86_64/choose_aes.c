@@ -39,6 +39,16 @@ EITHER(enum fotsgure_aes_status, fotsgure_aes_cmac, (const struct fotsgure_aes *
     size_t message_length, uint8_t tag[FOTSGURE_AES_BLOCK]), (aes, message, message_length, tag))
 EITHER(enum fotsgure_aes_status, fotsgure_aes_cmac_verify, (const struct fotsgure_aes *aes, const uint8_t *message,
     size_t message_length, const uint8_t *tag, size_t tag_length), (aes, message, message_length, tag, tag_length))
+EITHER(enum fotsgure_aes_status, fotsgure_aes_cmac_begin, (const struct fotsgure_aes *aes,
+    struct fotsgure_aes_cmac_message *message), (aes, message))
+EITHER(enum fotsgure_aes_status, fotsgure_aes_cmac_update, (const struct fotsgure_aes *aes,
+    struct fotsgure_aes_cmac_message *message, const uint8_t *bytes, size_t count), (aes, message, bytes, count))
+EITHER(enum fotsgure_aes_status, fotsgure_aes_cmac_finish, (const struct fotsgure_aes *aes,
+    struct fotsgure_aes_cmac_message *message, uint8_t tag[FOTSGURE_AES_BLOCK]), (aes, message, tag))
+EITHER(enum fotsgure_aes_status, fotsgure_aes_cmac_accept, (const struct fotsgure_aes *aes,
+    struct fotsgure_aes_cmac_message *message, const uint8_t *tag, size_t tag_length), (aes, message, tag,
+    tag_length))
+EITHER_VOID(fotsgure_aes_cmac_wipe, (struct fotsgure_aes_cmac_message *message), (message))
 EITHER(enum fotsgure_aes_status, fotsgure_aes_ccm_seal, (const struct fotsgure_aes *aes, const uint8_t *nonce,
     size_t nonce_length, const uint8_t *additional, size_t additional_length, uint8_t *text, size_t text_length,
     uint8_t *tag, size_t tag_length), (aes, nonce, nonce_length, additional, additional_length, text, text_length,

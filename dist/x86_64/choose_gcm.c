@@ -52,6 +52,8 @@ EITHER(enum fotsgure_gcm_status, fotsgure_gcm_decrypt, (const struct fotsgure_gc
     struct fotsgure_gcm_message *message, uint8_t *text, size_t text_length), (gcm, message, text, text_length))
 EITHER(enum fotsgure_gcm_status, fotsgure_gcm_decrypt_unverified, (const struct fotsgure_gcm *gcm,
     struct fotsgure_gcm_message *message, uint8_t *text, size_t text_length), (gcm, message, text, text_length))
+EITHER(enum fotsgure_gcm_status, fotsgure_gcm_finish_unverified, (const struct fotsgure_gcm *gcm,
+    struct fotsgure_gcm_message *message, uint8_t tag[FOTSGURE_GCM_TAG]), (gcm, message, tag))
 EITHER_VOID(fotsgure_gcm_wipe_message, (struct fotsgure_gcm_message *message), (message))
 EITHER(enum fotsgure_gcm_status, fotsgure_gcm_siv_set_key, (struct fotsgure_gcm_siv *siv, const uint8_t *key,
     size_t key_length), (siv, key, key_length))

@@ -79,11 +79,10 @@ static int open_in_pieces(void)
     return 0;
 }
 
-static int open_unverified(void)
+static void decrypt_unverified(void)
 {
     begin_message();
     IN_PIECES(fotsgure_gcm_decrypt_unverified(&now.gcm, &now.message, at, n), now.data, now.bytes);
-    return (int)fotsgure_gcm_accept(&now.gcm, &now.message, now.tag, 16);
 }
 
 static int stream_in_pieces(void)
@@ -221,7 +220,10 @@ _Static_assert((int)REFUSED == (int)FOTSGURE_GCM_REFUSED, "one number");
     IT(gcm_seal_pieces, OF_MESSAGES, GCM, PLAIN, SEALED, 0, seal_in_pieces()) \
     IT(gcm_open_pieces, OF_MESSAGES, GCM, SEALED, PLAIN, 0, open_in_pieces()) \
     IT(gcm_open_pieces_refused, OF_MESSAGES, GCM, SEALED, SEALED, REFUSED, open_in_pieces()) \
-    IT(gcm_open_unverified, OF_MESSAGES, GCM, SEALED, PLAIN, 0, open_unverified()) \
+    IT(gcm_open_unverified, OF_MESSAGES, GCM, SEALED, PLAIN, 0, (decrypt_unverified(), \
+        fotsgure_gcm_accept(&now.gcm, &now.message, now.tag, 16))) \
+    IT(gcm_finish_unverified, OF_MESSAGES, GCM, SEALED, PLAIN, 0, (decrypt_unverified(), \
+        fotsgure_gcm_finish_unverified(&now.gcm, &now.message, now.tag))) \
     IT(siv_set_key, NOTHING, SIV, PLAIN, PLAIN, 0, fotsgure_gcm_siv_set_key(&now.siv, KEY)) \
     IT(siv_wipe, NOTHING, SIV, PLAIN, PLAIN, 0, (fotsgure_gcm_siv_wipe(&now.siv), 0)) \
     IT(siv_seal, OF_MESSAGES, SIV, PLAIN, SEALED, 0, fotsgure_gcm_siv_seal(&now.siv, now.nonce, MESSAGE, now.tag)) \
@@ -436,11 +438,19 @@ static void at_lengths(const struct call *call)
         }
 }
 
+/* PROVED names what dist/prove has for a machine at each of these lengths, with keys of 16 bytes. */
+static int is_proved(const struct call *call)
+{
+    char name[40];
+    snprintf(name, sizeof name, " %s ", call->name);
+    return now.size == 16 && strstr(" " PROVED " ", name);
+}
+
 int main(void)
 {
     for (now.size = 16; now.size <= 32; now.size += 8)
         for (const struct call *call = calls; call < calls + OF(calls); call++)
-            if (call->mode != SIV || now.size != 24)
+            if (!is_proved(call) && (call->mode != SIV || now.size != 24))
                 at_lengths(call);
     return 0;
 }

@@ -55,10 +55,10 @@ def engines_of(room, suffixes, dist=shared.TOP / "dist", at=""):
     return objects
 
 
-def build(room, engines, links=(), flags=()):
-    """The worker over engines, each a name and its objects."""
+def build(room, engines, links=(), flags=(), source="worker.c"):
+    """The worker over engines, each a name and its objects; or another program over them."""
     names = "-DENGINES=" + " ".join(f"X({it})" for it in engines)
-    shared.run([*COMPILE, names, *flags, "-c", "-o", room / "worker.o", HERE / "worker.c"], "worker.c")
+    shared.run([*COMPILE, names, *flags, "-c", "-o", room / "worker.o", HERE / source], source)
     parts = [file for objects in engines.values() for file in objects]
     link = "g++" if "botan" in engines else "cc"
     shared.run([link, "-o", room / "worker", room / "worker.o", *parts, *links], "the linking of the worker")

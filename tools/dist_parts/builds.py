@@ -8,7 +8,7 @@ import sys
 from tools import toolchain
 from tools.crates import TOP, run, sum_of
 
-from . import targets
+from . import frames, targets
 from .headers import Header
 from .published import PROGRAM, Assembly
 
@@ -37,13 +37,16 @@ SHUFFLES = re.compile(r"^\t(?:(?:v?pshufb|tbl|vrgather\.vv)\t|i8x16\.swizzle)", 
 # The kit's clang compiles the module that the prover's compiler writes.
 KIT_CLANG = toolchain.KIT / "toolchain/bin/clang"
 # A script that is called instead of the kit's clang. It does what clang does, keeps the module, and compiles it a second time, to text.
-# GNU's assembler doesn't know the table of .addrsig. On ARM the code doesn't use x18, which belongs to the system on Android, macOS and
-# Windows.
+# Before all of this it changes the module, if that is for vectors of 32 bytes. GNU's assembler doesn't know the table of .addrsig. On ARM
+# the code doesn't use x18, which belongs to the system on Android, macOS and Windows.
 CLANG = """#!/bin/sh
 set -e
 case " $* " in *' -c -x ir '*) ;; *) exec {clang} "$@" {reserved} ;; esac
 for word; do
-    case "$word" in *.bc) cp "$word" {text}.bc ;; esac
+    case "$word" in *.bc)
+        {changes}
+        cp "$word" {text}.bc ;;
+    esac
 done
 {clang} "$@" {reserved}
 for word; do
@@ -52,6 +55,7 @@ for word; do
 done
 exec {clang} "$@" {reserved} -fno-addrsig -S -o {text}
 """
+ALIGNED = '"{python}" -B "{frames}" "{clang}" "$word"'
 
 
 def llvm(tool, *words, **options):
@@ -118,6 +122,8 @@ class Variant:
     has_shuffle: bool = True
     is_published: bool = True
     is_of_64: bool = False
+    # Whether frames are aligned for vectors of 32 bytes (frames.py).
+    is_aligned: bool = False
 
 
 # Assembly for these is made from the module that multiplies by products, if the library multiplies.
@@ -126,7 +132,7 @@ OF_32_BITS = (targets.CORTEX_M0, targets.CORTEX_M3, targets.RISCV32)
 TARGETS_WITHOUT_SHUFFLE = (targets.WINDOWS_V1, targets.ARM, *(form for target in OF_32_BITS for form in (target, target.small())),
                            targets.WASM32_NARROW)
 V2 = Variant("x86_64", "_v2", targets=(targets.RISCV64, targets.WINDOWS_V2, targets.WASM32))
-V3 = Variant("x86_64", "_v3", "x86-64-v3", widen, (targets.WINDOWS_V3,))
+V3 = Variant("x86_64", "_v3", "x86-64-v3", widen, (targets.WINDOWS_V3,), is_aligned=True)
 V1 = Variant("x86_64", "_v1", "x86-64", without_shuffle, TARGETS_WITHOUT_SHUFFLE, has_shuffle=False)
 # In words of 64 bits a key needs a larger struct, which only 64-bit RISC-V has.
 W64 = Variant("x86_64", "_w64", "x86-64", without_shuffle, (targets.RISCV64_NARROW,), has_shuffle=False, is_published=False, is_of_64=True)
@@ -178,7 +184,8 @@ class Build:
             if path.name not in ("bin", "clang"):
                 (here / path.relative_to(there)).symlink_to(path)
         reserved = "-ffixed-x18" if self.variant.folder == "aarch64" else ""
-        (here / "bin/clang").write_text(CLANG.format(clang=KIT_CLANG, text=self.text, reserved=reserved))
+        changes = ALIGNED.format(python=sys.executable, frames=frames.__file__, clang=KIT_CLANG) if self.variant.is_aligned else ":"
+        (here / "bin/clang").write_text(CLANG.format(clang=KIT_CLANG, text=self.text, reserved=reserved, changes=changes))
         (here / "bin/clang").chmod(0o755)
         return here
 
@@ -198,6 +205,8 @@ class Build:
             if assembly.library != PROGRAM and bool(SHUFFLES.search(text)) != variant.has_shuffle:
                 has = "has no" if variant.has_shuffle else "has a"
                 sys.exit(f"dist: {assembly.name}.s {has} byte shuffle, so that tables would be read at secret places")
+            if variant.is_aligned and (found := frames.keeps_unaligned(text)):
+                sys.exit(f"dist: {assembly.name}.s keeps vectors of 32 bytes in a frame that isn't aligned: {', '.join(found)}")
         return self
 
     def assemblies(self):

@@ -2,6 +2,7 @@
 
 That module has the layout of every 64-bit little-endian machine and no types of C, and calls nothing but memcpy, memmove and memset. The
 kit's clang compiles it for another target after these changes, and no others:
+ - For vectors of 32 bytes: frames are aligned (frames.py). That holds for x86-64 with Linux too.
  - All but Windows: the processor's name is left out.
  - RISC-V with vectors and WebAssembly with simd128: the byte shuffle of x86-64 is defined by vrgather or swizzle. The other targets have no
    shuffle, and are made from modules that have none.

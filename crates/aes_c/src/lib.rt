@@ -40,11 +40,15 @@ pub use single_rounds::{
     fotsgure_aes_mix_columns,
 };
 pub use status::{
-    DONE, INVALID_COUNT, KEY_LENGTH, KEYSTREAM_END, NO_KEY, NONCE_LENGTH, REFUSED, TAG_LENGTH,
-    TOO_LONG, UNEQUAL_COUNTS, VERSION,
+    DONE, INVALID_COUNT, KEY_LENGTH, KEYSTREAM_END, NO_KEY, NONCE_LENGTH, OUT_OF_TURN, REFUSED,
+    TAG_LENGTH, TOO_LONG, UNEQUAL_COUNTS, VERSION,
 };
 pub use stream::{Ctr, fotsgure_aes_add_keystream, fotsgure_aes_add_keystream_to};
-pub use tags::{fotsgure_aes_cmac, fotsgure_aes_cmac_verify};
+pub use tags::{
+    CmacMessage, fotsgure_aes_cmac, fotsgure_aes_cmac_accept, fotsgure_aes_cmac_begin,
+    fotsgure_aes_cmac_finish, fotsgure_aes_cmac_update, fotsgure_aes_cmac_verify,
+    fotsgure_aes_cmac_wipe,
+};
 pub use width::BuildWidth;
 pub use wrapping::{
     fotsgure_aes_unwrap, fotsgure_aes_unwrap_padded, fotsgure_aes_wrap, fotsgure_aes_wrap_padded,

@@ -30,6 +30,9 @@ pub const NONCE_LENGTH: u32 = 8;
 /// More text than a nonce of this length allows.
 pub const TOO_LONG: u32 = 9;
 
+/// The call came in the wrong order: a message in pieces is in another phase.
+pub const OUT_OF_TURN: u32 = 10;
+
 /// The version of the interface: 10000 times the first number, 100 times the second, plus the
 /// third.
 pub const VERSION: u32 = 400;

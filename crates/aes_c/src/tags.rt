@@ -1,15 +1,22 @@
 //! Tags of messages under the key of a struct: CMAC.
 
-ghost use Rattle.std.specs.Prelude.{◌≡◌, ◌≢◌, ◌↔◌, ◌≤◌, length, take};
+ghost use Rattle.std.specs.Prelude.{◌≡◌, ◌≢◌, ◌↔◌, ◌≤◌, length, take, IsTrue};
 ghost use Rattle.cmac.specs.Cmac as nist;
 ghost use Rattle.aes_c.specs.Form.{round_keys_in, HoldsKey, IsMade};
 ghost use Rattle.aes_c.specs.Lengths.{IsCmacLength};
+
+mod pieces;
 
 use crate::form::{Aes, cipher_of};
 use crate::status::{DONE, NO_KEY, REFUSED, TAG_LENGTH};
 use aes_cipher::cipher::Block;
 use aes_cipher::zeroize::wipe_stack;
+pub use cmac::Message as CmacMessage;
 use cmac::{is_tag_start, tag};
+pub use pieces::{
+    fotsgure_aes_cmac_accept, fotsgure_aes_cmac_begin, fotsgure_aes_cmac_finish,
+    fotsgure_aes_cmac_update, fotsgure_aes_cmac_wipe,
+};
 
 // The most bytes of stack that a call needs to make a tag. The call leaves subkeys there, values of
 // the chain, and the right tag of a message that is refused. 512 bytes suffice for most builds.
@@ -20,6 +27,13 @@ const TAG_STACK: usize = 768;
 const SHORTEST: usize = 4;
 
 const LONGEST: usize = 16;
+
+// Returns whether a tag may have this many bytes.
+fn is_tag_length(length: usize) -> bool
+    ensures { IsTrue result ↔ IsCmacLength length }
+{
+    length >= SHORTEST && length <= LONGEST
+}
 
 /// Writes the tag of a message (CMAC, SP 800-38B, 6.2). Returns `DONE` exactly if the struct holds
 /// a key, else `NO_KEY`.
@@ -57,7 +71,7 @@ pub extern "C" fn fotsgure_aes_cmac_verify(aes: &Aes, message: &[u8], claimed: &
     if !aes.key.holds_key() {
         return NO_KEY;
     }
-    if claimed.len() < SHORTEST || claimed.len() > LONGEST {
+    if !is_tag_length(claimed.len()) {
         return TAG_LENGTH;
     }
     let is_right = is_tag_start(&cipher_of(&aes.key), message, claimed);

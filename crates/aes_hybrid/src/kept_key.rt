@@ -88,8 +88,7 @@ impl KeptKey {
         ensures key { result ≡ key_in self.now }
         ensures size { length result ≡ self.now.length }
     {
-        let keys = keys_in_room(&self.round_keys, self.length as usize);
-        BorrowedCipher::new(keys, keys)
+        BorrowedCipher::encrypting(keys_in_room(&self.round_keys, self.length as usize))
     }
 }
 

@@ -2,9 +2,7 @@
 //! permutations, many on bit planes. Only the number of blocks decides, and it is no secret.
 #![tactic(auto)]
 
-mod backends;
 mod batches;
-mod blocks;
 pub mod borrowed_cipher;
 mod closures;
 pub mod examples;

@@ -88,15 +88,14 @@ impl<K: KeySize, W> EncryptionKeys<K, W> {
         requires { ⟦<EncryptionKeys<K, W> as StoredKeys>⟧.AreKeyed self.now }
         ensures { result ≡ ⟦<EncryptionKeys<K, W> as StoredKeys>⟧.key self.now }
     {
-        let keys = keys_in_room(self.room.value(), K::SIZE);
-        BorrowedCipher::new(keys, keys)
+        BorrowedCipher::encrypting(keys_in_room(self.room.value(), K::SIZE))
     }
 }
 
 impl<K: KeySize, W: Width> Processes<Encrypt> for EncryptionKeys<K, W> {
     #[inline(always)]
     fn process_one(&self, block: &mut Block) {
-        self.cipher().process_few(slice::from_mut(block));
+        self.cipher().process_on_vectors(slice::from_mut(block));
     }
 
     fn process_slice(&self, blocks: &mut [Block]) {
@@ -228,7 +227,8 @@ impl<K: KeySize, W> BothWaysKeys<K, W> {
 impl<K: KeySize, W: Width> Processes<Decrypt> for BothWaysKeys<K, W> {
     #[inline(always)]
     fn process_one(&self, block: &mut Block) {
-        self.inverse_cipher().process_few(slice::from_mut(block));
+        self.inverse_cipher()
+            .process_on_vectors(slice::from_mut(block));
     }
 
     fn process_slice(&self, blocks: &mut [Block]) {

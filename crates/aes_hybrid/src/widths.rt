@@ -25,8 +25,7 @@ pub trait Width {
     /// keys have to be made first.
     const LEAST_TO_ENCRYPT: usize;
 
-    /// The number of blocks from which decryption takes less time on planes. Its vector
-    /// permutations take longer.
+    /// The number of blocks from which decryption takes less time on planes.
     const LEAST_TO_DECRYPT: usize;
 
     /// The number of blocks from which a caller's closure gets a backend that has planes.
@@ -53,7 +52,7 @@ impl Width for Width128 {
 
     const LEAST_TO_ENCRYPT: usize = 15;
 
-    const LEAST_TO_DECRYPT: usize = 7;
+    const LEAST_TO_DECRYPT: usize = 15;
 
     const LEAST_FOR_CLOSURES: usize = 8;
 
@@ -76,7 +75,7 @@ impl Width for Width256 {
 
     const LEAST_TO_ENCRYPT: usize = 32;
 
-    const LEAST_TO_DECRYPT: usize = 29;
+    const LEAST_TO_DECRYPT: usize = 31;
 
     const LEAST_FOR_CLOSURES: usize = 29;
 

@@ -8,9 +8,10 @@ use Rattle.aes_permute.specs.Keys.{cipher_form, inverse_form}
 use Rattle.aes_permute.specs.Stored.{decryption_untower, key_untower, round_keys_of}
 use Rattle.aes_permute.proofs.StoredStates.{length-round_keys_of, first_key, inner_key, last_key, stored_are}
 
--- place k of the new keys is place last - k of the old, its columns mixed back
+-- place k of the new keys is place last - k of the old, its columns mixed back, each with its rows
+-- shifted to where they belong
 abbrev pub Unmixed : List (List ℕ) → List (List ℕ) → ℕ → Type 0
-Unmixed old new k = map decryption_untower (get_or new k [])
+Unmixed old new k = fips.inv_shift_times (k % 4) (map decryption_untower (get_or new k []))
     ≡ fips.inv_mix_columns (fips.shift_times ((length old - 1 - k) % 4)
     (map key_untower (get_or old (length old - 1 - k) [])))
 

@@ -1,5 +1,5 @@
 -- Rounds of Cipher that leave ShiftRows out: the bytes are taken from where they are.
-use Rattle.std.proofs.Common.{◌≡◌, ℕ, zero, suc, ◌+◌, ◌-◌, ◌%◌, ◌<◌, ◌≤◌, bit_xor, List, []}
+use Rattle.std.proofs.Common.{◌≡◌, ℕ, zero, suc, ◌+◌, ◌-◌, ◌%◌, ◌<◌, ◌≤◌, bit_xor, List}
 use Rattle.std.proofs.Common.{length, map, get_or, replicate, refl, ap, sym, subst, ◌∙◌, arith}
 use Rattle.std.proofs.lemmas.List.{length-map}
 use lib.Lanes.{zip2}
@@ -11,17 +11,15 @@ use Rattle.aes_planes.proofs.Lists.{build-get_or, same_on_block}
 use Rattle.aes_planes.proofs.Standard.LinearSteps.{shift_map}
 use Rattle.aes_planes.proofs.Standard.Steps.{length-shift_times, shift_times_bytes}
 use Rattle.aes_permute.specs.Lookup.{is_index, AreIndices}
+use Rattle.aes_permute.specs.MixedRows.{mixed_at, permuted, places_in}
 use Rattle.aes_permute.specs.Stored.{untower, key_untower}
-use Rattle.aes_permute.specs.declared.tables.TheConstants.{SHIFTED_ROWS, NEXT_ROW, ROW_BEFORE}
+use Rattle.aes_permute.specs.declared.tables.TheConstants.{SHIFTED_ROWS, NEXT_ROW}
+use Rattle.aes_permute.specs.declared.tables.TheConstants.{NEXT_ROW_BUT_ONE, ROW_BEFORE}
 use Rattle.aes_permute.proofs.ExpandedLanes.{inner_is}
-use Rattle.aes_permute.proofs.RoundLanes.{by_1, by_2, plain_sbox, permuted, paired, round_of}
+use Rattle.aes_permute.proofs.RoundLanes.{by_1, by_2, mixed_of, plain_sbox}
 use Rattle.aes_permute.proofs.RoundLanes.{last_sum_of, round_is, last_round_is}
 
 -- ---- tables of places
-
--- the places of one of four tables
-abbrev pub places_in : List (List ℕ) → ℕ → List ℕ
-places_in tables k = get_or tables k []
 
 -- if each of four tables has indices, so has the one for n modulo 4
 pub indices_at : (tables : List (List ℕ))
@@ -45,6 +43,11 @@ pub next_indices : (n : ℕ) → AreIndices (places_in NEXT_ROW (n % 4))
 unfolding is_index
 next_indices = indices_at NEXT_ROW refl refl refl refl
 
+-- each table of NEXT_ROW_BUT_ONE has indices
+pub next_but_one_indices : (n : ℕ) → AreIndices (places_in NEXT_ROW_BUT_ONE (n % 4))
+unfolding is_index
+next_but_one_indices = indices_at NEXT_ROW_BUT_ONE refl refl refl refl
+
 -- each table of ROW_BEFORE has indices
 pub before_indices : (n : ℕ) → AreIndices (places_in ROW_BEFORE (n % 4))
 unfolding is_index
@@ -53,7 +56,7 @@ before_indices = indices_at ROW_BEFORE refl refl refl refl
 -- ---- ShiftRows some times
 
 -- a change of each byte and ShiftRows can be exchanged
-times_map : (f : ℕ → ℕ) (k : ℕ) (s : List ℕ) → length s ≡ 16
+pub times_map : (f : ℕ → ℕ) (k : ℕ) (s : List ℕ) → length s ≡ 16
     → map f (shift_times k s) ≡ shift_times k (map f s)
 unfolding shift_times
 times_map f zero s l = refl
@@ -62,7 +65,7 @@ times_map f (suc k) s l =
     ∙ ap shift_rows (times_map f k s l)
 
 -- a block stays a block
-times_block : (k : ℕ) (s : List ℕ) → IsBlock s → IsBlock (shift_times k s)
+pub times_block : (k : ℕ) (s : List ℕ) → IsBlock s → IsBlock (shift_times k s)
 times_block k s (long, small) = (length-shift_times k s long, shift_times_bytes k s small)
 
 -- entry k of SHIFTED_ROWS has the places of k ShiftRows
@@ -113,22 +116,11 @@ stored_is n x p l e =
 abbrev pub before : ℕ → ℕ
 before k = (k + 3) % 4
 
--- the doubles, each with the byte of the next row
-abbrev pub pairs_at : ℕ → List ℕ → List ℕ → List ℕ
-pairs_at k o t = zip2 bit_xor t (permuted o (places_in NEXT_ROW k))
-
--- the sum that a round makes of what it looked up for 1, the pairs, and a round key
-abbrev pub round_at : ℕ → List ℕ → List ℕ → List ℕ → List ℕ
-round_at k o p key =
-    zip2 bit_xor (zip2 bit_xor (zip2 bit_xor (permuted o (places_in ROW_BEFORE k)) key) p)
-    (permuted p (places_in NEXT_ROW k))
-
 -- with the deferred ShiftRows made up for, the round is one that defers none
-abbrev MadeUp : ℕ → List ℕ → List ℕ → List ℕ → Type 0
-MadeUp k o t key = (shift_times k (round_at k o (pairs_at k o t) key)
-    ≡ round_of (shift_times (before k) o)
-    (paired (shift_times (before k) o) (shift_times (before k) t)) (shift_times k key))
-    × (length (round_at k o (pairs_at k o t) key) ≡ 16)
+abbrev pub MadeUp : ℕ → List ℕ → List ℕ → List ℕ → Type 0
+MadeUp k o t key = (shift_times k (mixed_at k o t key)
+    ≡ mixed_of (shift_times (before k) o) (shift_times (before k) t) (shift_times k key))
+    × (length (mixed_at k o t key) ≡ 16)
 
 -- `MadeUp` of blocks that are built of functions, by computing all lanes
 made_up_on_lanes : (k : ℕ) → k < 4 → (f g h : ℕ → ℕ) → MadeUp k (build 16 f) (build 16 g) (build 16 h)
@@ -137,7 +129,7 @@ made_up_on_lanes = by_four (λ k. (f g h : ℕ → ℕ) → MadeUp k (build 16 f
     (λ f g h. (refl, refl)) (λ f g h. (refl, refl)) (λ f g h. (refl, refl)) (λ f g h. (refl, refl))
 
 -- any blocks have `MadeUp`, since each is built of its bytes
-made_up : (k : ℕ) (o t key : List ℕ) → k < 4 → length o ≡ 16 → length t ≡ 16 → length key ≡ 16
+pub made_up : (k : ℕ) (o t key : List ℕ) → k < 4 → length o ≡ 16 → length t ≡ 16 → length key ≡ 16
     → MadeUp k o t key
 made_up k o t key small l m n =
     subst (λ o. MadeUp k o t key) (build-get_or 16 o 0 l)
@@ -147,34 +139,32 @@ made_up k o t key small l m n =
     (made_up_on_lanes k small (λ i. get_or o i 0) (λ i. get_or t i 0) (λ i. get_or key i 0))))
 
 -- how many ShiftRows are left out before round n is how many are after round n - 1
-deferred_before_round : (n : ℕ) → 1 ≤ n → before (n % 4) ≡ (n - 1) % 4
+pub deferred_before_round : (n : ℕ) → 1 ≤ n → before (n % 4) ≡ (n - 1) % 4
 deferred_before_round n some = omega arith
 
 -- a round is the standard's of what the bytes stand for in their places
-pub deferred_is : (n : ℕ) (x key : List ℕ) {o t p : List ℕ} → 1 ≤ n → IsBlock x → length key ≡ 16
-    → o ≡ map by_1 x → t ≡ map by_2 x → p ≡ pairs_at (n % 4) o t
-    → shift_times (n % 4) (map untower (round_at (n % 4) o p key))
+pub deferred_is : (n : ℕ) (x key : List ℕ) {o t : List ℕ} → 1 ≤ n → IsBlock x → length key ≡ 16
+    → o ≡ map by_1 x → t ≡ map by_2 x
+    → shift_times (n % 4) (map untower (mixed_at (n % 4) o t key))
     ≡ add_round_key (mix_columns (shift_rows (sub_bytes
     (shift_times ((n - 1) % 4) (map untower x)))))
     (shift_times (n % 4) (map key_untower key))
-deferred_is n x key some block long is_o is_t is_p =
+deferred_is n x key some block long is_o is_t =
     let k : ℕ = n % 4 in
     let small : k < 4 = omega arith in
     let l : length x ≡ 16 = block.0 in
     let a : List ℕ = map by_1 x in
     let b : List ℕ = map by_2 x in
-    let sum : List ℕ = round_at k a (pairs_at k a b) key in
+    let sum : List ℕ = mixed_at k a b key in
     let y : List ℕ = shift_times (before k) x in
     let made = made_up k a b key small (length-map x by_1 ∙ l) (length-map x by_2 ∙ l) long in
-    (λ i. shift_times k (map untower
-    (round_at k (is_o i) ((is_p ∙ (λ j. pairs_at k (is_o j) (is_t j))) i) key)))
+    (λ i. shift_times k (map untower (mixed_at k (is_o i) (is_t i) key)))
     ∙ sym (times_map untower k sum made.1)
     ∙ ap (map untower) (made.0
-    ∙ (λ i. round_of (sym (times_map by_1 (before k) x l) i)
-    (paired (sym (times_map by_1 (before k) x l) i) (sym (times_map by_2 (before k) x l) i))
+    ∙ (λ i. mixed_of (sym (times_map by_1 (before k) x l) i) (sym (times_map by_2 (before k) x l) i)
     (shift_times k key)))
     ∙ round_is y (shift_times k key) (times_block (before k) x block)
-    (length-shift_times k key long) refl refl refl
+    (length-shift_times k key long) refl refl
     ∙ (λ i. add_round_key (mix_columns (shift_rows (sub_bytes
     ((times_map untower (before k) x l ∙ ap (λ m. shift_times m (map untower x)) (deferred_before_round n some))
     i)))) (times_map key_untower k key long i))

@@ -1,4 +1,5 @@
 -- The files of lemmas.
+pub mod BackShifts
 pub mod ByHalves
 pub mod DecryptionKeys
 pub mod DecryptionLanes
@@ -8,8 +9,10 @@ pub mod ExpandedLanes
 pub mod Expansion
 pub mod FieldInverse
 pub mod KeyOfLanes
+pub mod LaterKeys
 pub mod Linear
 pub mod Lookups
+pub mod MixedBack
 pub mod OnLiterals
 pub mod RoundLanes
 pub mod StoredStates

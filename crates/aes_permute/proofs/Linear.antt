@@ -11,7 +11,7 @@ use Rattle.aes_planes.proofs.Bits.ByteCases.{all_below, all_pairs, all_pairs_tel
 use Rattle.aes_planes.proofs.Standard.FieldLaws.{add_swap, add_zero}
 use Rattle.aes_planes.proofs.Standard.States.{state_same}
 use Rattle.aes_permute.specs.Lookup.{looked, low_nibble, high_nibble, by_nibbles}
-use Rattle.aes_permute.specs.Stored.{untower, decryption_untower}
+use Rattle.aes_permute.specs.Stored.{untower, inv_untower, decryption_untower}
 use Rattle.aes_permute.specs.declared.tables.TheConstants.{UNTOWER_LOW, UNTOWER_HIGH}
 use Rattle.aes_permute.specs.declared.tables.TheConstants.{INV_UNTOWER_LOW, INV_UNTOWER_HIGH}
 
@@ -77,13 +77,18 @@ untower_sum = by_nibbles_sum UNTOWER_LOW UNTOWER_HIGH untower_linear.0 untower_l
 pub untower_three : SumsOfThree untower
 untower_three = linear_three untower untower_sum
 
+-- the change from the basis of decryption takes a sum of two bytes to the sum of what it makes of
+-- each
+pub inv_untower_sum : (a b : ℕ) → inv_untower (bit_xor a b) ≡ bit_xor (inv_untower a) (inv_untower b)
+inv_untower_sum =
+    by_nibbles_sum INV_UNTOWER_LOW INV_UNTOWER_HIGH decryption_untower_linear.0 decryption_untower_linear.1
+
 -- the constant of each summand: of three, one is left
 pub decryption_untower_three : SumsOfThree decryption_untower
 unfolding decryption_untower
 decryption_untower_three a b c =
-    let v : ℕ → ℕ = λ b. by_nibbles INV_UNTOWER_LOW INV_UNTOWER_HIGH b in
-    ap plus63 (linear_three v (by_nibbles_sum INV_UNTOWER_LOW INV_UNTOWER_HIGH decryption_untower_linear.0
-    decryption_untower_linear.1) a b c)
+    let v : ℕ → ℕ = inv_untower in
+    ap plus63 (linear_three v inv_untower_sum a b c)
     ∙ xor_assoc (bit_xor (v a) (v b)) (v c) 0x63
     ∙ ap (λ u. bit_xor u (plus63 (v c)))
     (sym (add_swap (v a) 0x63 (v b) 0x63 ∙ add_zero (bit_xor (v a) (v b))))

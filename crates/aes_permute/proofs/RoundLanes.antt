@@ -17,13 +17,14 @@ use Rattle.aes_planes.proofs.Standard.States.{state_same}
 use Rattle.aes_planes.proofs.Standard.Steps.{add_block}
 use Rattle.aes_cipher.proofs.BlockNumbers.{blocks_summed}
 use Rattle.aes_permute.specs.TwoIndices.{first_of, second_of, at_indices}
-use Rattle.aes_permute.specs.Lookup.{looked, by_nibbles}
+use Rattle.aes_permute.specs.Lookup.{by_nibbles}
+use Rattle.aes_permute.specs.MixedRows.{permuted}
 use Rattle.aes_permute.specs.Stored.{as_is, untower, key_untower}
 use Rattle.aes_permute.specs.declared.tables.TheConstants.{TOWER_LOW, TOWER_HIGH, SBOX_FIRST}
 use Rattle.aes_permute.specs.declared.tables.TheConstants.{SBOX_SECOND, ONE_FIRST, ONE_SECOND}
 use Rattle.aes_permute.specs.declared.tables.TheConstants.{TWO_FIRST, TWO_SECOND}
-use Rattle.aes_permute.proofs.Linear.{untower_three, Product, row, Makes, rows_added}
-use Rattle.aes_permute.proofs.Linear.{rows_multiplied, rows_mixed}
+use Rattle.aes_permute.proofs.Linear.{untower_three, Product, SumsOfThree, row, Makes}
+use Rattle.aes_permute.proofs.Linear.{rows_added, rows_multiplied, rows_mixed}
 use Rattle.aes_permute.proofs.Lookups.{map-ext_by_test}
 
 -- ---- what is looked up
@@ -46,21 +47,22 @@ by_1 b = through ONE_FIRST ONE_SECOND b
 abbrev pub by_2 : ℕ → ℕ
 by_2 b = through TWO_FIRST TWO_SECOND b
 
--- for the coefficient 3, the sum of what is looked up for 1 and 2
-abbrev pub by_3 : ℕ → ℕ
-by_3 b = bit_xor (by_1 b) (by_2 b)
-
 -- the S-box of what a byte stands for
 abbrev boxed : ℕ → ℕ
 boxed b = sbox (untower b)
 
--- row 0 of MixColumns: the products with it, each with what the constant makes of it
+-- row 0 of MixColumns: the products with it, each with a constant. For the coefficient 3, what is
+-- looked up is the sum of what is for 1 and for 2
+abbrev pub mix_products : (ℕ → ℕ) → (ℕ → ℕ) → ℕ → ℕ → ℕ → ℕ → Product
+mix_products one two at_2 at_3 at_1 = row
+    (record { coefficient = 2; look_up = two; constant = at_2 })
+    (record { coefficient = 3; look_up = λ b. bit_xor (one b) (two b); constant = at_3 })
+    (record { coefficient = 1; look_up = one; constant = at_1 })
+    (record { coefficient = 1; look_up = one; constant = at_1 })
+
+-- the products of a round, each with what the constant of the S-box makes of it
 abbrev products : ℕ → Product
-products = row
-    (record { coefficient = 2; look_up = by_2; constant = 0xc6 })
-    (record { coefficient = 3; look_up = by_3; constant = 0xa5 })
-    (record { coefficient = 1; look_up = by_1; constant = 0x63 })
-    (record { coefficient = 1; look_up = by_1; constant = 0x63 })
+products = mix_products by_1 by_2 0xc6 0xa5 0x63
 
 -- `products` are right, by all bytes
 products_made : Makes untower boxed products
@@ -78,39 +80,26 @@ abbrev pub same_row : List ℕ
 same_row = 0 ∷ 5 ∷ 10 ∷ 15 ∷ 4 ∷ 9 ∷ 14 ∷ 3 ∷ 8 ∷ 13 ∷ 2 ∷ 7 ∷ 12 ∷ 1 ∷ 6 ∷ 11 ∷ []
 
 -- the lanes one row further down
-abbrev pub next_row : List ℕ
+abbrev next_row : List ℕ
 next_row = 5 ∷ 10 ∷ 15 ∷ 0 ∷ 9 ∷ 14 ∷ 3 ∷ 4 ∷ 13 ∷ 2 ∷ 7 ∷ 8 ∷ 1 ∷ 6 ∷ 11 ∷ 12 ∷ []
 
 -- the lanes three rows further down
-abbrev pub three_rows_on : List ℕ
+abbrev three_rows_on : List ℕ
 three_rows_on = 15 ∷ 0 ∷ 5 ∷ 10 ∷ 3 ∷ 4 ∷ 9 ∷ 14 ∷ 7 ∷ 8 ∷ 13 ∷ 2 ∷ 11 ∷ 12 ∷ 1 ∷ 6 ∷ []
 
--- a block with its lanes from these places of it
-abbrev pub permuted : List ℕ → List ℕ → List ℕ
-permuted xs ks = map (looked xs) ks
-
--- the lanes of the next row, before the rows are shifted
-abbrev pub row_before : List ℕ
-row_before = 5 ∷ 6 ∷ 7 ∷ 4 ∷ 9 ∷ 10 ∷ 11 ∷ 8 ∷ 13 ∷ 14 ∷ 15 ∷ 12 ∷ 1 ∷ 2 ∷ 3 ∷ 0 ∷ []
+-- the lanes of the next row, from where the rows are shifted
+abbrev next_of_shifted : List ℕ
+next_of_shifted = 5 ∷ 6 ∷ 7 ∷ 4 ∷ 9 ∷ 10 ∷ 11 ∷ 8 ∷ 13 ∷ 14 ∷ 15 ∷ 12 ∷ 1 ∷ 2 ∷ 3 ∷ 0 ∷ []
 
 -- the doubles, each with the byte of the next row
-abbrev pub paired : List ℕ → List ℕ → List ℕ
-paired o t = zip2 bit_xor t (permuted o row_before)
+abbrev paired : List ℕ → List ℕ → List ℕ
+paired o t = zip2 bit_xor t (permuted o next_of_shifted)
 
--- the sum that a round makes of what it looked up for 1, the pairs, and a round key
-abbrev pub round_of : List ℕ → List ℕ → List ℕ → List ℕ
-round_of o p k =
-    zip2 bit_xor (zip2 bit_xor (zip2 bit_xor (permuted o three_rows_on) k) (permuted p same_row))
-    (permuted p next_row)
-
--- the round on lanes, from what it looks up
-abbrev on_lanes : List ℕ → List ℕ → List ℕ
-on_lanes x k = map untower (round_of (map by_1 x) (paired (map by_1 x) (map by_2 x)) k)
-
--- the round as the standard has it, of what the lanes stand for
-abbrev standard : List ℕ → List ℕ → List ℕ
-standard x k = add_round_key (mix_columns (shift_rows (sub_bytes (map untower x))))
-    (map key_untower k)
+-- the sum that a round makes of what it looked up for 1 and for 2, and a round key
+abbrev pub mixed_of : List ℕ → List ℕ → List ℕ → List ℕ
+mixed_of o t k =
+    zip2 bit_xor (zip2 bit_xor (zip2 bit_xor (permuted o three_rows_on) k) (permuted (paired o t) same_row))
+    (permuted (paired o t) next_row)
 
 -- the sum of a byte, in the order in which a round on lanes makes it, and in that of `added`
 abbrev pairs_summed : ℕ → ℕ → ℕ → ℕ → ℕ → ℕ → ℕ
@@ -128,45 +117,69 @@ pairs_parted a o t c d y =
     ∙ xor_comm (bit_xor o t) (bit_xor c d))
     ∙ sym (xor_assoc (bit_xor a y) (bit_xor c d) (bit_xor o t))
 
--- the round byte by byte, in the order of `pairs_summed`
-abbrev rows_by_pairs : List ℕ → List ℕ → List ℕ
-rows_by_pairs x k =
-    state (λ r c. untower
-    (pairs_summed (by_2 (shifted x c (r % 4))) (by_1 (shifted x c ((r + 1) % 4)))
-    (by_2 (shifted x c ((r + 1) % 4))) (by_1 (shifted x c ((r + 2) % 4)))
-    (by_1 (shifted x c ((r + 3) % 4))) (byte_at k r c)))
+-- what is looked up for 1 and for 2, what a byte of the sum stands for, what the bytes of which it
+-- is made stand for, and what a byte of the round key does
+module _ (one two v g w : ℕ → ℕ) (at_2 at_3 at_1 : ℕ) where
+  -- the round on lanes, from what it looks up
+  abbrev on_lanes : List ℕ → List ℕ → List ℕ
+  on_lanes x k = map v (mixed_of (map one x) (map two x) k)
 
--- the round on lanes is a sum of four products in each byte, by the places that the lanes come from
-round_lanes_are : (x k : List ℕ) → length x ≡ 16 → length k ≡ 16
-    → on_lanes x k ≡ rows_added untower products (shifted x) (byte_at k)
-unfolding state build
-round_lanes_are x k l m =
-    same_on_blocks on_lanes rows_by_pairs (λ f g. refl) x k l m
-    ∙ state_same _ _ (λ r c i j. ap untower
-    (pairs_parted (by_2 (shifted x c (r % 4))) (by_1 (shifted x c ((r + 1) % 4)))
-    (by_2 (shifted x c ((r + 1) % 4))) (by_1 (shifted x c ((r + 2) % 4)))
-    (by_1 (shifted x c ((r + 3) % 4))) (byte_at k r c)))
+  -- the round as the standard has it, of what the lanes stand for
+  abbrev standard : List ℕ → List ℕ → List ℕ
+  standard x k = add_round_key (mix_columns (shift_rows (map g x))) (map w k)
 
--- the sums of products of a round are those of MixColumns and AddRoundKey
-round_sums_are : (x k : List ℕ) → length x ≡ 16 → length k ≡ 16
-    → rows_multiplied boxed products (shifted x) (λ r c. key_untower (byte_at k r c)) ≡ standard x k
-unfolding state build add_round_key mix_columns row_by_column shift_rows sub_bytes
-round_sums_are = same_on_blocks
-    (λ x k. rows_multiplied boxed products (shifted x) (λ r c. key_untower (byte_at k r c)))
-    standard (λ f g. refl)
+  -- the round byte by byte, in the order of `pairs_summed`
+  abbrev rows_by_pairs : List ℕ → List ℕ → List ℕ
+  rows_by_pairs x k =
+      state (λ r c. v
+      (pairs_summed (two (shifted x c (r % 4))) (one (shifted x c ((r + 1) % 4)))
+      (two (shifted x c ((r + 1) % 4))) (one (shifted x c ((r + 2) % 4)))
+      (one (shifted x c ((r + 3) % 4))) (byte_at k r c)))
+
+  -- the round on lanes is a sum of four products in each byte, by the places that the lanes come
+  -- from
+  round_lanes_are : (x k : List ℕ) → length x ≡ 16 → length k ≡ 16
+      → on_lanes x k ≡ rows_added v (mix_products one two at_2 at_3 at_1) (shifted x) (byte_at k)
+  unfolding state build
+  round_lanes_are x k l m =
+      same_on_blocks on_lanes rows_by_pairs (λ f g. refl) x k l m
+      ∙ state_same _ _ (λ r c i j. ap v
+      (pairs_parted (two (shifted x c (r % 4))) (one (shifted x c ((r + 1) % 4)))
+      (two (shifted x c ((r + 1) % 4))) (one (shifted x c ((r + 2) % 4)))
+      (one (shifted x c ((r + 3) % 4))) (byte_at k r c)))
+
+  -- the sums of products of a round are those of MixColumns and AddRoundKey
+  round_sums_are : (x k : List ℕ) → length x ≡ 16 → length k ≡ 16
+      → rows_multiplied g (mix_products one two at_2 at_3 at_1) (shifted x)
+      (λ r c. w (byte_at k r c)) ≡ standard x k
+  unfolding state build add_round_key mix_columns row_by_column shift_rows
+  round_sums_are = same_on_blocks
+      (λ x k. rows_multiplied g (mix_products one two at_2 at_3 at_1) (shifted x)
+      (λ r c. w (byte_at k r c)))
+      standard (λ f g. refl)
+
+  -- the sums of a round are ShiftRows, MixColumns and AddRoundKey of what the bytes stand for, if
+  -- each look-up makes a product, and the constants go to the round key
+  pub sums_mixed : SumsOfThree v → Makes v g (mix_products one two at_2 at_3 at_1)
+      → ((y : ℕ) → bit_xor (v y) (bit_xor (bit_xor (bit_xor at_2 at_3) at_1) at_1) ≡ w y)
+      → (x k : List ℕ) → IsBlock x → length k ≡ 16 → on_lanes x k ≡ standard x k
+  sums_mixed of_three made constants_added x k is_block k_long =
+      round_lanes_are x k is_block.0 k_long
+      ∙ rows_mixed v g (mix_products one two at_2 at_3 at_1) of_three made (shifted x) (byte_at k)
+      (λ r c. w (byte_at k r c)) (λ c j. is_block.1 _) (λ r c. constants_added (byte_at k r c))
+      ∙ round_sums_are x k is_block.0 k_long
 
 -- a round on lanes is SubBytes, ShiftRows, MixColumns and AddRoundKey of what the lanes stand for
-pub round_is : (x k : List ℕ) {o t p : List ℕ} → IsBlock x → length k ≡ 16 → o ≡ map by_1 x
-    → t ≡ map by_2 x
-    → p ≡ paired o t → map untower (round_of o p k)
+pub round_is : (x k : List ℕ) {o t : List ℕ} → IsBlock x → length k ≡ 16 → o ≡ map by_1 x
+    → t ≡ map by_2 x → map untower (mixed_of o t k)
     ≡ add_round_key (mix_columns (shift_rows (sub_bytes (map untower x)))) (map key_untower k)
-unfolding key_untower
-round_is x k is_block k_long o_is t_is p_is =
-    (λ i. map untower (round_of (o_is i) ((p_is ∙ (λ j. paired (o_is j) (t_is j))) i) k))
-    ∙ round_lanes_are x k is_block.0 k_long
-    ∙ rows_mixed untower boxed products untower_three products_made (shifted x) (byte_at k)
-    (λ r c. key_untower (byte_at k r c)) (λ c j. is_block.1 _) (λ r c. refl)
-    ∙ round_sums_are x k is_block.0 k_long
+unfolding key_untower sub_bytes
+round_is x k is_block k_long o_is t_is =
+    (λ i. map untower (mixed_of (o_is i) (t_is i) k))
+    ∙ sums_mixed by_1 by_2 untower boxed key_untower 0xc6 0xa5 0x63 untower_three products_made
+    (λ y. refl) x k is_block k_long
+    ∙ ap (λ v. add_round_key (mix_columns (shift_rows v)) (map key_untower k))
+    (sym (map-map sbox untower x))
 
 -- ---- the first round key, and the last round
 

@@ -14,13 +14,13 @@ cipher_form = record {
   direction_keys = λ w. w;
 }
 
--- the form of the round keys of EqInvCipher
+-- the form of the round keys of EqInvCipher, whose rounds leave InvShiftRows out
 abbrev pub inverse_form : LaneForm
 inverse_form = record {
   first_byte = plus63;
   inner_byte = decryption_untower;
   last_byte = as_is;
-  placed = λ i s. s;
+  placed = λ i s. fips.inv_shift_times (i % 4) s;
   direction_keys = fips.inverted_keys;
 }
 

@@ -9,9 +9,13 @@ use Rattle.aes_permute.specs.declared.tables.TheConstants.{UNTOWER_LOW, UNTOWER_
 unfoldable pub untower : ℕ → ℕ
 untower b = by_nibbles UNTOWER_LOW UNTOWER_HIGH b
 
+-- a byte in the basis of EqInvCipher, where the constant of the S-box is not added
+abbrev pub inv_untower : ℕ → ℕ
+inv_untower b = by_nibbles INV_UNTOWER_LOW INV_UNTOWER_HIGH b
+
 -- a byte of a state of EqInvCipher, or of a round key of its inner rounds
 unfoldable pub decryption_untower : ℕ → ℕ
-decryption_untower b = plus63 (by_nibbles INV_UNTOWER_LOW INV_UNTOWER_HIGH b)
+decryption_untower b = plus63 (inv_untower b)
 
 -- a byte of a round key of Cipher's inner rounds: the constant of the S-box is added with it
 unfoldable pub key_untower : ℕ → ℕ

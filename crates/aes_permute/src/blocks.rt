@@ -43,10 +43,19 @@ fn process_two_vectors<D: LaneRounds, L: Lanes>(keys: &[Block], one: L, other: L
     let first_key = L::repeated(keys[0]);
     let mut x = D::add_first_key(one, first_key);
     let mut y = D::add_first_key(other, first_key);
+    let zero = L::repeated([0; 16]);
     for i in 1..last {
+        // The round key is read after both rounds. Before them, LLVM would keep it on the stack until
+        // the second round ends, where nothing wipes it. A sum with zero costs nothing.
+        let one_round = D::round(x, zero, i);
+        let other_round = D::round(y, zero, i);
         let key = L::repeated(keys[i]);
-        x = D::round(x, key, i);
-        y = D::round(y, key, i);
+        D::keys_may_come_later();
+        one_round.blocks_have_16_bytes();
+        other_round.blocks_have_16_bytes();
+        key.blocks_have_16_bytes();
+        x = one_round.sum(key);
+        y = other_round.sum(key);
     }
     let last_key = L::repeated(keys[last]);
     let first = D::last_round(x, last_key, last);
@@ -57,7 +66,7 @@ fn process_two_vectors<D: LaneRounds, L: Lanes>(keys: &[Block], one: L, other: L
 /// Processes a block under stored round keys. Inlined, so that a block that depends on the one
 /// before it, as in a chain, stays in a register.
 #[inline(always)]
-pub fn process_one<D: LaneRounds>(keys: &[Block], block: &mut Block)
+pub fn process_block<D: LaneRounds>(keys: &[Block], block: &mut Block)
     requires two { 2 ≤ length keys.now }
     ensures { block.new ≡ all_rounds D.step D.last_step (round_keys_of D.form keys.now) block.old }
 {

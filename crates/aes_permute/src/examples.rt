@@ -31,15 +31,15 @@ const ENCRYPTING: [u128; 11] = [
 // The stored round keys of EqInvCipher for the key of FIPS 197, C.1.
 const DECRYPTING: [u128; 11] = [
     0x70727e1c80f729749064c4e82e4853a6,
-    0xe29d25e1955bf318adce71fd2cad5445,
-    0xe2b58e005beafad514b9aec9ad4f0994,
-    0x8721d015957358f9637f783095da8b71,
+    0xe25b714595ce54e1adad25182c9df3fd,
+    0xe2b98ec95b4ffa9414b5ae00adea09d5,
+    0x87da78f995218b306373d071957f5815,
     0x12d18d873e7ea4c0da200ce5da89df6d,
-    0x97cb8b360083056bc87284092c85ffa4,
-    0x418971f7bb64a271e4ddad4ec8db5781,
-    0xa217d1efd6c1ffaa73952313002ad6e3,
+    0x978384a40072ff36c8858b6b2ccb0509,
+    0x41dd714ebbdba281e489adf7c8645771,
+    0xa22a23aad617d61373c1d1e30095ffef,
     0x55caf0fb58fa02698978f0955f93d9dc,
-    0x3261111f211cdebefdaeded0fac70565,
+    0x321cde6521ae051ffdc711befa61ded0,
     0x000102030405060708090a0b0c0d0e0f,
 ];
 

@@ -176,7 +176,7 @@ pub fn invert_lanes(inverse: &mut [Block], keys: &[Block])
     'keys: for i in 1..last {
         let key = keys[last - i];
         laws::block_has_16_bytes(key);
-        inverse[i] = inverted_key(u8x16::from_array(key), last - i).to_array();
+        inverse[i] = inverted_key(u8x16::from_array(key), i, last).to_array();
     }
     inverse[0] = keys[last];
     inverse[last] = keys[0];

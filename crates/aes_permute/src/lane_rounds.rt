@@ -1,6 +1,8 @@
 //! The two directions, round by round: Cipher, and EqInvCipher for InvCipher. `rounds` has both.
 
-ghost use Rattle.std.specs.Prelude.{◌≡◌, ◌≤◌, ◌-◌, ℕ, Bool, List, length, map};
+ghost use Rattle.std.specs.Prelude.{◌≡◌, ◌≤◌, ◌-◌, ℕ, Bool, List, length, map, replicate};
+ghost use Rattle.std.specs.Prelude.{bit_xor};
+ghost use Rattle.std.specs.Simd.Lanes.{zip2};
 ghost use Rattle.aes_planes.specs.Fips197 as fips;
 ghost use Rattle.aes_planes.specs.Rounds.{all_rounds};
 ghost use Rattle.aes_permute.specs.Stored.{LaneForm};
@@ -44,6 +46,14 @@ pub trait LaneRounds: Direction {
             ≡ fips.add_round_key
             (Self.last_step (form.placed (number - 1) (map state_byte (L.block x i))))
             (map form.last_byte (L.block key i)) };
+
+    /// No effect; states that a round key may be added after a round with the key zero.
+    fn keys_may_come_later()
+        ensures { (n : ℕ) (s x key : List ℕ) → length x ≡ 16 → length key ≡ 16
+            → form.placed n (map state_byte x)
+            ≡ fips.add_round_key s (form.placed n (map form.inner_byte (replicate 16 0)))
+            → form.placed n (map state_byte (zip2 bit_xor x key))
+            ≡ fips.add_round_key s (form.placed n (map form.inner_byte key)) };
 
     /// No effect; states that the rounds use as many round keys as there are.
     fn rounds_use_every_key()

@@ -76,16 +76,6 @@ pub fn vector_has_one_block_or_two<L: Lanes>()
     ensures { (L.BLOCKS ≡ 1) ⊎ (L.BLOCKS ≡ 2) }
 {}
 
-/// Returns the entry of a table at each lane of a vector of one block, and 0 at a lane from 128 on.
-#[tactic(auto, using(crate::proofs::Lookups::looked_lanes, crate::proofs::Lookups::indices_ok))]
-#[inline(always)]
-pub fn lookup(table: [u8; 16], indices: u8x16) -> u8x16
-    requires are_indices { AreIndices indices }
-    ensures { result ≡ map (looked table) indices }
-{
-    u8x16::from_array(table).swizzle_dyn(indices)
-}
-
 impl Lanes for u8x16 {
     ghost block = { λ x i. x };
 
@@ -110,7 +100,7 @@ impl Lanes for u8x16 {
 
     #[inline(always)]
     fn lookup(self, table: [u8; 16]) -> u8x16 {
-        lookup(table, self)
+        u8x16::from_array(table).swizzle_dyn(self)
     }
 
     #[inline(always)]
@@ -128,9 +118,10 @@ impl Lanes for u8x16 {
         self ^ other
     }
 
+    #[tactic(auto, using(crate::proofs::Lookups::looked_lanes, crate::proofs::Lookups::indices_ok))]
     #[inline(always)]
     fn permuted(self, places: [u8; 16]) -> u8x16 {
-        lookup(self.to_array(), u8x16::from_array(places))
+        self.swizzle_dyn(u8x16::from_array(places))
     }
 
     #[inline(always)]

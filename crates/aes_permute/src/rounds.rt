@@ -1,11 +1,12 @@
 //! The rounds of Cipher and EqInvCipher on lanes, and their round keys. States are kept in the
 //! tower basis, and round keys contain the constant of the S-box.
 
-ghost use Rattle.std.specs.Prelude.{◌≡◌, ◌%◌, ℕ, true, false, map, bit_xor};
-ghost use Rattle.std.specs.Simd.Lanes.{zip2};
+ghost use Rattle.std.specs.Prelude.{◌≡◌, ◌-◌, ◌%◌, ◌≤◌, ℕ, List, true, false, map};
 ghost use Rattle.aes_planes.specs.Fips197 as fips;
 ghost use Rattle.aes_permute.specs.Keys.{cipher_form, inverse_form};
-ghost use Rattle.aes_permute.specs.Stored.{untower, decryption_untower, key_untower};
+ghost use Rattle.aes_permute.specs.MixedRows.{mixed_at};
+ghost use Rattle.aes_permute.specs.Stored.{untower, inv_untower, decryption_untower};
+ghost use Rattle.aes_permute.specs.Stored.{key_untower};
 
 use crate::lane_rounds::LaneRounds;
 use crate::lanes::{Lanes, looked_up_by_nibbles};
@@ -39,15 +40,7 @@ impl LaneRounds for Encrypt {
         let at = indices_of(x);
         let one = looked_up(at, ONE_FIRST, ONE_SECOND);
         let two = looked_up(at, TWO_FIRST, TWO_SECOND);
-        // The double of each byte plus the byte of the next row. One row further on, these sums
-        // have the other part of the product with 3.
-        let next = one.permuted(NEXT_ROW[number % 4]);
-        let pairs = two.sum(next);
-        let second = pairs.permuted(NEXT_ROW[number % 4]);
-        let fourth = one.permuted(ROW_BEFORE[number % 4]);
-        let with_key = fourth.sum(key);
-        let most = with_key.sum(pairs);
-        most.sum(second)
+        mixed_columns(one, two, key, number)
     }
 
     #[inline(always)]
@@ -57,6 +50,9 @@ impl LaneRounds for Encrypt {
         let one = looked_up(indices_of(x), SBOX_FIRST, SBOX_SECOND);
         one.permuted(SHIFTED_ROWS[number % 4]).sum(key)
     }
+
+    #[tactic(auto, using(crate::proofs::LaterKeys::cipher_keys_later))]
+    fn keys_may_come_later() {}
 
     #[tactic(auto, using(crate::proofs::DirectionLaws::same_forward))]
     fn rounds_use_every_key() {}
@@ -82,36 +78,30 @@ impl LaneRounds for Decrypt {
         looked_up_by_nibbles(blocks.sum(key), INV_TOWER_LOW, INV_TOWER_HIGH)
     }
 
-    #[tactic(auto, unfolding(crate::specs::Lookup::is_index))]
+    // InvShiftRows is left out, and each byte is read where it is. k InvShiftRows that are left out
+    // are as 4 - k ShiftRows.
     #[inline(always)]
     fn round<L: Lanes>(x: L, key: L, number: usize) -> L {
         x.blocks_have_16_bytes();
         key.blocks_have_16_bytes();
         let at = indices_of(x);
-        let by_1 = looked_up(at, INV_1_FIRST, INV_1_SECOND);
+        let by_5 = looked_up(at, INV_5_FIRST, INV_5_SECOND);
         let by_4 = looked_up(at, INV_4_FIRST, INV_4_SECOND);
-        let by_9 = looked_up(at, INV_9_FIRST, INV_9_SECOND);
-        let by_15 = looked_up(at, INV_15_FIRST, INV_15_SECOND);
-        let (by_14, by_11, by_13) = coefficients(by_1, by_4, by_9, by_15);
-        let first = by_14.permuted([0, 13, 10, 7, 4, 1, 14, 11, 8, 5, 2, 15, 12, 9, 6, 3]);
-        let second = by_11.permuted([13, 10, 7, 0, 1, 14, 11, 4, 5, 2, 15, 8, 9, 6, 3, 12]);
-        let third = by_13.permuted([10, 7, 0, 13, 14, 11, 4, 1, 2, 15, 8, 5, 6, 3, 12, 9]);
-        let fourth = by_9.permuted([7, 0, 13, 10, 11, 4, 1, 14, 15, 8, 5, 2, 3, 12, 9, 6]);
-        let with_key = first.sum(key);
-        let last_two = third.sum(fourth);
-        let most = with_key.sum(last_two);
-        most.sum(second)
+        let mixed = mixed_back(by_5, by_4, key, 4 - number % 4);
+        mixed.blocks_have_16_bytes();
+        mixed
     }
 
-    #[tactic(auto, unfolding(crate::specs::Lookup::is_index))]
     #[inline(always)]
     fn last_round<L: Lanes>(x: L, key: L, number: usize) -> L {
         x.blocks_have_16_bytes();
         key.blocks_have_16_bytes();
         let one = looked_up(indices_of(x), INV_SBOX_FIRST, INV_SBOX_SECOND);
-        one.permuted([0, 13, 10, 7, 4, 1, 14, 11, 8, 5, 2, 15, 12, 9, 6, 3])
-            .sum(key)
+        one.permuted(SHIFTED_ROWS[(4 - number % 4) % 4]).sum(key)
     }
+
+    #[tactic(auto, using(crate::proofs::LaterKeys::inverse_keys_later))]
+    fn keys_may_come_later() {}
 
     #[tactic(auto, using(aes_planes::proofs::Standard::InvertedKeys::inverted_length))]
     fn rounds_use_every_key() {}
@@ -120,17 +110,45 @@ impl LaneRounds for Decrypt {
     fn rounds_follow_the_standard() {}
 }
 
-// The products with the coefficients 14, 11 and 13 of InvMixColumns (FIPS 197, 5.3.3), as sums of
-// the products with 1, 4, 9 and 15.
+// MixColumns and AddRoundKey, from each byte and its double (FIPS 197, 5.1.3, 5.1.4). `left_out` says
+// how many ShiftRows are left out: the columns are those after them, and the bytes are where they
+// were before.
 #[inline(always)]
-fn coefficients<L: Lanes>(by_1: L, by_4: L, by_9: L, by_15: L) -> (L, L, L)
-    ensures by_14 { (i : ℕ) → L.block result.0 i ≡ zip2 bit_xor (L.block by_1 i) (L.block by_15 i) }
-    ensures by_11 { (i : ℕ) → L.block result.1 i ≡ zip2 bit_xor (L.block by_15 i) (L.block by_4 i) }
-    ensures by_13 { (i : ℕ) → L.block result.2 i ≡ zip2 bit_xor (L.block by_4 i) (L.block by_9 i) }
+fn mixed_columns<L: Lanes>(one: L, two: L, key: L, left_out: usize) -> L
+    ensures { (i : ℕ) → L.block result i
+        ≡ mixed_at (left_out % 4) (L.block one i) (L.block two i) (L.block key i) }
 {
-    // The products with 4, 9 and 15 are used twice. If nothing else uses a sum of two look-ups,
-    // LLVM permutes each look-up, and not the sum.
-    (by_1.sum(by_15), by_15.sum(by_4), by_4.sum(by_9))
+    // The double of each byte plus the byte of the next row. One row further on, these sums have the
+    // other part of the product with 3.
+    let next = one.permuted(NEXT_ROW[left_out % 4]);
+    let pairs = two.sum(next);
+    let second = pairs.permuted(NEXT_ROW[left_out % 4]);
+    let fourth = one.permuted(ROW_BEFORE[left_out % 4]);
+    let with_key = fourth.sum(key);
+    let most = with_key.sum(pairs);
+    most.sum(second)
+}
+
+// InvMixColumns and AddRoundKey, from the products of each byte with 5 and with 4 (FIPS 197, 5.3.3,
+// 5.1.4). InvMixColumns is MixColumns after a matrix whose first row is 5, 0, 4, 0. `left_out` is
+// that of `mixed_columns`.
+#[inline(always)]
+fn mixed_back<L: Lanes>(by_5: L, by_4: L, key: L, left_out: usize) -> L
+    ensures { (i : ℕ) (x : List ℕ) → fips.IsBlock x
+        → map inv_untower (L.block by_5 i) ≡ map (fips.field_mul 5) x
+        → map inv_untower (L.block by_4 i) ≡ map (fips.field_mul 4) x
+        → fips.shift_times (left_out % 4) (map decryption_untower (L.block result i))
+        ≡ fips.add_round_key (fips.inv_mix_columns (fips.shift_times (left_out % 4) x))
+        (fips.shift_times (left_out % 4) (map decryption_untower (L.block key i))) }
+{
+    by_5.blocks_have_16_bytes();
+    by_4.blocks_have_16_bytes();
+    key.blocks_have_16_bytes();
+    let third = by_4.permuted(NEXT_ROW_BUT_ONE[left_out % 4]);
+    let one = by_5.sum(third);
+    one.blocks_have_16_bytes();
+    let two = looked_up_by_nibbles(one, INV_DOUBLE_LOW, INV_DOUBLE_HIGH);
+    mixed_columns(one, two, key, left_out)
 }
 
 /// Returns a block in the tower basis.
@@ -161,25 +179,18 @@ pub fn encrypting_key(key: u8x16, number: usize) -> u8x16
     key.permuted(SHIFTED_ROWS[(4 - number % 4) % 4]) ^ u8x16::splat(0x6e)
 }
 
-/// Returns what is stored for a round key of EqInvCipher, between the first and the last:
-/// InvMixColumns of Cipher's round key (FIPS 197, 5.3.5).
-#[tactic(auto, unfolding(crate::specs::Lookup::is_index))]
+/// Returns InvMixColumns of a round key of Cipher, in the basis of EqInvCipher (FIPS 197, 5.3.5).
+/// `number` is its number in Cipher, and its rows stay shifted back so often.
 #[inline(always)]
-pub fn decrypting_key(key: u8x16) -> u8x16
+pub fn decrypting_key(key: u8x16, number: usize) -> u8x16
     requires { fips.IsBlock key }
-    ensures { map decryption_untower result ≡ fips.inv_mix_columns key }
+    ensures { fips.shift_times (number % 4) (map decryption_untower result)
+        ≡ fips.inv_mix_columns (fips.shift_times (number % 4) key) }
 {
-    let by_1 = looked_up_by_nibbles(key, KEY_1_LOW, KEY_1_HIGH);
+    let by_5 = looked_up_by_nibbles(key, KEY_5_LOW, KEY_5_HIGH);
     let by_4 = looked_up_by_nibbles(key, KEY_4_LOW, KEY_4_HIGH);
-    let by_9 = looked_up_by_nibbles(key, KEY_9_LOW, KEY_9_HIGH);
-    let by_15 = looked_up_by_nibbles(key, KEY_15_LOW, KEY_15_HIGH);
-    let (by_14, by_11, by_13) = coefficients(by_1, by_4, by_9, by_15);
-    let second = by_11.permuted([1, 2, 3, 0, 5, 6, 7, 4, 9, 10, 11, 8, 13, 14, 15, 12]);
-    let third = by_13.permuted([2, 3, 0, 1, 6, 7, 4, 5, 10, 11, 8, 9, 14, 15, 12, 13]);
-    let fourth = by_9.permuted([3, 0, 1, 2, 7, 4, 5, 6, 11, 8, 9, 10, 15, 12, 13, 14]);
-    let last_two = third.sum(fourth);
-    let most = by_14.sum(last_two);
-    most.sum(second)
+    // 0x2c is 0x63 in the basis of EqInvCipher.
+    mixed_back(by_5, by_4, u8x16::splat(0x2c), number)
 }
 
 /// Returns the round key that a stored one of Cipher stands for, between the first and the last.
@@ -191,15 +202,19 @@ pub fn plain_key(stored: u8x16) -> u8x16
     out_of_tower(stored) ^ u8x16::splat(0x63)
 }
 
-/// Turns a stored round key of Cipher into one of EqInvCipher. `number` is its number, between the
-/// first and the last.
+/// Turns a stored round key of Cipher into the one of EqInvCipher at a place between the first and
+/// the last. In Cipher its number is `last - place`, and its rows are shifted back so often. For
+/// EqInvCipher they are shifted forth `place` times, so `last` shifts lead from one to the other.
 #[inline(always)]
-pub fn inverted_key(stored: u8x16, number: usize) -> u8x16
-    requires { fips.IsBlock stored }
-    ensures { map decryption_untower result ≡ fips.inv_mix_columns
-        (fips.shift_times (number % 4) (map key_untower stored)) }
+pub fn inverted_key(stored: u8x16, place: usize, last: usize) -> u8x16
+    requires block { fips.IsBlock stored }
+    requires at_most { place ≤ last }
+    ensures { fips.inv_shift_times (place % 4) (map decryption_untower result)
+        ≡ fips.inv_mix_columns (fips.shift_times ((last - place) % 4) (map key_untower stored)) }
 {
-    let key = plain_key(stored).permuted(SHIFTED_ROWS[number % 4]);
+    let key = plain_key(stored);
     key.blocks_have_16_bytes();
-    decrypting_key(key)
+    let mixed = decrypting_key(key, last - place);
+    mixed.blocks_have_16_bytes();
+    mixed.permuted(SHIFTED_ROWS[last % 4])
 }

@@ -13,7 +13,7 @@ use Rattle.aes_cipher.proofs.Strings.{last_padded}
 use Rattle.cmac.specs.Chain.{block_at, chained, chained_through}
 
 -- the chain through blocks of the first of two strings doesn't depend on the second
-chained_first : (w : List (List ℕ)) (y a b : List ℕ) (i : ℕ) → 16 * i ≤ length a
+pub chained_first : (w : List (List ℕ)) (y a b : List ℕ) (i : ℕ) → 16 * i ≤ length a
     → chained w y (a ++ b) i ≡ chained w y a i
 unfolding chained
 chained_first w y a b zero inside = refl

@@ -1,6 +1,7 @@
 //! Tags of messages.
 
 ghost use Rattle.std.specs.Prelude.{◌≡◌, ◌↔◌, ◌≤◌, length, take, IsTrue};
+ghost use Rattle.aes_planes.specs.Fips197 as fips;
 ghost use Rattle.cmac.specs.Cmac.{last_block, cmac};
 
 use crate::chaining::{begins_with, chain};
@@ -24,6 +25,20 @@ fn last_block<C: BlockCipherEncrypt>(cipher: &C, rest: &[u8]) -> Block
     }
 }
 
+/// Returns the tag of a message, by its last block, of which these are the bytes, and the value of the
+/// chain before it (6.2, steps 4 to 7).
+#[inline(never)]
+pub(crate) fn tag_at_end<C: BlockCipherEncrypt>(cipher: &C, value: &Block, rest: &[u8]) -> Block
+    requires { length rest.now ≤ 16 }
+    ensures { result ≡ fips.cipher_with (C.round_keys cipher.now)
+        (fips.add_round_key value.now (last_block (C.round_keys cipher.now) rest.now)) }
+{
+    let last = last_block(cipher, rest);
+    let mut tag = sum_of_blocks(value, &last);
+    cipher.encrypt_block(&mut tag);
+    tag
+}
+
 /// Returns the tag of a message (SP 800-38B, 6.2), all 16 bytes of it. Use a key for tags alone.
 #[inline(never)]
 pub fn tag<C: BlockCipherEncrypt>(cipher: &C, message: &[u8]) -> Block
@@ -32,10 +47,7 @@ pub fn tag<C: BlockCipherEncrypt>(cipher: &C, message: &[u8]) -> Block
     let before = message.len().saturating_sub(1) / 16;
     let mut value = [0; 16];
     chain(cipher, &mut value, &message[..16 * before]);
-    let last = last_block(cipher, &message[16 * before..]);
-    value = sum_of_blocks(&value, &last);
-    cipher.encrypt_block(&mut value);
-    value
+    tag_at_end(cipher, &value, &message[16 * before..])
 }
 
 /// Returns whether this is the tag of a message (6.3). Compares without an early exit.

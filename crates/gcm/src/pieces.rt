@@ -7,14 +7,14 @@ ghost use Rattle.gcm.specs.Gcm as nist;
 ghost use Rattle.gcm.specs.Gcm.{nonce_number, IsHashedLength, IsTextLength, IsTooMuchHashed};
 ghost use Rattle.gcm.specs.Gcm.{IsTooMuchText};
 ghost use Rattle.gcm.specs.Pieces.{hashed_padded, IsBegun, IsInText, IsAt, IsPhaseRefused, IsPhaseAllowed};
-ghost use Rattle.gcm.specs.Pieces.{phase_of};
+ghost use Rattle.gcm.specs.Pieces.{no_message, phase_of};
 ghost use Rattle.gcm.specs.declared.message_state.Phase.{Phase};
 
 mod decrypting;
 mod encrypting;
 
 use crate::counter::Counter;
-use crate::errors::{InvalidMessage, InvalidPiece};
+use crate::errors::{InvalidMessage, InvalidPiece, OutOfTurn};
 use crate::hash_room::{HashRoom, hash_on, hash_piece};
 use crate::lengths::{LONGEST_HASHED, LONGEST_TEXT};
 use crate::message_state::{Message, Phase, number_of_phase, phase_of};
@@ -22,7 +22,7 @@ use crate::mode::{BorrowedGcm, HASH_STACK};
 use crate::tags::{add_masked, hash_lengths, put_mask};
 use aes_cipher::blocks::{block_of_number, number_of_block};
 use aes_cipher::cipher::{Block, BlockCipherEncrypt};
-use aes_cipher::zeroize::wipe_stack;
+use aes_cipher::zeroize::{Zeroize, wipe_stack};
 
 // Returns whether text of a phase may come: the message is in that phase, or additional data may
 // still come.
@@ -233,5 +233,24 @@ impl<'a, C: BlockCipherEncrypt, R: HashRoom> BorrowedGcm<'a, C, R> {
         let text = message.text.min(LONGEST_TEXT);
         let value = hash_lengths(&self.room, value, additional, text);
         add_masked(value, tag);
+    }
+
+    // Ends a message whose text is of a phase, and writes its tag. Nothing is left of the message.
+    fn end(&self, message: &mut Message, phase: Phase, tag: &mut Block) -> Result<(), OutOfTurn>
+        requires { phase ≢ Phase.Additional }
+        ensures out_of_turn { IsErr result ↔ IsPhaseRefused phase message.old }
+        ensures tag { OnOk result ((iv a c : List ℕ) → IsAt phase self.now iv a c message.old
+            → tag.new ≡ nist.tag self.now iv a c) }
+        ensures over { OnOk result (message.new ≡ no_message) }
+        ensures untouched { OnErr result (message.new ≡ message.old) }
+        ensures untouched_tag { OnErr result (tag.new ≡ tag.old) }
+    {
+        if !may_enter(message, phase) {
+            return Err(OutOfTurn);
+        }
+        self.put_tag_so_far(message, tag);
+        wipe_stack::<HASH_STACK>();
+        message.zeroize();
+        Ok(())
     }
 }

@@ -2,19 +2,23 @@
 //! prover refuses a mistake in a constant or a definition. The last three calls say what a text is
 //! encrypted to under the bytes of a key. The others have no effect.
 
-ghost use Rattle.std.specs.Prelude.{◌≡◌, ◌↔◌, ◌⊎◌, ℕ, ◌*◌, ◌^◌, ◌<◌, ◌≤◌, length};
+ghost use Rattle.std.specs.Prelude.{◌≡◌, ◌↔◌, ◌⊎◌, ℕ, ◌*◌, ◌^◌, ◌<◌, ◌≤◌, [], length};
 ghost use Rattle.aes_planes.specs.Fips197 as fips;
 ghost use Rattle.aes_cipher.specs.KeySizes.{IsKeySize};
 ghost use Rattle.gcm.specs.Gcm as nist;
 ghost use Rattle.gcm.specs.Gcm.{IsHashedLength, IsTextLength, IsTooLong};
 ghost use Rattle.gcm_siv.specs.GcmSiv as rfc;
-ghost use Rattle.gcm_c.specs.Form.{no_key, no_room};
-ghost use Rattle.gcm_c.specs.Kept.{no_gcm, IsNonceLength};
+ghost use Rattle.gcm.specs.Pieces.{no_message};
+ghost use Rattle.gcm_c.specs.Form.{no_key, no_room, HoldsKey};
+ghost use Rattle.gcm_c.specs.Kept.{no_gcm, round_keys_in, IsMade, IsNonceLength};
 ghost use Rattle.gcm_c.specs.Siv.{IsSivLength, IsSivTooLong};
 
 use crate::VERSION;
 use crate::form::{Aes, GhashRoom, KeptKey};
 use crate::kept::{Gcm, fotsgure_gcm_set_key, fotsgure_gcm_set_key_of};
+use crate::pieces::{
+    fotsgure_gcm_begin, fotsgure_gcm_decrypt_unverified, fotsgure_gcm_finish_unverified,
+};
 use crate::siv::fotsgure_gcm_siv_seal;
 use crate::siv_kept::{Siv, fotsgure_gcm_siv_set_key};
 use crate::status::{
@@ -144,4 +148,29 @@ pub fn siv_set_key_and_seal(
         return kept;
     }
     fotsgure_gcm_siv_seal(siv, nonce, additional, text, tag)
+}
+
+/// Decrypts a text in one piece, and writes its right tag for a caller that compares it. Returns
+/// `DONE`, or the status of the first call that is refused.
+pub fn decrypt_and_write_the_right_tag(
+    gcm: &Gcm,
+    message: &mut Message,
+    nonce: &[u8; 12],
+    text: &mut [u8],
+    tag: &mut [u8; 16],
+) -> u32
+    requires made { IsMade gcm.now }
+    requires key { HoldsKey gcm.now.key }
+    ensures decrypted { result ≡ DONE
+        → text.new ≡ nist.text (round_keys_in gcm.now) nonce.now text.old }
+    ensures tag { result ≡ DONE
+        → tag.new ≡ nist.tag (round_keys_in gcm.now) nonce.now [] text.old }
+    ensures over { result ≡ DONE → message.new ≡ no_message }
+{
+    fotsgure_gcm_begin(gcm, message, nonce);
+    let decrypted = fotsgure_gcm_decrypt_unverified(gcm, message, text);
+    if decrypted != DONE {
+        return decrypted;
+    }
+    fotsgure_gcm_finish_unverified(gcm, message, tag)
 }

@@ -29,7 +29,8 @@ pub use kept::{
 pub use pieces::{
     fotsgure_gcm_accept, fotsgure_gcm_accept_short, fotsgure_gcm_additional, fotsgure_gcm_begin,
     fotsgure_gcm_decrypt, fotsgure_gcm_decrypt_unverified, fotsgure_gcm_encrypt,
-    fotsgure_gcm_finish, fotsgure_gcm_verify, fotsgure_gcm_wipe_message,
+    fotsgure_gcm_finish, fotsgure_gcm_finish_unverified, fotsgure_gcm_verify,
+    fotsgure_gcm_wipe_message,
 };
 pub use siv::{fotsgure_gcm_siv_open, fotsgure_gcm_siv_seal};
 pub use siv_kept::{Siv, fotsgure_gcm_siv_set_key, fotsgure_gcm_siv_wipe};

@@ -17,7 +17,7 @@ use crate::status::{DONE, NO_KEY, NONCE_LENGTH, OUT_OF_TURN, TOO_LONG};
 use aes_cipher::zeroize::Zeroize;
 pub use decrypting::{
     fotsgure_gcm_accept, fotsgure_gcm_accept_short, fotsgure_gcm_decrypt,
-    fotsgure_gcm_decrypt_unverified, fotsgure_gcm_verify,
+    fotsgure_gcm_decrypt_unverified, fotsgure_gcm_finish_unverified, fotsgure_gcm_verify,
 };
 pub use encrypting::{fotsgure_gcm_encrypt, fotsgure_gcm_finish};
 use gcm::{InvalidPiece, LONGEST_HASHED, Message};

@@ -1,27 +1,17 @@
-//! AES-GCM-SIV in place, and the keys of a message in room that is wiped.
+//! AES-GCM-SIV in place, and room for the key of a message.
 
-ghost use Rattle.std.specs.Prelude.{◌≡◌, ◌≢◌, ◌↔◌, ◌^◌, ◌<◌, ◌++◌, [], length, slice_index_or};
-ghost use Rattle.std.specs.Prelude.{IsTrue, false};
-ghost use Rattle.std.specs.Int.{w128, from_le_bytes};
-ghost use Rattle.gcm.specs.Gcm.{next_v};
+ghost use Rattle.std.specs.Prelude.{◌≡◌, ◌≢◌, ◌↔◌, length};
 ghost use Rattle.gcm_siv.specs.GcmSiv as rfc;
-ghost use Rattle.gcm_siv.specs.GcmSiv.{authentication_key, encryption_key, IsAuthentic};
-ghost use Rattle.gcm_siv.specs.GcmSiv.{IsSivKeySize};
-ghost use Rattle.gcm_c.specs.Form.{key_in, IsKept};
+ghost use Rattle.gcm_siv.specs.GcmSiv.{IsAuthentic, IsSivKeySize};
+ghost use Rattle.gcm_c.specs.Form.{key_in, no_key, IsKept};
 ghost use Rattle.gcm_c.specs.Siv.{HoldsSivKey, IsSivMade, IsSivLength, IsSivTooLong};
 
-use crate::form::{KeptKey, LongRoom, ShortRoom, cipher_of};
+use crate::form::{BuildCipher, KeptKey, LongRoom, ShortRoom, cipher_of};
 use crate::siv_kept::{Siv, is_siv_key_size};
 use crate::status::{DONE, NO_KEY, REFUSED, TOO_LONG};
-use aes_cipher::cipher::Block;
-use aes_cipher::zeroize::{MustWipe, wipe_stack};
-use gcm_siv::{
-    DerivedKeysRoom, LONGEST, PolyvalRoom, derive, is_short, open, put_authentication, seal,
-};
-
-// The most bytes of stack below the room for a message's keys. Derived keys, values of POLYVAL, the
-// right tag of a refused message and blocks of the keystream may be there.
-const MESSAGE_STACK: usize = 2816;
+use aes_cipher::cipher::{Block, BlockCipherEncrypt};
+use aes_cipher::zeroize::Zeroize;
+use gcm_siv::{LONGEST, MessageKey, add_keystream, open_message, seal_message};
 
 /// Returns the status that refuses these lengths or this struct, or `DONE`.
 pub(crate) fn siv_refusal(siv: &Siv, additional: usize, text: usize) -> u32
@@ -39,154 +29,52 @@ pub(crate) fn siv_refusal(siv: &Siv, additional: usize, text: usize) -> u32
     DONE
 }
 
-// Expands the encryption key: the block after the first one, or the two blocks after it.
-fn set_encryption_key(keys: &DerivedKeysRoom, size: usize, message_key: &mut KeptKey)
-    requires { IsSivKeySize size }
-    ensures kept { IsKept message_key.new }
-    ensures size { message_key.new.length ≡ size }
-    ensures short { size ≡ 16 → key_in message_key.new ≡ slice_index_or keys.now 1 [] }
-    ensures long { size ≡ 32
-        → key_in message_key.new ≡ slice_index_or keys.now 1 [] ++ slice_index_or keys.now 2 [] }
-{
-    if size == 16 {
-        message_key.set(&keys[1]);
-    } else {
-        message_key.set(keys[1..3].as_flattened());
+// Room for the key of a message, in the form of this build.
+#[derive(Drop)]
+struct MessageRoom {
+    kept: KeptKey,
+}
+
+impl Zeroize for MessageRoom {
+    ghost ZERO = { record { kept = no_key } };
+
+    #[inline(always)]
+    fn zero() -> MessageRoom {
+        MessageRoom {
+            kept: KeptKey::zero(),
+        }
+    }
+
+    #[inline(always)]
+    fn zeroize(&mut self) {
+        self.kept.zeroize();
     }
 }
 
-// Writes the round keys of a message, and the multiples of its authentication key times x^-1. This
-// is a call of its own, so that its stack can be wiped.
-#[inline(never)]
-fn derive_and_prepare<R: PolyvalRoom>(
-    siv: &Siv,
-    nonce: &[u8; 12],
-    message_key: &mut KeptKey,
-    room: &mut R,
-)
-    requires made { IsSivMade siv.now }
-    requires key { HoldsSivKey siv.now }
-    ensures made { R.IsMade room.new }
-    ensures authentication { R.subkey room.new
-        ≡ next_v (from_le_bytes w128 (authentication_key (key_in siv.now) nonce.now)) }
-    ensures small { from_le_bytes w128
-        (authentication_key (key_in siv.now) nonce.now) < 2 ^ 128 }
-    ensures kept { IsKept message_key.new }
-    ensures size { message_key.new.length ≡ siv.now.length }
-    ensures encryption { key_in message_key.new ≡ encryption_key (key_in siv.now) nonce.now }
-{
-    let size = siv.length as usize;
-    let mut keys = MustWipe::<DerivedKeysRoom>::zeroed();
-    derive(&cipher_of(siv), size, nonce, keys.value_mut());
-    put_authentication(&keys.value()[0], room);
-    set_encryption_key(keys.value(), size, message_key);
-    keys.wipe();
-}
+impl MessageKey for MessageRoom {
+    type ShortRoom = ShortRoom;
 
-// Encrypts a text in place and returns the tag, with room for POLYVAL of this type. Never inlined,
-// so that a short message has a small stack frame. This function wipes its room, and the stack that
-// calls left below it. If a caller wiped that stack, its depth would depend on the room that a
-// build has.
-#[inline(never)]
-fn seal_in<R: PolyvalRoom>(siv: &Siv, nonce: &[u8; 12], additional: &[u8], text: &mut [u8]) -> Block
-    requires made { IsSivMade siv.now }
-    requires key { HoldsSivKey siv.now }
-    requires additional { IsSivLength (length additional.now) }
-    requires text { IsSivLength (length text.old) }
-    ensures tag { result ≡ rfc.tag (key_in siv.now) nonce.now additional.now text.old }
-    ensures encrypted { text.new ≡ rfc.text (key_in siv.now) nonce.now result text.old }
-{
-    let mut room = MustWipe::<R>::zeroed();
-    let mut message_key = MustWipe::<KeptKey>::zeroed();
-    derive_and_prepare(siv, nonce, message_key.value_mut(), room.value_mut());
-    let tag = seal(
-        &cipher_of(message_key.value()),
-        room.value(),
-        nonce,
-        additional,
-        text,
-    );
-    message_key.wipe();
-    room.wipe();
-    wipe_stack::<MESSAGE_STACK>();
-    tag
-}
+    type LongRoom = LongRoom;
 
-// Encrypts a text in place and returns the tag, with the room that takes less time.
-fn seal_message(siv: &Siv, nonce: &[u8; 12], additional: &[u8], text: &mut [u8]) -> Block
-    requires made { IsSivMade siv.now }
-    requires key { HoldsSivKey siv.now }
-    requires additional { IsSivLength (length additional.now) }
-    requires text { IsSivLength (length text.old) }
-    ensures tag { result ≡ rfc.tag (key_in siv.now) nonce.now additional.now text.old }
-    ensures encrypted { text.new ≡ rfc.text (key_in siv.now) nonce.now result text.old }
-{
-    if is_short(additional.len(), text.len()) {
-        seal_in::<ShortRoom>(siv, nonce, additional, text)
-    } else {
-        seal_in::<LongRoom>(siv, nonce, additional, text)
+    ghost IsAllowed = { IsSivKeySize };
+
+    ghost IsSet = { λ room. IsKept room.kept × HoldsSivKey room.kept };
+
+    ghost own_key = { λ room. key_in room.kept };
+
+    #[inline(always)]
+    fn set(&mut self, key: &[u8]) {
+        self.kept.set(key);
     }
-}
 
-// Decrypts a text in place if the tag is right, and returns whether it is, with room for POLYVAL of
-// this type.
-#[inline(never)]
-fn open_in<R: PolyvalRoom>(
-    siv: &Siv,
-    nonce: &[u8; 12],
-    additional: &[u8],
-    text: &mut [u8],
-    tag: &Block,
-) -> bool
-    requires made { IsSivMade siv.now }
-    requires key { HoldsSivKey siv.now }
-    requires additional { IsSivLength (length additional.now) }
-    requires text { IsSivLength (length text.old) }
-    ensures accepted { IsTrue result ↔ IsAuthentic
-        (key_in siv.now) nonce.now additional.now tag.now text.old }
-    ensures decrypted { IsTrue result → text.new
-        ≡ rfc.text (key_in siv.now) nonce.now tag.now text.old }
-    ensures untouched { result ≡ false → text.new ≡ text.old }
-{
-    let mut room = MustWipe::<R>::zeroed();
-    let mut message_key = MustWipe::<KeptKey>::zeroed();
-    derive_and_prepare(siv, nonce, message_key.value_mut(), room.value_mut());
-    let is_right = open(
-        &cipher_of(message_key.value()),
-        room.value(),
-        nonce,
-        additional,
-        text,
-        tag,
-    );
-    message_key.wipe();
-    room.wipe();
-    wipe_stack::<MESSAGE_STACK>();
-    is_right
-}
+    #[inline(always)]
+    fn encrypt_block(&self, block: &mut Block) {
+        cipher_of(&self.kept).encrypt_block(block);
+    }
 
-// Decrypts a text in place if the tag is right, with the room that takes less time.
-fn open_message(
-    siv: &Siv,
-    nonce: &[u8; 12],
-    additional: &[u8],
-    text: &mut [u8],
-    tag: &Block,
-) -> bool
-    requires made { IsSivMade siv.now }
-    requires key { HoldsSivKey siv.now }
-    requires additional { IsSivLength (length additional.now) }
-    requires text { IsSivLength (length text.old) }
-    ensures accepted { IsTrue result ↔ IsAuthentic
-        (key_in siv.now) nonce.now additional.now tag.now text.old }
-    ensures decrypted { IsTrue result → text.new
-        ≡ rfc.text (key_in siv.now) nonce.now tag.now text.old }
-    ensures untouched { result ≡ false → text.new ≡ text.old }
-{
-    if is_short(additional.len(), text.len()) {
-        open_in::<ShortRoom>(siv, nonce, additional, text, tag)
-    } else {
-        open_in::<LongRoom>(siv, nonce, additional, text, tag)
+    #[inline(always)]
+    fn add_keystream(&self, start: &Block, bytes: &mut [u8]) {
+        add_keystream(&cipher_of(&self.kept), start, bytes);
     }
 }
 
@@ -216,7 +104,13 @@ pub extern "C" fn fotsgure_gcm_siv_seal(
     if status != DONE {
         return status;
     }
-    *tag = seal_message(siv, nonce, additional, text);
+    *tag = seal_message::<BuildCipher<'_>, MessageRoom>(
+        &cipher_of(siv),
+        siv.length as usize,
+        nonce,
+        additional,
+        text,
+    );
     DONE
 }
 
@@ -247,6 +141,13 @@ pub extern "C" fn fotsgure_gcm_siv_open(
     if status != DONE {
         return status;
     }
-    let is_right = open_message(siv, nonce, additional, text, tag);
+    let is_right = open_message::<BuildCipher<'_>, MessageRoom>(
+        &cipher_of(siv),
+        siv.length as usize,
+        nonce,
+        additional,
+        text,
+        tag,
+    );
     if is_right { DONE } else { REFUSED }
 }

@@ -88,6 +88,10 @@ encryption_key key nonce = let w = fips.key_expansion key in
 abbrev pub IsSivKeySize : ℕ → Type 0
 IsSivKeySize n = (n ≡ 16) ⊎ (n ≡ 32)
 
+-- a key of n bytes, whose round keys are w
+abbrev pub IsKeyOf : ℕ → List (List ℕ) → List ℕ → Type 0
+IsKeyOf n w key = (length key ≡ n) × (w ≡ fips.key_expansion key)
+
 -- ---- counter mode (4): the first 32 bits of a block count, their lowest byte first
 
 -- the counter after j blocks

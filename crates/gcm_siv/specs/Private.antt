@@ -1,5 +1,5 @@
 -- What private functions do on the way: no public contract names it.
-use Rattle.std.specs.Prelude.{ℕ, List, [], ◌∷◌, ◌++◌, slice_index_or, take}
+use Rattle.std.specs.Prelude.{ℕ, List, [], ◌∷◌, ◌++◌, Option, Some, None, slice_index_or, take}
 use Rattle.std.specs.Int.{w32, to_le_bytes}
 use Rattle.gcm_siv.specs.GcmSiv.{derived}
 
@@ -24,3 +24,8 @@ unfolding derived
 derived_keys w nonce =
     (derived w nonce 0 ++ derived w nonce 1) ∷ (derived w nonce 2 ++ derived w nonce 3)
     ∷ (derived w nonce 4 ++ derived w nonce 5) ∷ []
+
+-- the key of a cipher, where there is one
+unfoldable pub key_of_some : {C : Type 0} → (C → List ℕ) → Option C → List ℕ
+key_of_some key (Some cipher) = key cipher
+key_of_some key None = []

@@ -49,7 +49,7 @@ impl CounterBlocks for FirstBits {
 
 /// Adds the keystream to bytes, from an initial counter block on (AES_CTR).
 #[tactic(auto, using(crate::proofs::CounterBlocks::mode_is))]
-pub(crate) fn add_keystream<C: BlockCipherEncrypt>(cipher: &C, start: &Block, bytes: &mut [u8])
+pub fn add_keystream<C: BlockCipherEncrypt>(cipher: &C, start: &Block, bytes: &mut [u8])
     ensures { bytes.new ≡ counter_mode (C.round_keys cipher.now) start.now bytes.old }
 {
     add_stream(cipher, &FirstBits { start: *start }, 0, bytes);

@@ -16,8 +16,8 @@ pub(crate) fn are_allowed(additional: &[u8], text: &[u8]) -> bool
 // of one factor take less time than those of its powers.
 const LONGEST_SHORT: usize = 160;
 
-/// Returns whether a message is short whose additional data and text have these lengths.
-pub fn is_short(additional: usize, text: usize) -> bool
+// Returns whether a message is short whose additional data and text have these lengths.
+pub(crate) fn is_short(additional: usize, text: usize) -> bool
     ensures { IsTrue result ↔ (additional + text ≤ 160) }
 {
     additional <= LONGEST_SHORT && text <= LONGEST_SHORT - additional

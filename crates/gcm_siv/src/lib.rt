@@ -3,6 +3,7 @@
 #![tactic(auto)]
 
 mod counters;
+mod course;
 mod errors;
 pub mod examples;
 mod hash;
@@ -10,12 +11,14 @@ mod keys;
 mod laws;
 mod lengths;
 mod message;
+mod message_key;
 mod mode;
 
+pub use counters::add_keystream;
+pub use course::{open_message, seal_message};
 pub use errors::{Refused, TooLong};
 pub use hash::PolyvalRoom;
-pub use keys::{DerivedKeysRoom, derive, put_authentication};
 pub use laws::text_twice;
-pub use lengths::{LONGEST, is_short};
-pub use message::{open, seal};
+pub use lengths::LONGEST;
+pub use message_key::MessageKey;
 pub use mode::GcmSiv;

@@ -6,11 +6,11 @@ ghost use Rattle.aes_planes.specs.Fips197 as fips;
 ghost use Rattle.gcm.specs.Gcm.{next_v};
 ghost use Rattle.gcm_siv.specs.GcmSiv.{first_counter, tag_under, text_under};
 
-use crate::counters::add_keystream;
 use crate::hash::PolyvalRoom;
+use crate::message_key::MessageKey;
 use aes_cipher::blocks::{blocks_equal, sum_of_blocks};
-use aes_cipher::cipher::{Block, BlockCipherEncrypt};
-use aes_cipher::zeroize::{MustWipe, wipe_stack};
+use aes_cipher::cipher::Block;
+use aes_cipher::zeroize::MustWipe;
 
 // The block whose encryption is the tag, made of S_s and the nonce.
 fn tag_input(sum: &Block, nonce: &[u8; 12]) -> Block
@@ -34,43 +34,45 @@ fn first_counter(tag: &Block) -> Block
 }
 
 // Writes the tag of additional data and a plain text.
-fn put_tag<C: BlockCipherEncrypt, R: PolyvalRoom>(
-    cipher: &C,
+fn put_tag<K: MessageKey, R: PolyvalRoom>(
+    key: &K,
     room: &R,
     nonce: &[u8; 12],
     additional: &[u8],
     text: &[u8],
     tag: &mut Block,
 )
+    requires set { K.IsSet key.now }
     requires made { R.IsMade room.now }
     requires additional { length additional.now ≤ 2 ^ 36 }
     requires text { length text.now ≤ 2 ^ 36 }
     ensures { (h : ℕ) → h < 2 ^ 128 → R.subkey room.now ≡ next_v h
-        → tag.new ≡ tag_under (C.round_keys cipher.now) h nonce.now additional.now text.now }
+        → tag.new ≡ tag_under (fips.key_expansion (K.own_key key.now)) h nonce.now additional.now text.now }
 {
     *tag = tag_input(&room.hash(additional, text), nonce);
-    cipher.encrypt_block(tag);
+    key.encrypt_block(tag);
 }
 
 // Whether a tag is that of additional data and a plain text.
-fn is_tag<C: BlockCipherEncrypt, R: PolyvalRoom>(
-    cipher: &C,
+fn is_tag<K: MessageKey, R: PolyvalRoom>(
+    key: &K,
     room: &R,
     nonce: &[u8; 12],
     additional: &[u8],
     text: &[u8],
     tag: &Block,
 ) -> bool
+    requires set { K.IsSet key.now }
     requires made { R.IsMade room.now }
     requires additional { length additional.now ≤ 2 ^ 36 }
     requires text { length text.now ≤ 2 ^ 36 }
     ensures { (h : ℕ) → h < 2 ^ 128 → R.subkey room.now ≡ next_v h
-        → IsTrue result ↔ (tag.now ≡ tag_under (C.round_keys cipher.now)
+        → IsTrue result ↔ (tag.now ≡ tag_under (fips.key_expansion (K.own_key key.now))
         h nonce.now additional.now text.now) }
 {
     let mut expected = MustWipe::<[Block; 1]>::zeroed();
     put_tag(
-        cipher,
+        key,
         room,
         nonce,
         additional,
@@ -83,70 +85,63 @@ fn is_tag<C: BlockCipherEncrypt, R: PolyvalRoom>(
 }
 
 // Encrypts or decrypts a text that has a tag.
-fn process_text<C: BlockCipherEncrypt>(cipher: &C, tag: &Block, text: &mut [u8])
-    ensures { text.new ≡ text_under (C.round_keys cipher.now) tag.now text.old }
+fn process_text<K: MessageKey>(key: &K, tag: &Block, text: &mut [u8])
+    requires { K.IsSet key.now }
+    ensures { text.new ≡ text_under (fips.key_expansion (K.own_key key.now)) tag.now text.old }
 {
-    add_keystream(cipher, &first_counter(tag), text);
+    key.add_keystream(&first_counter(tag), text);
 }
 
 /// Encrypts a text in place, and returns the tag. This is a call of its own, as `open`, so that its
 /// stack can be wiped.
 #[inline(never)]
-pub fn seal<C: BlockCipherEncrypt, R: PolyvalRoom>(
-    cipher: &C,
+pub(crate) fn seal<K: MessageKey, R: PolyvalRoom>(
+    key: &K,
     room: &R,
     nonce: &[u8; 12],
     additional: &[u8],
     text: &mut [u8],
 ) -> Block
+    requires set { K.IsSet key.now }
     requires made { R.IsMade room.now }
     requires additional { length additional.now ≤ 2 ^ 36 }
     requires text { length text.old ≤ 2 ^ 36 }
     ensures tag { (h : ℕ) → h < 2 ^ 128 → R.subkey room.now ≡ next_v h
-        → result ≡ tag_under (C.round_keys cipher.now) h nonce.now additional.now text.old }
-    ensures text { text.new ≡ text_under (C.round_keys cipher.now) result text.old }
+        → result ≡ tag_under (fips.key_expansion (K.own_key key.now)) h nonce.now additional.now text.old }
+    ensures text { text.new ≡ text_under (fips.key_expansion (K.own_key key.now)) result text.old }
 {
     let mut tag = [0; 16];
-    put_tag(cipher, room, nonce, additional, text, &mut tag);
-    process_text(cipher, &tag, text);
+    put_tag(key, room, nonce, additional, text, &mut tag);
+    process_text(key, &tag, text);
     tag
 }
 
 /// Decrypts a text in place if its tag is right, and returns whether it is. A text that is refused
 /// is encrypted again, so that it is unchanged.
 #[inline(never)]
-pub fn open<C: BlockCipherEncrypt, R: PolyvalRoom>(
-    cipher: &C,
+pub(crate) fn open<K: MessageKey, R: PolyvalRoom>(
+    key: &K,
     room: &R,
     nonce: &[u8; 12],
     additional: &[u8],
     text: &mut [u8],
     tag: &Block,
 ) -> bool
+    requires set { K.IsSet key.now }
     requires made { R.IsMade room.now }
     requires additional { length additional.now ≤ 2 ^ 36 }
     requires text { length text.old ≤ 2 ^ 36 }
     ensures accepted { (h : ℕ) → h < 2 ^ 128 → R.subkey room.now ≡ next_v h
-        → IsTrue result ↔ (tag.now ≡ tag_under (C.round_keys cipher.now) h nonce.now additional.now
-        (text_under (C.round_keys cipher.now) tag.now text.old)) }
+        → IsTrue result ↔ (tag.now ≡ tag_under (fips.key_expansion (K.own_key key.now)) h nonce.now additional.now
+        (text_under (fips.key_expansion (K.own_key key.now)) tag.now text.old)) }
     ensures decrypted { IsTrue result → text.new
-        ≡ text_under (C.round_keys cipher.now) tag.now text.old }
+        ≡ text_under (fips.key_expansion (K.own_key key.now)) tag.now text.old }
     ensures untouched { result ≡ false → text.new ≡ text.old }
 {
-    process_text(cipher, tag, text);
-    if is_tag(cipher, room, nonce, additional, text, tag) {
+    process_text(key, tag, text);
+    if is_tag(key, room, nonce, additional, text, tag) {
         return true;
     }
-    process_text(cipher, tag, text);
+    process_text(key, tag, text);
     false
-}
-
-// The most bytes of stack of a message.
-const MESSAGE_STACK: usize = 4352;
-
-/// Wipes the stack that a message used, in a call from the same function. The message's keys,
-/// values of POLYVAL, the right tag of a refused message and blocks of the keystream may be there.
-#[inline(always)]
-pub(crate) fn wipe_message_stack() {
-    wipe_stack::<MESSAGE_STACK>();
 }

@@ -6,8 +6,8 @@ MULTIPLES, MESSAGE, REST = 1536, 80, 64
 NONE, ADDITIONAL, ENCRYPTING, VERIFYING, DECRYPTING = range(5)  # phases of a message
 # The phases in which a call may come.
 TURNS = {"additional": (ADDITIONAL,), "encrypt": (ADDITIONAL, ENCRYPTING), "finish": (ADDITIONAL, ENCRYPTING),
-         "verify": (ADDITIONAL, VERIFYING), "decrypt_unverified": (ADDITIONAL, VERIFYING), "accept": (ADDITIONAL, VERIFYING),
-         "accept_short": (ADDITIONAL, VERIFYING), "decrypt": (DECRYPTING,)}
+         **{call: (ADDITIONAL, VERIFYING) for call in ("verify", "decrypt_unverified", "finish_unverified", "accept", "accept_short")},
+         "decrypt": (DECRYPTING,)}
 PHASES = {"encrypt": ENCRYPTING, "verify": VERIFYING, "decrypt_unverified": VERIFYING}  # phases in which later pieces of a text come
 MOST, MOST_ADDITIONAL, MOST_NONCE = 2 ** 36 - 32, 2 ** 61 - 1, 2 ** 61 - 1
 SHORT_TAGS = 4, 8, 12, 13, 14, 15  # bytes

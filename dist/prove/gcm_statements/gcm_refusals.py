@@ -133,7 +133,8 @@ class Refusals:
         """A call that comes out of turn is refused and changes nothing, and so is one that would make the message longer than the standard
         allows."""
         n = unknown("n")
-        last = {"finish": [unused_buffer("tag")], "accept": [Buffer("tag", self.keyed.in_block(self.keyed.tag, 0)), 16],
+        last = {"finish": [unused_buffer("tag")], "finish_unverified": [unused_buffer("tag")],
+                "accept": [Buffer("tag", self.keyed.in_block(self.keyed.tag, 0)), 16],
                 "accept_short": [12, unused_buffer("tag", False), 12]}
         read = {"additional": unused_buffer("additional", False), "verify": unused_buffer("text", False)}
         for call, phases in TURNS.items():

@@ -41,10 +41,14 @@ class MessageEnds:
         before, after = (self.any_before(Counts(a, t, 0, p)) for p in (phase, DECRYPTING))
         return before, after, tag, dict(facts=a.facts | (t.facts if t else set()), steps=steps, any_length=True)
 
-    def any_finish(self, phase, additional, text, too_long=()):
+    def any_finish(self, phase, additional, text, too_long=(), call="finish", secret=()):
         """Ends a message that was encrypted: writes its tag, and overwrites *message with zeros. .. DONE"""
         before, _, tag, more = self.any_end(phase, additional, text, too_long)
-        return self.call_on_message("finish", before, [0] * MESSAGE, [Buffer("tag", self.undefined(16), tag)], **more)
+        return self.call_on_message(call, before, [0] * MESSAGE, [Buffer("tag", self.undefined(16), tag, secret)], **more)
+
+    def any_finish_unverified(self, *came):
+        """Ends a message whose tag was to be compared: writes its right tag, and overwrites *message with zeros. .. DONE"""
+        return self.any_finish(*came, call="finish_unverified", secret=("inner",))  # (so nothing of that tag may be left elsewhere)
 
     def any_accept(self, phase, additional, text, length=None, too_long=()):
         """Compares the tag of what has come, without an early exit. If it is right, the encrypted text may come once more, to be decrypted.
@@ -59,6 +63,9 @@ class MessageEnds:
     # numbers that the standard doesn't allow.
     def every_finish(self):
         return [self.any_finish(*came, too_long) for too_long in SOME_TOO_LONG for came in every_end(ENCRYPTING, too_long)]
+
+    def every_finish_unverified(self):
+        return [self.any_finish_unverified(*came, too_long) for too_long in SOME_TOO_LONG for came in every_end(VERIFYING, too_long)]
 
     def every_accept(self, length=None):
         return [self.any_accept(*came, length, too_long) for too_long in SOME_TOO_LONG for came in every_end(VERIFYING, too_long)]

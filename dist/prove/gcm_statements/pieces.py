@@ -9,7 +9,7 @@ from statements.calls import Buffer, Call
 from statements.standards import ZEROS, padded
 
 
-ENDS = "finish", "accept", "accept_short"  # calls that set all numbers of a message
+ENDS = "finish", "finish_unverified", "accept", "accept_short"  # calls that set all numbers of a message
 COUNT_AT = {"text": 8, "decrypted": 16}  # where a message has numbers that some calls don't look at
 NOT_READ = {"additional": ["text", "decrypted"], "decrypt": []}  # these numbers, where it isn't only `decrypted`
 

@@ -84,7 +84,14 @@ class Access:
 
     def prepare(self, instruction, middle):
         """Prepares an instruction that runs alone. Its registers get addresses to which it may jump, or that lie in the middle of a
-        region."""
+        region. The stack pointer stays in the stack, and what aligns it finds it after such a place."""
+        moves_stack = [*instruction.operands[:1]] == [Register(self.stack_pointer, self.word)]
+        if moves_stack and instruction.name == "and":
+            self.general[self.stack_pointer] = Pointer("stack", middle + 3 * self.word)
+        for o in instruction.operands[1:] if moves_stack else ():
+            if isinstance(o, Memory if instruction.name == "lea" else Register) and instruction.name in ("lea", "mov"):
+                source, offset = (o.base, o.offset) if isinstance(o, Memory) else (o.name, 0)
+                self.general[source] = Pointer("stack", middle - offset)
         for o in instruction.operands:
             if isinstance(o, Memory) and instruction.name != "lea":
                 if o.index:
@@ -142,7 +149,7 @@ class Access:
             raise Unproved("writes to %s" % base)
         if base == "stack":
             self.stack.reach(offset, size, write, self.general[self.stack_pointer].offset - self.red_zone)
-        if region.align % align or offset % align:
+        if align > 1 and region.past_multiple(offset, align) != 0:
             raise Unproved(UNALIGNED % base)
         return region.content, offset
 

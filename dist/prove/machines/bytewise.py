@@ -87,11 +87,11 @@ class Bytewise:
         if isinstance(x, Verdict) or isinstance(y, Verdict):
             return self.with_verdict(name, *((x, y) if isinstance(x, Verdict) else (y, x)), size)
         if is_pointer(x) and is_int(y) and x.base in self.regions:
-            align, low = self.regions[x.base].align, -y & self.highest
-            if name == "or" and y < align and not x.offset & y:
+            region, low = self.regions[x.base], -y & self.highest
+            if name == "or" and (past := region.past_multiple(x.offset, 1 << y.bit_length())) is not None and not past & y:
                 return self.offset(x, y)
-            if name == "and" and low and not low & low - 1 and align % low == 0:
-                return x._replace(offset=x.offset & -low)
+            if name == "and" and low and not low & low - 1 and (past := region.past_multiple(x.offset, low)) is not None:
+                return x._replace(offset=x.offset - past)
         return self.from_bytes(self.bytewise(name, *(self.fewest_bytes(v, size) for v in (x, y))))
 
     def add_byte(self, x, y, carry=0):

@@ -91,6 +91,7 @@ class Machine(Arithmetic, Unknowns, Bytewise, Access):
     comment = "#"
     trap = ""  # puts an instruction that fails between sections of code (layout.py)
     avx512 = b""
+    most_steps = MOST_STEPS
 
     def __init__(self, domain, program, regions, entry, arguments):
         """regions: {name: Region}. One is "stack", which has what is below the return address. (`enter` adds the caller's part.)"""
@@ -254,7 +255,7 @@ class Machine(Arithmetic, Unknowns, Bytewise, Access):
         return m
 
     # Running.
-    def run(self, watches=(), limit=MOST_STEPS):
+    def run(self, watches=()):
         """Runs until the call returns. Calls each of `watches` after each instruction."""
         try:
             while not isinstance(self.next_address, Pointer):
@@ -266,7 +267,7 @@ class Machine(Arithmetic, Unknowns, Bytewise, Access):
                     self.step()
                 for watch in watches:
                     watch(self)
-                if self.steps > limit:
+                if self.steps > self.most_steps:
                     raise Unproved("doesn't return")
         except (Pause, Question):  # the instruction runs again later
             if any(isinstance(o, Memory) and o.before for o in self.program.instruction_at(self.last).operands):

@@ -32,7 +32,7 @@ class Native:
         """Places each buffer on its own pages, as its alignment requires. Undefined bytes are random."""
         values, at = self.values, self.m.program.symbols["area"]
         for name, region in self.m.regions.items():
-            skew = 0 if region.align > 1 else values.random.randrange(1, 64)
+            skew = region.past if region.align > 1 else values.random.randrange(1, 64)
             values.base[name] = at + skew
             at += len(region.content) + 4096 + skew & ~4095
             self.processor.write(values.base[name], values.random.randbytes(len(region.content)))

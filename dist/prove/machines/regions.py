@@ -6,18 +6,39 @@ from loops.linear import is_known_distance
 from machines.operands import Content, is_int
 from symbols.bits import Unproved
 
+ABI_ALIGN = 16  # to how many bytes a caller aligns the stack, on each machine
+
 
 class Region:
-    """A buffer: its bytes, whether a call may write them, and how it is aligned."""
+    """A buffer: its bytes, whether a call may write them, and how it is aligned. It begins `past` bytes after a multiple of `align`, which
+    is a power of two."""
 
-    def __init__(self, content, writable=True, align=1):
+    def __init__(self, content, writable=True, align=1, past=0):
         self.content = list(content)
-        self.writable, self.align = writable, align
+        self.writable, self.align, self.past = writable, align, past
+
+    def past_multiple(self, offset, align):
+        """Gives how far a place in the buffer is past a multiple of `align`, or None if that isn't known."""
+        return None if self.align % align else (offset + self.past) % align if align > 1 else 0
 
     def copy(self):
         other = copy.copy(self)
         other.content = list(self.content)
         return other
+
+
+class Stack(Region):
+    """A call's stack. Callers align it to ABI_ALIGN only. Code may align it to twice that, and then a call is proved for both `past`.
+    `counts` has whether any machine of the call counted on the higher alignment; it is shared by their copies."""
+
+    def __init__(self, content, past=0):
+        super().__init__(content, align=2 * ABI_ALIGN, past=past)
+        self.counts = set()
+
+    def past_multiple(self, offset, align):
+        if align > ABI_ALIGN:
+            self.counts.add(align)
+        return super().past_multiple(offset, align)
 
 
 class Window(Region):

@@ -15,7 +15,7 @@ from loops.linear import Linear, implied, names_in, refuted, unknown
 from machines.machine import Allowed
 from machines.native import Native
 from machines.operands import HEAD, Pointer, Question, Verdict
-from machines.regions import Region, Window
+from machines.regions import ABI_ALIGN, Region, Stack, Window
 from statements.left_behind import kind_of_secret, named_bits, no_secret_in_buffers, nothing_secret, what_is_left
 from statements.steps import NO_STEP, step_by_step
 from symbols.bits import ONES, Pause, Unproved
@@ -120,10 +120,22 @@ def refuse_other_parameters(parameters, call):
 
 def prove_call(domain, program, call, seed=None):
     """Proves a call for all answers to the questions that its branches ask. They ask how far buffers are apart, and whether a wrapped key
-    or a tag is right. With a seed, the call also runs on the processor, with one key and data. Gives a machine after the call."""
+    or a tag is right. With a seed, the call also runs on the processor, with one key and data. If its code aligns the stack further than
+    callers do, it is proved for stacks that begin at each place that callers may choose. Gives a machine after the call: that which used
+    the most of the stack."""
+    ends = []
+    for past in range(0, 2 * ABI_ALIGN, ABI_ALIGN):
+        ends.append(prove_on_stack(domain, program, call, seed, past))
+        if not ends[-1].regions["stack"].counts:
+            break
+    return max(ends, key=lambda m: m.stack.depth())
+
+
+def prove_on_stack(domain, program, call, seed, past):
+    """Proves a call on a stack that begins so many bytes after a multiple of 32."""
     if len(domain.products) > MOST_SUMS_OF_PRODUCTS:
         domain.forget_products()
-    m = machine_before(domain, program, call)
+    m = machine_before(domain, program, call, past)
     if call.parts:
         return prove_parts(m, call)
     known = lengths.GeneralStates()
@@ -148,10 +160,10 @@ def prove_call(domain, program, call, seed=None):
     return m
 
 
-def machine_before(domain, program, call):
+def machine_before(domain, program, call, past):
     """Makes a machine at the first instruction of a call."""
     regions = {b.name: b.region(program.machine) for b in call.buffers}
-    regions["stack"] = Region([domain.undefined] * (STACK - program.machine.word * len(program.machine.pushed)), align=16)
+    regions["stack"] = Stack([domain.undefined] * (STACK - program.machine.word * len(program.machine.pushed)), past)
     arguments = [Pointer(a.name, 0) if isinstance(a, Buffer) else a for a in call.arguments]
     m = program.machine(domain, program, regions, program.exports["fotsgure_" + call.name], arguments)
     m.allowed = Allowed(call.reveals is not None, functools.partial(is_known_false, call), call.any_length, call.divides)

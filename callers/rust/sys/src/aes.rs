@@ -15,6 +15,7 @@ pub const FOTSGURE_AES_REFUSED: u32 = 6;
 pub const FOTSGURE_AES_TAG_LENGTH: u32 = 7;
 pub const FOTSGURE_AES_NONCE_LENGTH: u32 = 8;
 pub const FOTSGURE_AES_TOO_LONG: u32 = 9;
+pub const FOTSGURE_AES_OUT_OF_TURN: u32 = 10;
 
 #[cfg(target_arch = "riscv64")]
 pub type fotsgure_aes_word = u64;
@@ -41,9 +42,19 @@ pub struct fotsgure_aes_cbc {
     pub previous: [u8; 16],
 }
 
+#[repr(C)]
+#[derive(Clone)]
+pub struct fotsgure_aes_cmac_message {
+    pub begun: u64,
+    pub rest_length: u64,
+    pub value: [u8; 16],
+    pub rest: [u8; 16],
+}
+
 const _: () = assert!(core::mem::size_of::<fotsgure_aes>() == 121 * core::mem::size_of::<fotsgure_aes_word>());
 const _: () = assert!(core::mem::size_of::<fotsgure_aes_ctr>() == 24);
 const _: () = assert!(core::mem::size_of::<fotsgure_aes_cbc>() == 16);
+const _: () = assert!(core::mem::size_of::<fotsgure_aes_cmac_message>() == 48);
 
 library! {
     "aes":
@@ -77,6 +88,14 @@ library! {
         tag: *mut [u8; 16]) -> u32;
     fn fotsgure_aes_cmac_verify(aes: *const fotsgure_aes, message: *const u8, message_length: usize, tag: *const u8,
         tag_length: usize) -> u32;
+    fn fotsgure_aes_cmac_begin(aes: *const fotsgure_aes, message: *mut fotsgure_aes_cmac_message) -> u32;
+    fn fotsgure_aes_cmac_update(aes: *const fotsgure_aes, message: *mut fotsgure_aes_cmac_message, bytes: *const u8,
+        count: usize) -> u32;
+    fn fotsgure_aes_cmac_finish(aes: *const fotsgure_aes, message: *mut fotsgure_aes_cmac_message,
+        tag: *mut [u8; 16]) -> u32;
+    fn fotsgure_aes_cmac_accept(aes: *const fotsgure_aes, message: *mut fotsgure_aes_cmac_message, tag: *const u8,
+        tag_length: usize) -> u32;
+    fn fotsgure_aes_cmac_wipe(message: *mut fotsgure_aes_cmac_message);
     fn fotsgure_aes_ccm_seal(aes: *const fotsgure_aes, nonce: *const u8, nonce_length: usize, additional: *const u8,
         additional_length: usize, text: *mut u8, text_length: usize, tag: *mut u8, tag_length: usize) -> u32;
     fn fotsgure_aes_ccm_open(aes: *const fotsgure_aes, nonce: *const u8, nonce_length: usize, additional: *const u8,

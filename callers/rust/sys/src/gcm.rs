@@ -103,6 +103,8 @@ library! {
         text_length: usize) -> u32;
     fn fotsgure_gcm_decrypt_unverified(gcm: *const fotsgure_gcm, message: *mut fotsgure_gcm_message, text: *mut u8,
         text_length: usize) -> u32;
+    fn fotsgure_gcm_finish_unverified(gcm: *const fotsgure_gcm, message: *mut fotsgure_gcm_message,
+        tag: *mut [u8; 16]) -> u32;
     fn fotsgure_gcm_wipe_message(message: *mut fotsgure_gcm_message);
     fn fotsgure_gcm_siv_set_key(siv: *mut fotsgure_gcm_siv, key: *const u8, key_length: usize) -> u32;
     fn fotsgure_gcm_siv_seal(siv: *const fotsgure_gcm_siv, nonce: *const [u8; 12], additional: *const u8,

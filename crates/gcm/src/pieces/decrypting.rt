@@ -5,11 +5,11 @@ ghost use Rattle.std.specs.Prelude.{length, drop, IsOk, IsErr, IsErrOf, IsTrue, 
 ghost use Rattle.gcm.specs.Gcm as nist;
 ghost use Rattle.gcm.specs.Gcm.{HasFixedLength, IsTooMuchText};
 ghost use Rattle.gcm.specs.Pieces.{IsInText, IsAt, IsPhaseRefused, IsVerifying, IsDecrypting};
-ghost use Rattle.gcm.specs.Pieces.{KeepsParts, phase_of};
+ghost use Rattle.gcm.specs.Pieces.{KeepsParts, no_message, phase_of};
 ghost use Rattle.gcm.specs.declared.message_state.Phase.{Phase};
 
 use super::may_enter;
-use crate::errors::{InvalidPiece, NotAccepted};
+use crate::errors::{InvalidPiece, NotAccepted, OutOfTurn};
 use crate::gctr::{SecretBlock, add_gctr};
 use crate::hash_room::HashRoom;
 use crate::lengths::LONGEST_TEXT;
@@ -196,6 +196,28 @@ impl<'a, C: BlockCipherEncrypt, R: HashRoom> BorrowedGcm<'a, C, R> {
         add_gctr(&self.cipher, &message.first, position, text);
         wipe_stack::<TEXT_STACK>();
         Ok(())
+    }
+
+    /// Ends a message whose tag was to be compared, and writes its right tag. Nothing is left of
+    /// the message. **Use this only where another program's interface leaves the comparison to
+    /// you**, and `accept` otherwise: whoever learns the right tag of a text that isn't
+    /// authenticated has forged a message. Compare the tag without an early exit. If the claimed
+    /// tag is another, forget the right one and all that was decrypted.
+    ///
+    /// # Errors
+    ///
+    /// `OutOfTurn` exactly if no message has begun, or text has come that was encrypted or
+    /// accepted; message and tag are then unchanged.
+    pub fn finish_unverified(&self, message: &mut Message, tag: &mut Block) -> Result<(), OutOfTurn>
+        ensures out_of_turn { IsErr result
+            ↔ IsPhaseRefused Phase.Verifying message.old }
+        ensures tag { OnOk result ((iv a c : List ℕ) → IsVerifying self.now iv a c message.old
+            → tag.new ≡ nist.tag self.now iv a c) }
+        ensures over { OnOk result (message.new ≡ no_message) }
+        ensures untouched { OnErr result (message.new ≡ message.old) }
+        ensures untouched_tag { OnErr result (tag.new ≡ tag.old) }
+    {
+        self.end(message, Phase::Verifying, tag)
     }
 
     // Whether a tag is that of what has come so far. This is a call of its own: its caller, which

@@ -7,14 +7,13 @@ ghost use Rattle.gcm.specs.Gcm.{IsTooMuchText};
 ghost use Rattle.gcm.specs.Pieces.{IsInText, IsEncrypting, IsPhaseRefused, no_message};
 ghost use Rattle.gcm.specs.declared.message_state.Phase.{Phase};
 
-use super::may_enter;
 use crate::errors::{InvalidPiece, OutOfTurn};
 use crate::gctr::add_gctr;
 use crate::hash_room::HashRoom;
 use crate::message_state::{Message, Phase};
-use crate::mode::{BorrowedGcm, HASH_STACK, TEXT_STACK};
+use crate::mode::{BorrowedGcm, TEXT_STACK};
 use aes_cipher::cipher::{Block, BlockCipherEncrypt};
-use aes_cipher::zeroize::{Zeroize, wipe_stack};
+use aes_cipher::zeroize::wipe_stack;
 
 impl<'a, C: BlockCipherEncrypt, R: HashRoom> BorrowedGcm<'a, C, R> {
     /// Encrypts a piece of the text in place, of any size.
@@ -59,13 +58,8 @@ impl<'a, C: BlockCipherEncrypt, R: HashRoom> BorrowedGcm<'a, C, R> {
         ensures over { OnOk result (message.new ≡ no_message) }
         ensures untouched { OnErr result (message.new ≡ message.old) }
     {
-        if !may_enter(message, Phase::Encrypting) {
-            return Err(OutOfTurn);
-        }
         let mut tag = [0; 16];
-        self.put_tag_so_far(message, &mut tag);
-        wipe_stack::<HASH_STACK>();
-        message.zeroize();
+        self.end(message, Phase::Encrypting, &mut tag)?;
         Ok(tag)
     }
 }

@@ -8,7 +8,7 @@ ghost use Rattle.gcm.specs.declared.message_state.Phase.{Phase};
 ghost use Rattle.gcm_c.specs.Form.{HoldsKey};
 ghost use Rattle.gcm_c.specs.Kept.{round_keys_in, IsMade};
 ghost use Rattle.gcm.specs.Pieces.{IsInText, IsPhaseRefused, IsPhaseAllowed, IsVerifying, IsDecrypting};
-ghost use Rattle.gcm.specs.Pieces.{phase_of};
+ghost use Rattle.gcm.specs.Pieces.{no_message, phase_of};
 
 use super::status_of;
 use crate::kept::{Gcm, holds_key, mode_of};
@@ -206,5 +206,36 @@ pub extern "C" fn fotsgure_gcm_decrypt_unverified(
     match mode.decrypt_unverified_piece(message, text) {
         Ok(()) => DONE,
         Err(error) => status_of(error),
+    }
+}
+
+/// Ends a message whose tag was to be compared, writes its right tag, and wipes what is kept of it.
+/// Whoever learns that tag while the text isn't authenticated has forged a message. Returns
+/// `NO_KEY` or `OUT_OF_TURN`, the first of them that applies, and else `DONE`.
+#[unsafe(no_mangle)]
+pub extern "C" fn fotsgure_gcm_finish_unverified(
+    gcm: &Gcm,
+    message: &mut Message,
+    tag: &mut [u8; 16],
+) -> u32
+    requires made { IsMade gcm.now }
+    ensures no_key { result ≡ NO_KEY ↔ ¬ HoldsKey gcm.now.key }
+    ensures out_of_turn { result ≡ OUT_OF_TURN ↔ HoldsKey gcm.now.key
+        × IsPhaseRefused Phase.Verifying message.old }
+    ensures refused { result ≢ DONE → result ≢ NO_KEY → result ≡ OUT_OF_TURN }
+    ensures tag { let w = round_keys_in gcm.now in
+        result ≡ DONE → (iv a c : List ℕ) → IsVerifying w iv a c message.old
+        → tag.new ≡ nist.tag w iv a c }
+    ensures over { result ≡ DONE → message.new ≡ no_message }
+    ensures untouched { result ≢ DONE → message.new ≡ message.old }
+    ensures untouched_tag { result ≢ DONE → tag.new ≡ tag.old }
+{
+    if !holds_key(gcm) {
+        return NO_KEY;
+    }
+    let mode = mode_of(gcm);
+    match mode.finish_unverified(message, tag) {
+        Ok(()) => DONE,
+        Err(_) => OUT_OF_TURN,
     }
 }

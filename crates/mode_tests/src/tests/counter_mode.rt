@@ -1,13 +1,11 @@
 //! Counter mode: the standard's examples and blocks by OpenSSL, however the bytes are cut.
 
-mod cuts;
-
 use aes::FixslicedAes;
 use aes_cipher::aes::{AesCipher, Bits128, Bits192, Bits256, BothWays, KeySize};
 use aes_cipher::cipher::{BlockCipherEncrypt, Encrypt, KeyInit};
 use aes_ctr::{Ctr128BE, stream_cut, stream_twice};
 use aes_hybrid::widths::Width128;
-use aes_hybrid::{Aes128Enc, Aes192Enc, BothWaysKeys, EncryptionKeys};
+use aes_hybrid::{Aes128Enc, EncryptionKeys};
 use standards::counter::{ENCRYPTED, IV, PLAIN};
 use standards::keys::{KEY_A1, ZEROS_BY_128, ZEROS_BY_192, ZEROS_BY_256};
 use std::test::Fail;
@@ -27,15 +25,9 @@ trait CounterTrial {
     fn passes<C: BlockCipherEncrypt>(&self, cipher: &C) -> bool;
 }
 
-// Whether the type that encrypts passes under a key. With the size as a parameter, it is proved to
-// be a cipher once for all that is tried.
-fn passes_under<K: KeySize, T: CounterTrial>(trial: &T, key: &K::Key) -> bool {
-    trial.passes(&AesCipher::<EncryptionKeys<K, Width128>, Encrypt>::new(key))
-}
-
-// Whether the type that encrypts passes under the key of the standard's example.
+// Whether the type of `aes_hybrid` that encrypts passes under the key of the standard's example.
 fn passes<T: CounterTrial>(trial: &T) -> bool {
-    passes_under::<Bits128, T>(trial, &KEY_A1)
+    trial.passes(&AesCipher::<EncryptionKeys<Bits128, Width128>, Encrypt>::new(&KEY_A1))
 }
 
 // Counter mode over a borrowed cipher.
@@ -98,25 +90,6 @@ fn keystream_of<C: BlockCipherEncrypt + Drop>(cipher: C, iv: u128) -> Option<[u1
     Some([block_at(&bytes, 0)?, block_at(&bytes, 1)?])
 }
 
-// The first two blocks of the keystream under a key, by the type for both directions.
-fn keystream_under<K: KeySize>(key: &K::Key, iv: u128) -> Option<[u128; 2]> {
-    keystream_of(
-        AesCipher::<BothWaysKeys<K, Width128>, BothWays>::new(key),
-        iv,
-    )
-}
-
-#[test]
-fn counts_from_zero_and_past_the_last_number(rt: HostRuntime) -> Result<(), Fail> {
-    let [_, second] = keystream_under::<Bits128>(&[0; 16], u128::MAX).ok_or("end")?;
-    assert!(rt; second == ZEROS_BY_128);
-    let [first, _] = keystream_of(<Aes192Enc>::new(&[0; 24]), 0).ok_or("end")?;
-    assert!(rt; first == ZEROS_BY_192);
-    let [first, _] = keystream_under::<Bits256>(&[0; 32], 0).ok_or("end")?;
-    assert!(rt; first == ZEROS_BY_256);
-    Ok(())
-}
-
 // The first two blocks of the keystream under a key, by the type of `aes` that encrypts and by the
 // one for both directions.
 fn keystreams_of_aes<K: KeySize>(key: &K::Key, iv: u128) -> [Option<[u128; 2]>; 2] {
@@ -127,7 +100,7 @@ fn keystreams_of_aes<K: KeySize>(key: &K::Key, iv: u128) -> [Option<[u128; 2]>; 
 }
 
 #[test]
-fn counts_so_by_the_types_of_aes(rt: HostRuntime) -> Result<(), Fail> {
+fn counts_from_zero_and_past_the_last_number(rt: HostRuntime) -> Result<(), Fail> {
     for keystream in keystreams_of_aes::<Bits128>(&[0; 16], u128::MAX) {
         let [_, second] = keystream.ok_or("end")?;
         assert!(rt; second == ZEROS_BY_128);

@@ -1,7 +1,8 @@
 -- The first and the last round key change places; each between them is inverted.
-use Rattle.std.proofs.Common.{◌≡◌, ◌≢◌, ◌≤◌, ℕ, ◌-◌, List, [], length, map, get_or, set, ap, ◌∙◌}
+use Rattle.std.proofs.Common.{◌≡◌, ◌≢◌, ◌≤◌, ℕ, ◌-◌, ◌%◌, List, [], length, map, get_or, set, ap, ◌∙◌}
 use Rattle.std.proofs.Common.{arith}
 use Rattle.std.proofs.lemmas.List.{get_or-set_same, get_or-set_other, length-set}
+use Rattle.aes_planes.specs.Fips197.{inv_shift_times}
 use Rattle.aes_permute.specs.Stored.{decryption_untower}
 use Rattle.aes_permute.proofs.DecryptionKeys.{inverted_stored}
 use Rattle.aes_permute.proofs.lane_keys.invert_lanes.Goals as goal
@@ -20,7 +21,7 @@ returns-clause-keys c =
     (λ k some lt.
     let below : k ≢ last = omega arith in
     let above : k ≢ 0 = omega arith in
-    ap (map decryption_untower) (get_or-set_other one last k _ [] below
+    ap (λ v. inv_shift_times (k % 4) (map decryption_untower v)) (get_or-set_other one last k _ [] below
     ∙ get_or-set_other inverse 0 k _ [] above)
     ∙ c.keys.invariant.done k some (omega (arith, lt, c.keys-test.false)))
     (let apart : 0 ≢ last = omega (arith, two) in

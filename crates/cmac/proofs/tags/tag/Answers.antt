@@ -15,10 +15,8 @@ returns g c =
     let before : ℕ = c.saturating_sub-before.result / 16 in
     let count : before ≡ (length m - 1) / 16 = omega (arith, c.saturating_sub-before.ensures) in
     let chain = c.chain.ensures ∙ through_first w zeros m before (omega (arith, count)) in
-    c.encrypt_block.ensures
-    ∙ ap (cipher_with w)
-    (c.sum_of_blocks-value.ensures
-    ∙ (λ t. add_round_key (chain t) (c.last_block-last.ensures t)))
+    c.tag_at_end.ensures
+    ∙ ap (λ v. cipher_with w (add_round_key v (last_block w (slice_range m (16 * before) (length m))))) chain
     ∙ ap (λ n. cipher_with w (add_round_key (chained w zeros m n)
     (last_block w (slice_range m (16 * n) (length m)))))
     count

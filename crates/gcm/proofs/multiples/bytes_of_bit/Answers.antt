@@ -5,10 +5,10 @@ use Rattle.gcm.proofs.multiples.bytes_of_bit.Goals as goal
 
 pub lookup-requires : goal.lookup-requires
 lookup-requires c =
-    record { are_indices = indices c.args.bit c.args.r c.requires.bit c.requires.inside }
+    record { are_indices = λ _. indices c.args.bit c.args.r c.requires.bit c.requires.inside }
 
 pub returns : goal.returns
 returns c =
-    c.lookup.ensures
+    c.lookup.ensures 0
     ∙ looked_bit c.args.v c.args.bit c.args.r _ c.requires.bit c.requires.inside
     c.vector_of.ensures.block

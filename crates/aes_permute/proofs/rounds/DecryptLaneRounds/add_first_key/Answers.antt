@@ -1,4 +1,5 @@
 use Rattle.std.proofs.Common.{ap, map, ◌∙◌}
+use Rattle.aes_planes.specs.Fips197.{inv_shift_times}
 use Rattle.aes_permute.specs.Lookup.{by_nibbles}
 use Rattle.aes_permute.specs.Stored.{decryption_untower}
 use Rattle.aes_permute.specs.declared.tables.TheConstants.{INV_TOWER_LOW, INV_TOWER_HIGH}
@@ -6,6 +7,7 @@ use Rattle.aes_permute.proofs.DecryptionLanes.{inv_first_sum_is}
 use Rattle.aes_permute.proofs.rounds.DecryptLaneRounds.add_first_key.Goals as goal
 
 pub returns : goal.returns
+unfolding inv_shift_times
 returns g c i =
     ap (map decryption_untower)
     (c.looked_up_by_nibbles.ensures i
