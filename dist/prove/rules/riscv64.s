@@ -49,16 +49,16 @@ fotsgure_aes_key_length:
 # RULE a word of the key in a register, where an instruction follows that a linker may leave out | bytes in registers (key), in t5
 	function; ld t5, 8(a0); read; mv a0, a1; li a1, 0; .LhiX:; auipc t5, %pcrel_hi(.Lconstant)
 	addi t6, t5, %pcrel_lo(.LhiX); ret
-# RULE a jump over a call that a linker makes shorter | 
+# RULE a jump over a call that a linker makes shorter | an address beside one in the code, by the name of another section, or a number
 	function; j .Lx+4; .Lx:; call memset; read; return
-# RULE the same with an address in a register | 
+# RULE the same with an address in a register | goes on at an address that depends on where code lies
 	function; .LhiX:; auipc a5, %pcrel_hi(.Lx); addi a5, a5, %pcrel_lo(.LhiX); addi a5, a5, 4; jr a5; .Lx:
 	call memset; li a5, 0; read; return
-# RULE t1 kept on the way into the middle of another function | 
+# RULE t1 kept on the way into the middle of another function | an address is the sum of two addresses
 	function; tail rest; .Lback:; add a0, a0, t1; li t1, 0; .section .text.rest,"ax",@progbits
 	.type rest,@function; rest:; li t1, 0; tail .Lback; code; read; return
-# RULE a call of the second instruction of memset | 
+# RULE a call of the second instruction of memset | goes on at an address that depends on where code lies
 	function; addi sp, sp, -32; sd ra, 0(sp); sd a0, 8(sp); addi a0, sp, 16; li a1, 0; li a2, 8
 	la t1, memset; addi t1, t1, 4; jalr t1; ld ra, 0(sp); ld a0, 8(sp); addi sp, sp, 32; read; return
-# RULE a result that isn't extended by its sign | 
+# RULE a result that isn't extended by its sign | and not
 	function; read; lui a2, 1; slli a2, a2, 24; add a1, a1, a2; li a2, 0; return
