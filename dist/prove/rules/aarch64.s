@@ -62,7 +62,7 @@ fotsgure_aes_key_length:
 // RULE upper parts of two addresses compared | computes with addresses
 	function; adrp x9, .Lconstant; adrp x10, .Lother; cmp x9, x10; b.eq 77f; add x0, x0, #1; 77:
 	add x9, x9, :lo12:.Lconstant; add x10, x10, :lo12:.Lother; read; return
-// RULE the end of a function compared with another function | compares addresses of which the distance depends on a length, or on where code lies
+// RULE the end of a function compared with another function | compares addresses of which the distance depends on
 	function; adrp x9, 79f; add x9, x9, :lo12:79f; adrp x10, fotsgure_aes_wipe
 	add x10, x10, :lo12:fotsgure_aes_wipe; cmp x9, x10; b.ne 77f; add x0, x0, #1; 77:; read; return; 79:
 	.section .text.other,"ax",@progbits; .globl fotsgure_aes_wipe; .type fotsgure_aes_wipe,@function

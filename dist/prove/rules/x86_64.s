@@ -155,10 +155,10 @@ fotsgure_aes_key_length_v2:
 	function; .lcomm room, 64; read; return
 # RULE a stack that may be run | has more than code and constants: a stack that may be run
 	function; .pushsection .note.GNU-stack,"x",@progbits,unique,7; .popsection; read; return
-# RULE a note that asks for other processors | has more than code and constants: a note that says something else of marks or processors
+# RULE a note that asks for other processors | a note that says something else of marks or processors
 	function; .pushsection .note.gnu.property,"a"; .long 4, 16, 5; .asciz "GNU"; .long 0xc0008002, 4, 8, 0
 	.popsection; read; return
-# RULE a second note without the marks of indirect calls | has more than code and constants: a note that says something else of marks or processors
+# RULE a second note without the marks of indirect calls | a note that says something else of marks or processors
 	function; .pushsection .note.gnu.property,"a"; .long 4, 16, 5; .asciz "GNU"; .long 0xc0000002, 4, 0, 0
 	.popsection; read; return
 # RULE a section that a linker acts on, though it isn't loaded | has more than code and constants: .gnu.warning
