@@ -30,6 +30,7 @@ from statements.headers import parameters_of
 from symbols.bits import Unproved
 from tasks import pool_of
 
+BREAKS_NOTHING = "(?:%s)?[^:]+: (?:no change|otherwise): " % KEPT  # how the words on a change begin that isn't refused
 SAMPLE = 24  # of so many statements of a build, or fewer, one has instructions changed
 
 
@@ -249,7 +250,7 @@ def try_wrong_meanings(options, machine):
 
 def main():
     options = options_of(__doc__, all_builds=True)
-    refused, missed, kept = 0, 0, 0
+    refused, missed, unbroken, kept = 0, 0, 0, 0
     tries = [(try_faults, build) for build in FAULTS if build in options.builds]
     if not options.only:
         tries += [(try_mutants, build) for build in options.builds]
@@ -261,8 +262,10 @@ def main():
         for tried in [pool.submit(function, options, of) for function, of in tries]:
             for good, message in tried.result():
                 print(message, flush=True)
-                refused, missed, kept = refused + good, missed + (not good), kept + message.startswith(KEPT)
-    print(last_line("%d refused, %d missed" % (refused, missed), kept, options.left_out))
+                breaks_nothing = good and bool(re.match(BREAKS_NOTHING, message))
+                refused, missed, unbroken = refused + (good and not breaks_nothing), missed + (not good), unbroken + breaks_nothing
+                kept += message.startswith(KEPT)
+    print(last_line("%d refused, %d missed; %d changes break no promise" % (refused, missed, unbroken), kept, options.left_out))
     return missed != 0
 
 

@@ -54,28 +54,28 @@ fotsgure_aes_key_length:
 	add sp, sp, #16; read; return
 // RULE two loads into one register | gcc warns
 	function; ldp q0, q0, [x0]; movi v0.2d, #0; read; return
-// RULE a jump to where no mark is | 
+// RULE a jump to where no mark is | an indirect jump or call arrives where no mark is
 	function; adrp x16, 77f; add x16, x16, :lo12:77f; br x16; 77:; read; return
-// RULE the lower part of an address as a number | 
+// RULE the lower part of an address as a number | computes with a part of an address, as with a number
 	function; mov x11, #0; adrp x9, .Lconstant; add x9, x11, :lo12:.Lconstant; ubfx x9, x9, #10, #1
 	eor x9, x9, #1; sub x0, x0, x9; read; return
-// RULE upper parts of two addresses compared | 
+// RULE upper parts of two addresses compared | computes with addresses
 	function; adrp x9, .Lconstant; adrp x10, .Lother; cmp x9, x10; b.eq 77f; add x0, x0, #1; 77:
 	add x9, x9, :lo12:.Lconstant; add x10, x10, :lo12:.Lother; read; return
-// RULE the end of a function compared with another function | 
+// RULE the end of a function compared with another function | compares addresses of which the distance depends on
 	function; adrp x9, 79f; add x9, x9, :lo12:79f; adrp x10, fotsgure_aes_wipe
 	add x10, x10, :lo12:fotsgure_aes_wipe; cmp x9, x10; b.ne 77f; add x0, x0, #1; 77:; read; return; 79:
 	.section .text.other,"ax",@progbits; .globl fotsgure_aes_wipe; .type fotsgure_aes_wipe,@function
 	fotsgure_aes_wipe:; hint #34; ret
-// RULE a constant at a distance from another one | 
+// RULE a constant at a distance from another one | reads constants of another section than the one from which the address was made
 	function; two_constants .quad, 1; adrp x9, .Lone; add x9, x9, :lo12:.Lone; sub x9, x9, #64
 	ldr x10, [x9]; sub x10, x10, #3; add x0, x0, x10; read; return
-// RULE x16 kept on the way into another section | 
+// RULE x16 kept on the way into another section | computes with a byte that is undefined: lost
 	function; mov x16, #1; b 78f; 77:; sub x16, x16, #1; add x0, x0, x16
 	.section .text.other,"ax",@progbits; .type other,@function; other:; hint #34; 78:; add x16, x16, #0
 	b 77b; code; read; return
-// RULE upper parts of two addresses exchanged | 
+// RULE upper parts of two addresses exchanged | accesses memory at
 	function; adrp x9, .Lconstant; adrp x10, .Lother; ldr x9, [x9, :lo12:.Lother]
 	ldr x10, [x10, :lo12:.Lconstant]; read; return
-// RULE an export that isn't marked as a function | 
+// RULE an export that isn't marked as a function | depends on what else is linked: fotsgure_aes_key_length
 	code; .globl fotsgure_aes_key_length; fotsgure_aes_key_length:; hint #34; read; return

@@ -43,7 +43,7 @@ fotsgure_aes_key_length_v2:
 	function; pushw %ax; popw %ax; xorl %eax, %eax; read; return
 # RULE a stack pointer that is deeper for a while | the stack pointer is deeper than the header says
 	function; subq $60000, %rsp; addq $60000, %rsp; read; return
-# RULE a sum with a negated address that is one more | and not
+# RULE a sum with a negated address that is one more | returns 17 and not 16
 	function; read; movl $1000, %eax; subq %rdi, %rax; subq $5, %rax; addq %rdi, %rax; subq $994, %rax
 	addq %rax, %rcx; return
 # RULE a negated address used as the address | an address depends on the key or on data
@@ -145,44 +145,44 @@ fotsgure_aes_key_length_v2:
 	return
 # RULE code that goes on in the section behind it | instruction not covered: int3
 	function; read; movq %rcx, %rax; xorl %ecx, %ecx; .section .text.behind,"ax",@progbits; retq
-# RULE zeros in the code, which write to an address | 
+# RULE zeros in the code, which write to an address | accesses memory at
 	function; .zero 32; read; return
-# RULE code that runs before all calls | 
+# RULE code that runs before all calls | has more than code and constants: .init_array
 	function; .section .init_array,"aw"; .quad 0; code; read; return
-# RULE room for a state of its own | 
+# RULE room for a state of its own | has more than code and constants: .data
 	function; .data; .quad 0; code; read; return
-# RULE room in memory that is never used | 
+# RULE room in memory that is never used | has more than code and constants: .bss
 	function; .lcomm room, 64; read; return
-# RULE a stack that may be run | 
+# RULE a stack that may be run | has more than code and constants: a stack that may be run
 	function; .pushsection .note.GNU-stack,"x",@progbits,unique,7; .popsection; read; return
-# RULE a note that asks for other processors | 
+# RULE a note that asks for other processors | a note that says something else of marks or processors
 	function; .pushsection .note.gnu.property,"a"; .long 4, 16, 5; .asciz "GNU"; .long 0xc0008002, 4, 8, 0
 	.popsection; read; return
-# RULE a second note without the marks of indirect calls | 
+# RULE a second note without the marks of indirect calls | a note that says something else of marks or processors
 	function; .pushsection .note.gnu.property,"a"; .long 4, 16, 5; .asciz "GNU"; .long 0xc0000002, 4, 0, 0
 	.popsection; read; return
-# RULE a section that a linker acts on, though it isn't loaded | 
+# RULE a section that a linker acts on, though it isn't loaded | has more than code and constants: .gnu.warning
 	function; .pushsection .gnu.warning,"",@progbits; .ascii "beware"; .popsection; read; return
-# RULE a function of libc that a program may do without | 
+# RULE a function of libc that a program may do without | is no line that an assembly file may have
 	function; .weak memset; read; return
-# RULE a file of the machine that builds | 
+# RULE a file of the machine that builds | is no line that an assembly file may have
 	function; .pushsection .note.fotsgure,"a"; .incbin "/etc/os-release"; .popsection; read; return
-# RULE other code by an assembler that keeps blanks | 
+# RULE other code by an assembler that keeps blanks | is no line that an assembly file may have
 	function; .ifnc a  b,a b; movb $1, (%rdi); .endif; read; return
-# RULE a function that another library may have | 
+# RULE a function that another library may have | depends on what else is linked: hook
 	function; .weak hook; movq hook@GOTPCREL(%rip), %rax; testq %rax, %rax; je 77f; callq *%rax; 77:; read
 	return
-# RULE an instruction that not all processors have | 
+# RULE an instruction that not all processors have | has an instruction that not all of its processors have
 	function; vpxor %xmm0, %xmm0, %xmm0; read; return
-# RULE an instruction that not all processors have, as bytes | 
+# RULE an instruction that not all processors have, as bytes | has an instruction that not all of its processors have
 	function; .byte 0xc4, 0xe2, 0x7d, 0x58, 0xc0; read; return
-# RULE a jump with a prefix, which is not covered | 
+# RULE a jump with a prefix, which is not covered | instruction not covered: data16 jmp
 	function; .byte 0x66; jmp 77f; 77:; read; return
-# RULE a store below the red zone | 
+# RULE a store below the red zone | accesses the stack below the red zone
 	function; movq %rax, -136(%rsp); read; return
-# RULE a function that nothing calls | 
+# RULE a function that nothing calls | has functions that no export leads to: unreached
 	function; read; return; unreached:; xorl %eax, %eax; retq
-# RULE a function of its own with the name of libc's | 
+# RULE a function of its own with the name of libc's | defines a name that is taken: memset
 	function; read; return; memset:; retq
-# RULE a function that another file may have instead | 
+# RULE a function that another file may have instead | depends on what else is linked: fotsgure_aes_key_length_v2
 	function; read; return; .weak fotsgure_aes_key_length_v2

@@ -26,7 +26,7 @@ fotsgure_aes_key_length_v3:
 	.long	0xc0000002, 4, 3, 0
 # RULE a function that does no more than it has to | proved
 	function; read; return
-# RULE round keys in the higher half of a register over memset | 
+# RULE round keys in the higher half of a register over memset | bytes in registers (key), in vector
 	function; movq %rdi, %r11; read; movq %rcx, %rax; xorl %ecx, %ecx; subq $24, %rsp; movq %rax, 16(%rsp)
 	vmovdqu 4(%r11), %ymm0; xorl %esi, %esi; xorl %edx, %edx; movq %rsp, %rdi
 	callq *memset@GOTPCREL(%rip); movq $0, (%rsp); movq $0, 8(%rsp); movq 16(%rsp), %rax; addq $24, %rsp
