@@ -330,6 +330,47 @@ static void tags(size_t row)
     }
 }
 
+/* The same tags of messages in pieces of each size up to 33, after a message that is left in its middle. */
+static void tags_in_pieces(size_t row)
+{
+    uint8_t key[32], message[64], wanted[16], tag[16];
+    struct fotsgure_aes aes;
+    struct fotsgure_aes_cmac_message kept, zeros = {0, 0, {0}, {0}};
+    from_hex(key, f_rows[row].key);
+    from_hex(message, f_plain);
+    expect(fotsgure_aes_set_key(&aes, key, f_rows[row].size) == FOTSGURE_AES_DONE, "a key is kept", f_rows[row].size);
+    memset(&kept, 0xa5, sizeof kept);
+    for (size_t i = 0; i < 4; i++) {
+        size_t length = cmac_lengths[i];
+        int right = 1;
+        from_hex(wanted, cmac_rows[row][i]);
+        for (size_t size = 1; size <= 33; size++) {
+            right &= fotsgure_aes_cmac_begin(&aes, &kept) == FOTSGURE_AES_DONE;
+            for (size_t at = 0; at < length; at += size)
+                right &= fotsgure_aes_cmac_update(&aes, &kept, message + at, size < length - at ? size : length - at) ==
+                    FOTSGURE_AES_DONE && fotsgure_aes_cmac_update(&aes, &kept, NULL, 0) == FOTSGURE_AES_DONE;
+            if (size % 2) {
+                right &= fotsgure_aes_cmac_finish(&aes, &kept, tag) == FOTSGURE_AES_DONE && !memcmp(tag, wanted, 16);
+            } else {
+                wanted[size % 16] ^= 1;
+                right &= fotsgure_aes_cmac_accept(&aes, &kept, wanted, 16) == FOTSGURE_AES_REFUSED;
+                wanted[size % 16] ^= 1;
+                right &= fotsgure_aes_cmac_accept(&aes, &kept, wanted, 3) == FOTSGURE_AES_TAG_LENGTH;
+                right &= fotsgure_aes_cmac_accept(&aes, &kept, wanted, 4 + size % 13) == FOTSGURE_AES_DONE;
+            }
+            right &= !memcmp(&kept, &zeros, sizeof kept);
+            right &= fotsgure_aes_cmac_update(&aes, &kept, message, 1) == FOTSGURE_AES_OUT_OF_TURN;
+            right &= fotsgure_aes_cmac_finish(&aes, &kept, tag) == FOTSGURE_AES_OUT_OF_TURN;
+            right &= fotsgure_aes_cmac_accept(&aes, &kept, wanted, 16) == FOTSGURE_AES_OUT_OF_TURN;
+            right &= fotsgure_aes_cmac_begin(&aes, &kept) == FOTSGURE_AES_DONE;
+            right &= fotsgure_aes_cmac_update(&aes, &kept, message, size) == FOTSGURE_AES_DONE;
+        }
+        expect(right, "CMAC in pieces", length);
+    }
+    fotsgure_aes_cmac_wipe(&kept);
+    expect(!memcmp(&kept, &zeros, sizeof kept), "a message is wiped", sizeof kept);
+}
+
 static void count_from(uint8_t *bytes, size_t count, unsigned first)
 {
     for (size_t i = 0; i < count; i++)
@@ -512,6 +553,7 @@ int main(void)
         counter_mode(f_rows[i].size, f_rows[i].key, f_rows[i].cipher);
         chains(i);
         tags(i);
+        tags_in_pieces(i);
         messages(i);
 #ifdef WITH_OPENSSL
         as_openssl(c_rows[i].size);

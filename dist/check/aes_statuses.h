@@ -43,6 +43,7 @@ static void calls_without_key(const struct fotsgure_aes *aes, size_t wiped)
     uint8_t text[48], bytes[48];
     struct fotsgure_aes_ctr ctr = {{0}, 5};
     struct fotsgure_aes_cbc cbc = {{7}};
+    struct fotsgure_aes_cmac_message tagged = {1, 0, {7}, {0}};
     size_t length = 7;
     fill(text, sizeof text, 7);
     memcpy(bytes, text, sizeof text);
@@ -60,6 +61,10 @@ static void calls_without_key(const struct fotsgure_aes *aes, size_t wiped)
         fotsgure_aes_unwrap_padded(aes, counted, 3, bytes, 2, &length) == FOTSGURE_AES_NO_KEY && length == 0 &&
         fotsgure_aes_cmac(aes, counted, 5, bytes) == FOTSGURE_AES_NO_KEY &&
         fotsgure_aes_cmac_verify(aes, counted, 5, bytes, 3) == FOTSGURE_AES_NO_KEY &&
+        fotsgure_aes_cmac_begin(aes, &tagged) == FOTSGURE_AES_NO_KEY &&
+        fotsgure_aes_cmac_update(aes, &tagged, counted, 17) == FOTSGURE_AES_NO_KEY &&
+        fotsgure_aes_cmac_finish(aes, &tagged, bytes) == FOTSGURE_AES_NO_KEY &&
+        fotsgure_aes_cmac_accept(aes, &tagged, counted, 3) == FOTSGURE_AES_NO_KEY && tagged.value[0] == 7 &&
         fotsgure_aes_ccm_seal(aes, counted, 5, counted, 9, bytes, 9, bytes + 16, 8) == FOTSGURE_AES_NO_KEY &&
         fotsgure_aes_ccm_open(aes, counted, 5, counted, 9, bytes, 9, counted, 8) == FOTSGURE_AES_NO_KEY &&
         fotsgure_aes_encrypt_blocks(aes, NULL, 0) == FOTSGURE_AES_NO_KEY &&

@@ -28,6 +28,7 @@ static struct run {
     struct fotsgure_aes aes;
     struct fotsgure_aes_ctr ctr;
     struct fotsgure_aes_cbc cbc;
+    struct fotsgure_aes_cmac_message tagged;
     struct fotsgure_gcm gcm;
     struct fotsgure_gcm_siv siv;
     struct fotsgure_gcm_message message;
@@ -89,6 +90,24 @@ static int stream_in_pieces(void)
 {
     IN_PIECES(fotsgure_aes_add_keystream(&now.aes, &now.ctr, at, n), now.data, now.bytes);
     return 0;
+}
+
+static void tag_of_pieces(void)
+{
+    keep_first_status((int)fotsgure_aes_cmac_begin(&now.aes, &now.tagged));
+    IN_PIECES(fotsgure_aes_cmac_update(&now.aes, &now.tagged, at, n), now.data, now.bytes);
+}
+
+static int tag_in_pieces(void)
+{
+    tag_of_pieces();
+    return (int)fotsgure_aes_cmac_finish(&now.aes, &now.tagged, now.tag);
+}
+
+static int accept_in_pieces(void)
+{
+    tag_of_pieces();
+    return (int)fotsgure_aes_cmac_accept(&now.aes, &now.tagged, now.tag, 16);
 }
 
 /* Planted faults. Each has to be found: by its instructions, by nothing but its addresses, or by what it leaves. */
@@ -202,6 +221,10 @@ _Static_assert((int)REFUSED == (int)FOTSGURE_GCM_REFUSED, "one number");
     IT(cmac, OF_MESSAGES, CMAC, PLAIN, PLAIN, 0, fotsgure_aes_cmac(&now.aes, TEXT, now.tag)) \
     IT(cmac_verify, OF_MESSAGES, CMAC, PLAIN, PLAIN, 0, fotsgure_aes_cmac_verify(&now.aes, TEXT, now.tag, 16)) \
     IT(cmac_refused, OF_MESSAGES, CMAC, PLAIN, PLAIN, REFUSED, fotsgure_aes_cmac_verify(&now.aes, TEXT, now.tag, 16)) \
+    IT(cmac_pieces, OF_MESSAGES, CMAC, PLAIN, PLAIN, 0, tag_in_pieces()) \
+    IT(cmac_pieces_accepted, OF_MESSAGES, CMAC, PLAIN, PLAIN, 0, accept_in_pieces()) \
+    IT(cmac_pieces_refused, OF_MESSAGES, CMAC, PLAIN, PLAIN, REFUSED, accept_in_pieces()) \
+    ALONE(IT, cmac_wipe, (fotsgure_aes_cmac_wipe(&now.tagged), 0)) \
     IT(ccm_seal, OF_MESSAGES, CCM, PLAIN, SEALED, 0, fotsgure_aes_ccm_seal(&now.aes, now.nonce, 13, MESSAGE, now.tag, 16)) \
     IT(ccm_open, OF_MESSAGES, CCM, SEALED, PLAIN, 0, fotsgure_aes_ccm_open(&now.aes, now.nonce, 13, MESSAGE, now.tag, 16)) \
     IT(ccm_open_refused, OF_MESSAGES, CCM, SEALED, SEALED, REFUSED, fotsgure_aes_ccm_open(&now.aes, now.nonce, 13, MESSAGE, now.tag, 16)) \

@@ -1,8 +1,10 @@
 """States the calls of fotsgure_aes.h for blocks, counter mode and CBC. Each statement quotes the sentence of the header that it proves
-(keyed.py says how). The statements for the other calls are in key_wrap.py, cmac_ccm.py, any_ccm.py and single_rounds.py."""
+(keyed.py says how). The statements for the other calls are in key_wrap.py, cmac_ccm.py, cmac_pieces.py, any_ccm.py and
+single_rounds.py."""
 import itertools
 
 from aes_statements.any_ccm import AnyCcm
+from aes_statements.cmac_pieces import CmacPieces
 from aes_statements.key_wrap import KeyWrap
 from aes_statements.single_rounds import SingleRounds
 from loops.joints import Part
@@ -21,7 +23,7 @@ LEFT_OF_CBC = {"data": 2 * 16 * BATCH}  # bytes of encrypted blocks, of two batc
 LEFT_OF_COUNTER_MODE = {"keystream": 8 * 16}  # bytes of eight blocks, which are processed at once
 
 
-class KeyedAes(SingleRounds, AnyCcm, KeyWrap, Keyed):
+class KeyedAes(SingleRounds, AnyCcm, CmacPieces, KeyWrap, Keyed):
     """Has the statements for all calls of fotsgure_aes.h. Those for blocks, counter mode and CBC are here."""
 
     # Blocks.
@@ -337,6 +339,7 @@ class KeyedAes(SingleRounds, AnyCcm, KeyWrap, Keyed):
                 yield Call("aes_%s_blocks_with" % direction, [*arguments, blocks, n], KEY_LENGTH, facts=facts)
             yield Call("aes_add_keystream_with", [*arguments, self.ctr(k), unused_buffer("bytes"), n], KEY_LENGTH, facts=facts)
         yield from self.cmac_refused()
+        yield from self.cmac_pieces_refused()
         yield from self.ccm_refused()
 
     def ctr(self, position):

@@ -49,18 +49,22 @@ class CmacCcm:
     def message_and_tag(self, length):
         """Gives a message, the steps of the call, and the tag (6.2)."""
         before = max(length - 1, 0) // 16
-        rest = self.block_bytes[:length - 16 * before]
-        first = doubled(self.domain, self.cipher_of(ZEROS))  # subkeys (6.1)
-        subkey = first if len(rest) == 16 else doubled(self.domain, first)
-        last = self.aes.xor(self.in_block((rest + [0x80] + ZEROS)[:16], before), subkey)
-        # What is already added to the last block when the step looks for it.
-        added = ZEROS if self.steps_appear_in == "vector" else self.value(before)
+        last_step, tag = self.last_step(self.in_block(self.block_bytes[:length - 16 * before], before), before)
 
         def steps():
             yield from self.chain_steps([self.block_bytes] * before)
-            yield "block", self.aes.xor(last, added), self.last_sum
-        tag = self.next_value(self.last_sum, before) if added == ZEROS else self.cipher_of(self.last_sum)
+            yield last_step
         return self.in_blocks(self.block_bytes, length), steps, tag
+
+    def last_step(self, rest, before):
+        """Gives the step that adds a subkey to the last block, which has these bytes, and the tag."""
+        first = doubled(self.domain, self.cipher_of(ZEROS))  # subkeys (6.1)
+        subkey = first if len(rest) == 16 else doubled(self.domain, first)
+        last = self.aes.xor((rest + [0x80] + ZEROS)[:16], subkey)
+        # What is already added to the last block when the step looks for it.
+        added = ZEROS if self.steps_appear_in == "vector" else self.value(before)
+        tag = self.next_value(self.last_sum, before) if added == ZEROS else self.cipher_of(self.last_sum)
+        return ("block", self.aes.xor(last, added), self.last_sum), tag
 
     def cmac(self, length):
         """CMAC (SP 800-38B, 6.2; RFC 4493): writes the tag of a message .. DONE"""

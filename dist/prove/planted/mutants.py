@@ -1,10 +1,12 @@
 """Changes instructions that ran in a call: one is dropped, its condition is turned, its constant is changed, or two of its operands are
 exchanged. A change is of the line that objdump prints. The proof of the call has to refuse it, or it breaks no promise (inputs.py)."""
 import bisect
+import functools
 import itertools
 import random
 import re
 
+from machines.machine import MOST_STEPS
 from planted.inputs import TIMES, Inputs
 from symbols.bits import Unproved
 
@@ -134,13 +136,13 @@ class Mutants:
         def noting(address):
             instruction = decoded(address)
             return instruction._replace(run=has_effect(instruction.run, used))
-        self.program.decoded = noting
+        self.program.decoded, self.program.machine.most_steps = noting, MOST_STEPS
         try:
             steps = self.prove().steps
         finally:
             del self.program.decoded
             self.change(None, None)
-        self.program.machine.most_steps = 3 * steps + 20000  # (a loop that doesn't end any more)
+        self.program.machine.most_steps = 10 * steps + 50000  # (a loop may not end any more)
         starts, by_function = sorted(self.program.function_of), {}
         for address in sorted(filter(self.program.is_own, used)):
             by_function.setdefault(bisect.bisect(starts, address), []).append(address)
@@ -151,7 +153,6 @@ class Mutants:
 
     def verdicts(self):
         """Gives (whether it is refused, or else breaks no promise; what to print) of each change."""
-        inputs = []
         for address in self.chosen():
             line = self.program.lines[address]
             for kind, text in [*mutants(self.program, address)]:
@@ -161,12 +162,15 @@ class Mutants:
                 except Exception as e:  # (a fault of the program, by which a case isn't proved)
                     yield True, "refused: %s: %s" % (what, str(e)[:100])
                     continue
-                inputs = inputs or [Inputs(self.keyed, self.call, k) for k in range(TIMES)]
-                yield self.compared(what, inputs, address, text)
+                yield self.compared(what, address, text)
 
-    def compared(self, what, inputs, address, text):
+    @functools.cached_property
+    def inputs(self):
+        return [Inputs(self.keyed, self.call, k) for k in range(TIMES)]
+
+    def compared(self, what, address, text):
         """Gives the verdict on a change that the proof doesn't refuse."""
-        right = self.program.lines[address]
+        right, inputs = self.program.lines[address], self.inputs
         try:
             self.change(address, text)
             same = all([one.judge() for one in inputs])

@@ -2,6 +2,7 @@
 import re
 import subprocess
 
+from aes_statements import cmac_pieces
 from gcm_statements import gcm_header, siv
 from linked.builds import BUILDS, library_of
 from linked.refusals import fault_of
@@ -23,7 +24,8 @@ def structs_of(library, machine, round_keys, multiples):
     key = {"key_length": 0, "round_keys": word}
     return {
         "aes": {"fotsgure_aes": (121 * word, word, key), "fotsgure_aes_ctr": (24, 8, {"iv": 0, "position": 16}),
-                "fotsgure_aes_cbc": (16, 1, {"previous": 0})},
+                "fotsgure_aes_cbc": (16, 1, {"previous": 0}),
+                "fotsgure_aes_cmac_message": (cmac_pieces.MESSAGE, 8, {"begun": 0, "rest_length": 8, "value": 16, "rest": 32})},
         "gcm": {"fotsgure_gcm": (word + round_keys + multiples, word, {**key, "multiples": word + round_keys}),
                 "fotsgure_gcm_siv": (121 * word, word, key), "fotsgure_gcm_counter": (12, 1, {"next": 0}),
                 "fotsgure_gcm_message": (gcm_header.MESSAGE, 8, {

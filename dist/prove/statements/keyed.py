@@ -12,8 +12,10 @@ from symbols.bits import BLOCK, DATA, KEY, ONES, Unproved, linear_bits
 from symbols.domain import Domain
 
 # fotsgure_aes.h's enum, structs and sizes. headers.py lets the compiler compare them.
-DONE, KEY_LENGTH, NO_KEY, UNEQUAL_COUNTS, KEYSTREAM_END, INVALID_COUNT, REFUSED, TAG_LENGTH, NONCE_LENGTH, TOO_LONG = range(10)
-STATUSES = "DONE KEY_LENGTH NO_KEY UNEQUAL_COUNTS KEYSTREAM_END INVALID_COUNT REFUSED TAG_LENGTH NONCE_LENGTH TOO_LONG".split()
+(DONE, KEY_LENGTH, NO_KEY, UNEQUAL_COUNTS, KEYSTREAM_END, INVALID_COUNT, REFUSED, TAG_LENGTH, NONCE_LENGTH, TOO_LONG,
+ OUT_OF_TURN) = range(11)
+STATUSES = ("DONE KEY_LENGTH NO_KEY UNEQUAL_COUNTS KEYSTREAM_END INVALID_COUNT REFUSED TAG_LENGTH NONCE_LENGTH TOO_LONG "
+            "OUT_OF_TURN").split()
 STRUCT = 484
 # How builds keep round keys: the bytes of a schedule, and of a word of the key in it. Narrow builds keep bits in planes of words. With
 # words of 4 bytes they keep each bit twice, for two blocks at once, and with words of 8 bytes four times, for four. Their schedule serves
