@@ -1,21 +1,16 @@
-"""Runs the controls of the proof: faults that are planted in the assembly, code that no case reaches (both in faults.py), wrong guesses of
-states at joints (wrong_states.py), faults in other files (wrong_files.py), and wrong meanings of instructions. Each has to be refused. Run
-it as `make prove-controls` in dist.
+"""Runs the controls of the proof: faults that are planted in the assembly (faults.py), wrong guesses of states at joints (wrong_states.py),
+faults in other files (wrong_files.py), and wrong meanings of instructions. Each has to be refused. Run it as `make prove-controls` in dist.
 
 A fault is refused if the case that it names is not proved any more. That is a case of PROVE=builds. For Windows, `_v1` and RISC-V, and for
 every length, it is one of PROVE=all. A fault for which a build has no place counts as missed. Any other failure ends the controls:
-one of gcc or ld, a case that isn't there, or a planted instruction that isn't covered, unless that is the fault."""
+one of gcc or ld, a case that isn't there, or a planted instruction that the program doesn't know, unless that is the fault."""
 import argparse
 import functools
 import re
 import shutil
 import sys
-from collections import Counter
 
 from cases import LIBRARIES, statements
-from covered import uncovered, uncovered_record
-from covered.code_places import Places
-from covered.noted import joined_coverage
 from kept import sum_of_program
 from linked.builds import BUILDS, source, takes_few
 from linked.directives import refuse_lines
@@ -23,7 +18,7 @@ from linked.linking import assemble
 from loops import joints
 from machines.native import NEVER_ALONE, compare_all
 from machines.processors import MEANINGS, PROCESSORS
-from planted.faults import BUILDS_WITH_FAULTS, faults_of, is_unreached
+from planted.faults import BUILDS_WITH_FAULTS, faults_of
 from planted.wrong_files import WRONG_FILES
 from planted.wrong_states import BUILD, CASE, WRONG_STATES
 from prove import cases_of_files, last_line, options_of
@@ -70,31 +65,6 @@ def edited_assembly(assembly, fault):
     return assembly, line
 
 
-def uncovered_of(program, function):
-    """Gives what the cases that ran don't reach of a function: {its name: {kind: descriptions of places}}."""
-    found, places = uncovered.uncovered_functions(program, joined_coverage([program.covered()]), True), Places(program)
-    found = {name: left for name, left in found.items() if re.search(function, uncovered.plain(name) + ":")}
-    return {uncovered.recorded_name(name): {kind: Counter(texts) for kind, texts in descriptions_of(places, left)}
-            for name, left in found.items()}
-
-
-def descriptions_of(places, left):
-    """Describes the places of each kind without their addresses, since a planted line moves the places after it."""
-    yield "idle", [places.lines[a] for a in left.idle]
-    for kind in ("one_way", "one_value", "apart", "same", "follows"):
-        yield kind, [places.description(a, None if kind == "apart" else way) for a, way in getattr(left, kind).items()]
-    yield "look_ups", [places.description(a, None) for a in left.look_ups]
-
-
-def refuse_unreached(found, usual):
-    """Refuses uncovered places that the unchanged assembly, under the same cases, doesn't have."""
-    for name, left in found.items():
-        for kind, places in left.items():
-            more = places - usual.get(name, {}).get(kind, Counter())
-            if more:
-                raise Unproved("unreached: %s: %s: %s" % (name, uncovered_record.KINDS[kind], " | ".join(more)))
-
-
 class Planted:
     """Keeps the assembly of a build, in which faults are planted, and the cases that the build has with keys of one size. What runs at
     the same time has another `task`, and files of its own."""
@@ -129,35 +99,25 @@ class Planted:
             file.write(assembly)
         keyed.program = assemble(self.build, self.out + ".s", self.out)
         for case in cases:
-            keyed.program.noted.accepts = "refused" not in case
             if self.cases[case]:
                 keyed.prove_statement(self.cases[case], parameters=self.parameters)
             else:
                 type(keyed)(keyed.program, keyed.key_size).set_key()
         refuse_lines(self.out + ".s", BUILDS[self.build])
 
-    def left_by(self, assembly, cases, function):
-        """Gives what these cases leave uncovered of a function in this assembly."""
-        self.prove_cases(assembly, cases)
-        return uncovered_of(self.keyed.program, function)
-
     def try_fault(self, fault, kept):
         """Gives the verdict on a fault."""
         changed, line = edited_assembly(self.assembly, fault)
         if changed in (None, self.assembly):
             return False, "MISSED: %s (%s): there is no such place, or nothing changes" % (fault.what, self.build)
-        name = kept.name("fault", self.build, self.keyed.key_size, self.unchanged, changed, fault.what, fault.label,
-                         fault.cases(), is_unreached(fault, self.build))
+        name = kept.name("fault", self.build, self.keyed.key_size, self.unchanged, changed, fault.what, fault.cases())
         return kept_verdict(kept, name, lambda: self.verdict_of_cases(fault, changed, line))
 
     def verdict_of_cases(self, fault, changed, line):
-        """Gives the verdict on a fault. Its case has to refuse it, or its cases have to leave it uncovered."""
+        """Gives the verdict on a fault. Its case has to refuse it."""
         what, cases = "%s (%s.s:%d, %s)" % (fault.what, self.build, line, fault.case), fault.cases()
         self.find(cases)
-        if not is_unreached(fault, self.build):
-            return verdict(what, lambda: self.prove_cases(changed, cases))
-        usual = self.left_by(self.assembly, cases, fault.label)
-        return verdict(what, lambda: refuse_unreached(self.left_by(changed, cases, fault.label), usual), "unreached")
+        return verdict(what, lambda: self.prove_cases(changed, cases))
 
 
 def try_faults(options, build):

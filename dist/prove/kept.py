@@ -9,17 +9,14 @@ import stat
 import sys
 import time
 
-from covered.constant_results import Result
-from covered.following_results import Differences, PlaceDifferences
-from covered.noted import Covered
 from linked.builds import MACHINES
 from linked.linking import PROVE_FOLDER
 from machines.operands import Pointer
 from machines.processors import PROCESSORS
 
-RECORDS = {record.__name__: record for record in (Covered, Differences, PlaceDifferences, Pointer, Result)}
+RECORDS = {record.__name__: record for record in (Pointer,)}
 CONTAINERS = {container.__name__: container for container in (dict, frozenset, list, set, tuple)}
-OF_ONE_RUN = "path", "machine", "cache", "noted", "other"  # what `sum_of_program` leaves out, or reads otherwise
+OF_ONE_RUN = "path", "machine", "cache", "ran", "refuses", "other"  # what `sum_of_program` leaves out, or reads otherwise
 OF_PROCESSOR = "vendor_id", "cpu family", "model", "stepping", "microcode", "flags"  # in /proc/cpuinfo
 
 

@@ -7,12 +7,12 @@ import shutil
 import sys
 import time
 
-from covered.report import judge_again, keep_coverage, print_what_ran
 from kept import Kept
-from linked.builds import BUILDS, KEY_SIZES, MACHINES, assembly_of, library_of
+from linked.builds import BUILDS, KEY_SIZES, MACHINES, library_of
 from linked.linking import PROVE_FOLDER, Built, built_cases, rust_cases
 from linked.refusals import line_cases
 from machines.processors import PROCESSORS
+from not_run import faults_of_run
 from statements.choices import choice_cases
 from statements.headers import header_cases
 from statements.standards import pinned
@@ -48,8 +48,7 @@ def options_of(description, level=os.environ.get("PROVE", "")):
     parser.add_argument("--builds", type=lambda s: s.split(","))
     parser.add_argument("--keys", type=lambda s: [int(n) for n in s.split(",")], default=KEY_SIZES)
     parser.add_argument("--only", default="", help="calls, or faults, that have this in their name")
-    parser.add_argument("--record", action="store_true", help="with the level builds: writes what stays uncovered into uncovered.tsv")
-    parser.add_argument("--again", action="store_true", help="judges, or records, what the last run below --out covered; proves nothing")
+    parser.add_argument("--record", action="store_true", help="writes how much doesn't run, not_run.tsv, for this level and these builds")
     parser.add_argument("--anew", action="store_true", help="uses nothing that earlier runs proved")
     parser.add_argument("--lines", action="store_true", help="a line for each case, which is proved anew")
     parser.add_argument("--jobs", type=int, default=os.cpu_count())
@@ -57,15 +56,12 @@ def options_of(description, level=os.environ.get("PROVE", "")):
     os.makedirs(options.out, exist_ok=True)
     if options.level not in LEVELS:
         parser.error("PROVE may be " + " or ".join(LEVELS[1:]))
-    if options.record and options.level != "builds":
-        parser.error("what stays uncovered is recorded with PROVE=builds")
     folder = options.built[0] or "x86_64"
     options.builds = options.builds or [build for build in BUILDS if options.level or build.startswith(folder + "/")]
     if set(options.builds) - set(BUILDS):
         parser.error("the builds are " + ", ".join(BUILDS))
-    of_same_files = {build for build in BUILDS if assembly_of(build) in map(assembly_of, options.builds)}
-    if options.record and (options.only or options.keys != KEY_SIZES or of_same_files != {*options.builds}):
-        parser.error("only whole assembly files are recorded: all cases, all keys, and siv together with gcm")
+    if options.record and (options.only or options.keys != KEY_SIZES):
+        parser.error("only all cases with all keys are recorded")
     print_what_is_missing({BUILDS[build]: None for build in options.builds})
     all_builds, options.kept = options.builds, Kept(options.dist, options.anew)
     options.builds = [build for build in all_builds if not missing(BUILDS[build])]
@@ -127,8 +123,6 @@ def print_cases(cases):
 def main():
     """Proves all cases, prints the results, and gives whether anything failed."""
     options = options_of(__doc__)
-    if options.again:
-        return judge_again(options)
     start, tasks = time.time(), []
     vectors = pinned(Domain())
     proved, failed = print_cases(cases_of_files(options))
@@ -139,9 +133,11 @@ def main():
             proved, failed, vectors = proved + task.proved, failed + task.failed, vectors + task.vectors
             tasks.append(task)
         forms, lacking, differed = compare_forms(pool, tasks, options.kept)
-    keep_coverage(tasks, options)
     alike, unlike = print_cases(kept_cases(tasks))
-    proved, failed = proved + alike, failed + unlike + differed + print_what_ran(tasks, options)
+    faults = faults_of_run(tasks, options)
+    for fault in faults:
+        print("NOT PROVED: " + fault)
+    proved, failed = proved + alike, failed + unlike + differed + len(faults)
     print("%d forms of instructions; not confirmed by the processor: %s" % (
         forms, ", ".join("%s of %s" % (form, machine.__name__) for machine, form in lacking) or "none"))
     # If there is a processor, a form that it didn't confirm counts as failed.

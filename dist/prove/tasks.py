@@ -18,7 +18,7 @@ from symbols.bits import Unproved
 
 SEED = 1
 FORMS_IN_A_MINUTE = 500  # that a processor compares
-RESULTS = "proved", "failed", "vectors", "used", "compared", "calls", "kept_key", "covered"  # what is kept of a Task
+RESULTS = "proved", "failed", "vectors", "used", "compared", "calls", "kept_key", "ran"  # what is kept of a Task
 
 # Calls that also run on the processor: by default, with builds of few lengths, on RISC-V, and with all lengths.
 BESIDE = "blocks encrypt 17", "add_keystream 21 11 1", "seal 13 33"
@@ -37,7 +37,7 @@ class Task:
         calls             the names of the calls that cases prove
         program           the sum of the linked program, in names of results (kept.py)
         is_kept           whether an earlier run proved it
-        kept_key          how set_key stores keys; and `covered`: what the cases cover. They are None until all cases have run"""
+        kept_key          how set_key stores keys; and `ran`: what ran, by exports (not_run.py). They are None until all cases have run"""
 
     def __init__(self, options, build, key_size, part, parts):
         self.options, self.build, self.machine = options, build, BUILDS[build]
@@ -49,7 +49,7 @@ class Task:
         self.failed, self.vectors = 0, 0
         self.used = {}
         self.compared, self.calls = set(), set()
-        self.kept_key, self.covered = None, None
+        self.kept_key, self.ran = None, None
         self.program, self.is_kept = None, False
 
     def run(self):
@@ -88,13 +88,13 @@ class Task:
             parameters = parameters_of(self.options.dist, self.library)
             for what, call in statements(keyed, self.options, self.part, self.parts):
                 self.calls |= keyed.calls
-                program.noted.accepts = "refused" not in what
+                program.refuses = "refused" in what
                 self.case(what, lambda seed: keyed.prove_statement(call, seed, parameters))
                 if "refused" in what:
                     keyed.calls = set()
             self.calls |= keyed.calls
             self.kept_key = keyed.kept_key()
-        self.covered = program.covered()
+        self.ran = program.ran_by_exports()
 
     def beside(self):
         """Gives the cases that also run on the processor."""

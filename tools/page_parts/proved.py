@@ -32,7 +32,7 @@ doesn't have 12 bytes, J_0 is any block. In messages in pieces it is any block w
 - *Every*: with each size of key, the builds of *first*, with `PROVE=all`. Then they have what *every* doesn't cover of *remainders*,
   *lengths 24, 32* and *all*, and with keys of 24 and 32 bytes of *first*.
 
-Each build and each size of key also has `set_key` and [all refusals](LENGTHS.md#longest-lengths-borders-and-refusals).
+Each build and each size of key also has `set_key` and [all refusals](LENGTHS.md#longest-lengths-and-refusals).
 """
 RISCV = """
 ## RISC-V

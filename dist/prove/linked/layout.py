@@ -4,7 +4,6 @@ import random
 import re
 from itertools import pairwise
 
-from covered.code_places import Places
 from linked.elf import EXECUTED, LOADED, MERGED, UNDEFINED, Elf
 from linked.tools import run, write
 from machines.operands import Memory, concatenated, is_int, lanes
@@ -12,6 +11,9 @@ from machines.x86_64 import Windows
 from symbols.bits import Unproved
 
 MOVED_BY = 0x1235000  # how much higher the addresses of the other link are, with which numbers are compared
+TARGET = r"\b(?:0x)?[0-9a-f]+ <[^>]*>"  # an address in the code, as objdump prints it
+NUMBER = r"#?-?\b(?:0x[0-9a-f]+|\d+)\b"
+PAGE = r"(?:adrp|(?:c\.)?auipc)\t(\w+)"  # finds the register that gets a part of an address, if code makes an address in two steps
 NO_STACK = '\t.section\t.note.GNU-stack,"",%progbits\n'
 OF_HOST = "start", "memmove", "memcpy", "memset"  # the functions of host.c
 # Windows' linker needs room between sections. Tables for unwinding are left out. Around constants both links have other bytes.
@@ -107,7 +109,7 @@ def words_of_table(program):
 def compare_links(program, other, path):
     """Refuses instructions that have other numbers in another link, except in addresses. Notes how much higher each section is there, and
     by how much the numbers of instructions differ. A direct jump has to lead to the same place."""
-    here, there = Places(program), Places(other)
+    here, there = lines_of(program), lines_of(other)
     units = zip(places_of_units(program, path), places_of_units(other, path), strict=True)
     program.units = sorted((at, at + size, moved - at) for (at, size), (moved, _) in units)
     program.own_units = {at for _, at, _, file in sections_in(program) if file == path}
@@ -117,13 +119,35 @@ def compare_links(program, other, path):
             raise Unproved("another link moves two sections alike")
     if program.machine is not Windows:
         refuse_other_addresses(program.machine, Elf(path))
-    for name, addresses in here.functions.items():
-        lines, others = ([places.lines[a] for a in places.functions[name]] for places in (here, there))
-        if lines != others:
+    for name, lines in here.items():
+        if [*lines.values()] != [*there[name].values()]:
             raise Unproved("has a number that depends on where code lies, in " + name)
-        for a, b in zip(addresses, there.functions[name]):
+        for a, b in zip(lines, there[name]):
             compare_numbers(program, a, other, b)
     program.other, program.related = other, {*related_constants(program, path)}
+
+
+def lines_of(program):
+    """Gives {function: {address: the line without addresses}}."""
+    return {name: dict(zip(sorted(addresses), without_addresses(program, sorted(addresses))))
+            for name, addresses in program.functions().items()}
+
+
+def without_addresses(program, addresses):
+    """Gives the lines of a function without addresses. A register that got the upper part of one holds a part until it is written again.
+    (Jumps don't count. So a load with such a register counts everywhere in the function.)"""
+    ever = {page[1] for page in (re.match(PAGE, program.lines[a]) for a in addresses) if page}
+    pages = set()
+    for address in addresses:
+        text = re.sub(r"\s*%s.*" % program.machine.comment, "", program.lines[address])
+        text = re.sub(r"\[rip[^\]]*\]", "[rip]", re.sub(TARGET, "to", text))
+        used = re.split(r"\W+", text)
+        page = re.match(PAGE, text)
+        if page or pages & {*used[1:]} or used[0] == "ldr" and ever & {*used[2:]}:
+            text = re.sub(r"\[(\w+)\]", r"[\1, part]", re.sub(NUMBER, "part", text))  # (0 isn't printed)
+        pages -= {*used[1:2]} if not page else set()
+        pages |= {page[1]} if page else set()
+        yield text
 
 
 def compare_numbers(program, at, other, there):

@@ -4,7 +4,6 @@ import functools
 import re
 import subprocess
 
-from covered.noted import Noted
 from linked.elf import CONTENT, FLAGS, LOADED, Elf
 from machines.machine import LIBC
 from machines.operands import CODE, FARTHEST, PAGE, Pointer, lanes
@@ -17,7 +16,8 @@ class Program:
         """`suffix`: how the names of its exports end."""
         self.path, self.machine = path, machine
         self.lines, self.cache = self.disassembled(), {}
-        self.noted = Noted()
+        # What ran in cases, by the address where a call begins (not_run.py); and whether the calls that run now are refused.
+        self.ran, self.refuses = {}, False
         addresses = list(self.lines)
         self.next = dict(zip(addresses, addresses[1:]))
         symbols = re.findall(r"(?m)^([0-9a-f]+) (\S) (.*)$", self.tool("nm"))
@@ -146,9 +146,32 @@ class Program:
         """Whether an address is in the linker's table of addresses."""
         return any(content is self.addresses and start <= address < start + len(content) for start, content in self.constants)
 
-    def covered(self):
-        """Gives what the cases that ran cover. (An instruction that was decoded ran.)"""
-        return self.noted.covered(self.cache)
+    def ran_from(self, entry):
+        """Gives what a call notes that begins here: {address: the instruction that ran}, and (the address of a jump, where it led). Refused
+        calls have any length, so the ways of their jumps don't count."""
+        ran, ways = self.ran.setdefault(entry, ({}, set()))
+        return ran, set() if self.refuses else ways
+
+    def ran_by_exports(self):
+        """Gives {export: (the addresses of instructions that ran, the ways of jumps)}."""
+        found = ((name, self.ran.get(address, ({}, set()))) for name, address in self.exports.items())
+        return {name: ({*ran}, ways) for name, (ran, ways) in found}
+
+    def reached_by_exports(self, functions):
+        """Gives {export: the names of the functions to which it leads}: its own, those whose addresses its lines name, and so on."""
+        function_of = {address: name for name, addresses in functions.items() for address in addresses}
+        targets = {name: (int(target, 16) for a in addresses for target in re.findall(r"\b[0-9a-f]{8,12}\b", self.lines[a]))
+                   for name, addresses in functions.items()}
+        leads_to = {name: {function_of[target] for target in some if target in function_of} for name, some in targets.items()}
+
+        def reached_from(name):
+            waiting, reached = [name], set()
+            while waiting:
+                name = waiting.pop()
+                waiting += leads_to[name] if name not in reached else ()
+                reached.add(name)
+            return reached
+        return {export: reached_from(function_of[address]) for export, address in self.exports.items()}
 
     def instruction_at(self, address):
         """Gives the instruction at an address."""

@@ -112,21 +112,6 @@ def refuse_instructions(program, suffix):
             raise Unproved("has an instruction that not all of its processors have: " + line)
         if re.match(machine.jumps_to_mark, line):
             raise Unproved("has an indirect jump or call that arrives where a mark has to be: " + line)
-    refuse_unreached(program, functions)
-
-
-def refuse_unreached(program, functions):
-    """Refuses functions that no export leads to."""
-    function_of = {address: name for name, addresses in functions.items() for address in addresses}
-
-    def mentioned(name):
-        targets = (target for address in functions[name] for target in re.findall(r"\b[0-9a-f]{8,12}\b", program.lines[address]))
-        return {function_of.get(int(target, 16)) for target in targets} - {None}
-    waiting, reached = [function_of[address] for address in program.exports.values()], set()
-    while waiting:
-        name = waiting.pop()
-        if name not in reached:
-            reached.add(name)
-            waiting += mentioned(name)
+    reached = set().union(*program.reached_by_exports(functions).values())
     if reached != set(functions):
         raise Unproved("has functions that no export leads to: " + ", ".join(sorted(set(functions) - reached)))

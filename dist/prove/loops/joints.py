@@ -315,7 +315,6 @@ def rewrite(state, number, name):
         return b if all(map(is_written, numbers)) else state.any_byte()
     state.each_byte(kept)
     state.general = {r: v if type(v) is tuple or is_written(v) else (state.any_byte(),) * state.word for r, v in state.general.items()}
-    state.numbers_by_frame = tuple((at, tuple(filter(is_written, numbers))) for at, numbers in state.numbers_by_frame)
     state.flags = dict.fromkeys(state.flag_names)
     state.facts = frozenset()
     state.replace_numbers(lambda x: rewritten(x, number, name))

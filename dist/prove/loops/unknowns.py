@@ -177,7 +177,6 @@ class Unknowns:
                 for what in region.numbers:
                     setattr(region, what, new(getattr(region, what)))
         self.counter, self.steps_found = new(self.counter), new(self.steps_found)
-        self.numbers_by_frame = tuple((at, tuple(map(new, numbers))) for at, numbers in self.numbers_by_frame)
         self.loops, self.expected_step = {}, None
 
     def renumbered(self, b, new):

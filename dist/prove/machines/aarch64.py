@@ -5,7 +5,6 @@ import functools
 import re
 from collections import namedtuple
 
-from covered.borders import distances
 from loops.linear import Linear
 from machines.machine import Machine
 from machines.operands import (RETURN_ADDRESS, SECRET, Instruction, Memory, Register, Scaled, Table, Vector, concatenated,
@@ -42,14 +41,7 @@ class Aarch64(Machine):
     trap = "LONG(0) "
     relocations = {**dict.fromkeys((275, 311), "page"), **dict.fromkeys((277, 278, 284, 285, 286, 299, 312), "low"),
                    **dict.fromkeys((282, 283), "distance")}
-    conditional, padding = r"b\.|cbn?z|tbn?z|adcs?\s|sbcs?\s|csinc\s.*, c[cs]\b", r"hint\s#0x0$|udf"
-    sets_flags = "adds|subs|ands|bics|adcs|sbcs|ccmp|ccmn"
-    without_result, stores = r"b$|b\.|blr?$|br$|ret|cbn?z|tbn?z|ccmp|hint|prfm", "st"
-    only_writes = "(?!movk|bfm|ins|usra)"
-    moves = "ldu?r|stu?r|ldp|stp"
-    cancels = "eor|sub"
-    two_results, affine = "ldp", "(add|sub)s?"
-    choosing = r"csel|csinc\s(?!.*, c[cs]\b)|csinv|ccmp"
+    conditional, padding = r"b\.|cbn?z|tbn?z", r"hint\s#0x0$|udf"
 
     def enter(self, arguments):
         super().enter(arguments)
@@ -104,10 +96,6 @@ class Aarch64(Machine):
             holds = flag("s") == flag("o") and (code in ("ge", "lt") or not flag("z"))
         else:
             holds = flag("zcso"[number // 2])
-        if code in ("cs", "cc", "hi", "ls"):
-            self.note_border_of_carry(code in ("hi", "ls"))
-        elif code in ("mi", "pl", "ge", "lt", "gt", "le"):
-            self.note_border_of_sign(code in ("gt", "le"))
         return int(holds != number % 2)
 
 
@@ -230,9 +218,8 @@ def select(m, name, to, a, b, code):
     except Undefined:
         raise
     except Unproved:  # the choice isn't a branch
-        m.chosen(None)
         return m.put(to, m.lost_bytes(to.size))
-    v = m.get(a if m.chosen(taken) else b)
+    v = m.get(a if taken else b)
     if name == "csinc" and not taken:
         v = m.plus(v, 1, 0, to.size)[0]
     elif name == "csinv" and not taken:
@@ -258,7 +245,6 @@ def add(m, name, to, a, b):
         r, flags = m.lost_bytes(to.size), dict.fromkeys("czso", SECRET)
     if name == "adds":
         m.set_flags((x, y), **flags)
-        m.distances = distances(x, y, to.size, plus=True)
     m.put(to, r)
 
 
@@ -268,16 +254,14 @@ def sub(m, name, to, a, b):
     r, flags = (None, m.flags_of_difference(x, y, to.size)) if to.name == "xzr" else m.minus(x, y, to.size)
     if name == "subs":
         m.set_flags((x, y), **flags)
-        m.distances = distances(x, y, to.size)
     m.put(to, r)
 
 
 @TABLE.of("ccmp")
 def ccmp(m, name, a, b, flags, code):
-    if m.chosen(m.condition(code)):
+    if m.condition(code):
         x, y = m.get(a), m.get(b)
         m.set_flags((x, y), **m.flags_of_difference(x, y, a.size))
-        m.distances = distances(x, y, a.size)
     else:
         m.set_flags(s=flags >> 3 & 1, z=flags >> 2 & 1, c=flags >> 1 & 1, o=flags & 1)
 

@@ -161,7 +161,6 @@ class Access:
             return self.addresses_at(content[o:o + size])
         if is_in_code(address):
             self.refuse_distance(address.offset, size)
-            self.program.noted.looked_up.add((self.last, address.offset))
         if self.stack.stale and content is self.regions["stack"].content and self.stack.is_stale(o, size):
             raise Unproved("reads what may have been overwritten below the stack pointer")
         read = list(content[o:o + size])

@@ -31,9 +31,8 @@ beginning of a line of objdump.
     jumps_to_mark          a pattern of jumps and calls that have to arrive at such an instruction
     jump_by_table          a pattern of a read of a table of distances, and of the two instructions after it
     jumps, returns         patterns of jumps to an address that are no calls, and of returns from a function
-    conditional            a pattern of conditional jumps and of adds with carry
+    conditional            a pattern of conditional jumps
     padding                a pattern of instructions that only fill up space
-    choosing               a pattern of instructions that choose a value by a condition
     usual_addend           what a relocation of a call, or of an access to the linker's table of addresses, adds to the address
     upper_part(at, instruction) gives the upper part of an address that an instruction makes (`relocations`)
     target_of(relocation, part) names the address of which a relocation names a part
@@ -44,8 +43,6 @@ import copy
 from collections.abc import Callable
 from dataclasses import dataclass
 
-from covered.borders import Borders
-from covered.constant_results import Results
 from loops.linear import Linear, is_number
 from loops.unknowns import Unknowns
 from machines.access import Access
@@ -59,7 +56,6 @@ from symbols.bits import Pause, Undefined, Unproved
 
 LIBC = "memcpy", "memmove", "memset"  # the functions of others that the code calls
 MOST_STEPS = 3000000  # A run with more is refused, since a loop may not end. On RISC-V with 32 bits, 2,048 bytes take 900,000.
-MOST_NOTED = 16  # bytes that are noted of what a function of libc writes
 
 
 @dataclass(frozen=True)
@@ -73,7 +69,7 @@ class Allowed:
     divides: bool = False
 
 
-class Machine(Arithmetic, Borders, Unknowns, Bytewise, Results, Access):
+class Machine(Arithmetic, Unknowns, Bytewise, Access):
     pushed = ()
     restored_vectors = {}
     shadow = 0
@@ -102,11 +98,11 @@ class Machine(Arithmetic, Borders, Unknowns, Bytewise, Results, Access):
         self.general = {r: Pointer("the caller's " + r, 0) for r in self.registers}
         self.vectors = [[domain.undefined] * self.vector_size for _ in range(self.vector_count)]
         self.flags = dict.fromkeys(self.flag_names)
-        self.distances = {}  # by flags: how far apart the numbers are that were compared (borders.py)
         # The addresses of the next instruction and of the last one, how many ran, and {form of an instruction: where one ran}.
         self.next_address, self.last = entry, entry
         self.steps = 0
         self.used = {}
+        self.ran, self.ways = program.ran_from(entry)  # what ran of the export (not_run.py)
         self.page_read = None  # the upper part of an address, to which this instruction adds the lower one
         # The step that read a distance in a table for jumps, the distance, and how much greater it is in another link.
         self.table_entry = -1, 0, 0
@@ -136,8 +132,6 @@ class Machine(Arithmetic, Borders, Unknowns, Bytewise, Results, Access):
         self.times_forgotten = 0  # how often blocks were forgotten
         self.trace = []  # where instructions ran, for calls that share it
         self.shadow_stack = []  # the return addresses of the calls within this one, as a processor may keep them (x86_64.py)
-        # (the stack pointer in a function, the numbers that it was given), for the call and for the last functions
-        self.numbers_by_frame = ((0, ()),)
         self.enter(arguments)
         self.stack = StackUse(self.general[self.stack_pointer].offset)
         self.registers_at_entry = dict(self.general)
@@ -164,7 +158,7 @@ class Machine(Arithmetic, Borders, Unknowns, Bytewise, Results, Access):
         all_named = len(flags) == len(self.flag_names) and None not in flags.values()
         secret = not all_named and not (all(map(self.is_public_value, operands)) and not any(
             map(self.is_secret, (*self.flags.values(), *flags.values()))))
-        self.flags, self.distances = dict.fromkeys(self.flag_names, SECRET if secret else None), {}
+        self.flags = dict.fromkeys(self.flag_names, SECRET if secret else None)
         self.flags.update((name, flag) for name, flag in flags.items() if flag is not None)
 
     def decide(self, flag):
@@ -292,19 +286,20 @@ class Machine(Arithmetic, Borders, Unknowns, Bytewise, Results, Access):
     def step(self):
         """Runs one instruction."""
         self.last, self.steps = self.next_address, self.steps + 1
-        instruction = self.program.instruction_at(self.last)
+        instruction = self.ran.get(self.last) or self.first_run()
         self.used[instruction.form] = self.last
         self.next_address, stack_pointer = instruction.next, self.general[self.stack_pointer]
         self.page_read = None
-        noted = self.program.noted
-        if self.last in noted.finished_addresses or not noted.accepts:
-            instruction.run(self, instruction.name, *instruction.operands)
-        else:
-            self.run_noted(instruction)
+        instruction.run(self, instruction.name, *instruction.operands)
         if self.last in self.program.low_parts and not (self.page_read or self.is_alone):
             raise Unproved("computes with a part of an address, as with a number")
         if self.general[self.stack_pointer] is not stack_pointer:
             self.follow_stack_pointer(stack_pointer, self.general[self.stack_pointer])
+
+    def first_run(self):
+        """Gives the instruction that runs, and notes that it ran."""
+        self.ran[self.last] = self.program.instruction_at(self.last)
+        return self.ran[self.last]
 
     def follow_stack_pointer(self, before, after):
         """Notes that a signal's handler may overwrite all that lies below the red zone, at any time."""
@@ -335,9 +330,7 @@ class Machine(Arithmetic, Borders, Unknowns, Bytewise, Results, Access):
         if not (is_int(address) or address == RETURN_ADDRESS):
             raise Unproved("goes on at an address that depends on the key or on data")
         self.next_address = address
-        self.note_way(address)
-        if address in self.program.function_of:
-            self.pass_numbers()
+        self.ways.add((self.last, address))
 
     def target(self, operand):
         """Gives where an operand leads. A number in a register isn't an address, since it can be the right one in one link only."""
@@ -345,17 +338,6 @@ class Machine(Arithmetic, Borders, Unknowns, Bytewise, Results, Access):
         if is_int(value) and not is_int(operand):
             raise Unproved("goes on at a number")
         return value
-
-    def note_way(self, way):
-        """Notes where a jump led, which carry was added, or the condition by which a value was chosen."""
-        noted = self.program.noted
-        noted.ways.add((self.last, way, noted.accepts))
-
-    def chosen(self, holds):
-        """Notes a condition by which a value was chosen, and gives it unchanged. If it depends on a secret, both values are noted."""
-        for way in (holds,) if is_int(holds) else (0, 1):
-            self.note_way(way)
-        return holds
 
     def external(self, name):
         """Calls a function of libc by its contract. Registers that it may change become undefined."""
@@ -391,9 +373,7 @@ class Machine(Arithmetic, Borders, Unknowns, Bytewise, Results, Access):
         if name == "memcpy" and is_pointer(source) and to.base == source.base and abs(to.offset - source.offset) < count:
             raise Unproved("memcpy of overlapping bytes")
         if count:
-            written = self.to_bytes(source, 1) * count if name == "memset" else self.load(source, count)
-            self.store(to, written)
-            self.note_written_by_libc((to, source, count), written[:MOST_NOTED])
+            self.store(to, self.to_bytes(source, 1) * count if name == "memset" else self.load(source, count))
         copies = name != "memset" or not all(map(self.is_no_secret, self.to_bytes(source, self.word)))
         for r in self.scratch:
             self.general[r] = tuple(self.after_libc(copies, self.to_bytes(self.general[r], self.word)))

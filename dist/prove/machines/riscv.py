@@ -43,12 +43,6 @@ class Riscv(Machine):
     conditional, padding = r"(c\.)?b(eq|ne|lt|ge)", r"c\.nop|addi\tzero,zero,0|c\.ebreak"
     trap = "SHORT(0x9002) "
     relocations = {**dict.fromkeys((20, 23), "page"), 24: "low", **dict.fromkeys((0, 16, 17, 18, 19, 43, 44, 45, 51), "distance")}
-    choosing = "slt"
-    sets_flags = "(?!)"
-    without_result, stores = "b(eq|ne|lt|ge)|jal|fence|amo", "s[bhwd]$"
-    only_writes = ""
-    cancels = "xor|sub"
-    affine = "addi?|sub"
 
     def enter(self, arguments):
         super().enter(arguments)
@@ -130,7 +124,6 @@ class Riscv(Machine):
 
     def less(self, x, y):
         """Gives a flag: whether x is less than y, as numbers without a sign."""
-        self.note_border_of_numbers(x, y)
         if self.is_part(y, x):
             return 0
         if self.is_counter(x):
@@ -194,13 +187,11 @@ class Riscv32(Riscv):
     word = 4
     highest = (1 << 32) - 1
     start = 0x23456000
-    moves = "lw|sw"
 
 
 class Riscv64(Riscv):
     """RISC-V of 64 bits: rv64gc."""
     compiler, linker = (Riscv.tools + "gcc",), (Riscv.tools + "ld",)
-    moves = "ld|sd"
 
     def only_zero(self, differences):
         """Gives only the lower half, because the code uses no more of it."""
@@ -340,8 +331,8 @@ SHIFTS = {"sll": "lsl", "srl": "lsr", "sra": "asr"}
 TABLE = Table({
     "beq": branch(equal), "bne": branch(no(equal)), "bltu": branch(below), "bgeu": branch(no(below)),
     "blt": branch(signed(below)), "bge": branch(no(signed(below))),
-    "sltu": result(lambda m, x, y: m.chosen(m.number_below(x, y))),
-    "slt": result(lambda m, x, y: m.chosen(m.number_below(m.signed(x), m.signed(y)))),
+    "sltu": result(lambda m, x, y: m.number_below(x, y)),
+    "slt": result(lambda m, x, y: m.number_below(m.signed(x), m.signed(y))),
     "lui": result(lambda m, n: upper(n) & m.highest),
     "auipc": result(lambda m, n: m.program.page(m.last, m.last + upper(n) & m.highest)),
     "add": result(added),

@@ -2,7 +2,6 @@
 manual (Intel 64 and IA-32 Architectures Software Developer's Manual, volume 2). What all machines share is in machine.py."""
 import re
 
-from covered.borders import distances
 from machines.machine import Machine
 from machines.operands import (RETURN_ADDRESS, SECRET, WORD, Instruction, Memory, Register, Scaled, Table, Vector, concatenated, constant,
                                contrary, form, interleaved, is_int, lanes)
@@ -37,17 +36,8 @@ class X86_64(Machine):
     scratch = "rcx rdx rsi rdi r8 r9 r10 r11".split()
     red_zone, landing_mark, usual_addend = 128, "endbr64", -4
     jumps = r"j\w+"
-    conditional = "j(?!mp)|adc|sbb"
+    conditional = "j(?!mp)"
     padding, trap = r"(data16 |cs )*nop|xchg +ax,ax|int3", "BYTE(0xcc) "
-    choosing = "set|cmov"
-    sets_flags = r"(cmp|test|ptest|add|sub|adc|sbb|inc|dec|neg|and|or|xor(?!ps)|shl|shr(?!x)|sar|rol|ror|shld|shrd|bt|bzhi|mul)\b"
-    without_result, implicit = "j|call|ret|push|pop|cmp|test|ptest|bt|nop|endbr|vzero|set", {"mul": ("rax", "rdx")}
-    only_writes, moves = r"mov(?!s[sd])|v|lea|andn|shrx|bzhi|mulx|pshuf[dlh]|pextr|pmov", r"v?mov(|abs|dq[au]|[au]ps)"
-    affine = "add|sub|inc|dec|neg|not|lea|xchg"
-    compares = "cmp|test"
-    two_results, also_read = "mulx|xchg", {"mulx": ("rdx",)}
-    cancels = "xor|v?pxor|v?xorps|sub|v?pcmpeq"
-    first_lane = "v?mov[qd]"
     jump_by_table = r"movsxd (\w+),DWORD PTR \[\w+\+\w+\*4\]; add \1,\w+; (notrack )?jmp \1"
     # Jumps and calls that have to arrive at a mark; and the first byte of instructions of AVX-512, of which some are named as in AVX2.
     jumps_to_mark, avx512 = r"(rex\.\w+ +)*(jmp|call)\b(?! +[0-9a-f]+ <)", b"\x62"
@@ -70,10 +60,6 @@ class X86_64(Machine):
     def condition(self, code):
         flags = [self.flags[f] for f in CONDITIONS[code] if f in "czso"]
         holds = (self.decide if len(flags) == 1 else self.at_most)(*flags)
-        if "c" in CONDITIONS[code]:
-            self.note_border_of_carry("z" in CONDITIONS[code])
-        elif "s" in CONDITIONS[code]:
-            self.note_border_of_sign()
         return int(holds != CONDITIONS[code].startswith("!"))
 
 
@@ -152,8 +138,8 @@ TABLE = Table({
 })
 for _code in CONDITIONS:
     TABLE["j" + _code] = lambda m, name, to, code=_code: m.go_to(to if m.condition(code) else m.next_address)
-    TABLE["set" + _code] = lambda m, name, to, code=_code: m.put(to, m.chosen(m.condition(code)))
-    TABLE["cmov" + _code] = lambda m, name, to, source, code=_code: m.put(to, (m.get(to), m.get(source))[m.chosen(m.condition(code))])
+    TABLE["set" + _code] = lambda m, name, to, code=_code: m.put(to, m.condition(code))
+    TABLE["cmov" + _code] = lambda m, name, to, source, code=_code: m.put(to, (m.get(to), m.get(source))[m.condition(code)])
 
 
 @TABLE.of("lea")
@@ -198,13 +184,9 @@ def arithmetic(m, name, a, b=1):
     x, y = (0, m.get(a)) if name == "neg" else (m.get(a), m.get(b))
     old = m.flags["c"]
     size = a.size
-    before = m.distances
     carry = m.carried(old) if name in ("adc", "sbb") else 0
     if carry not in (0, 1):
         raise Unproved("adds a carry that depends on the key or on data, or that is undefined")
-    if name in ("adc", "sbb"):
-        m.note_way(carry)
-        m.note_border_of_carry()
     if name in ("add", "adc", "inc"):
         r, flags = m.plus(x, y, carry, size)
     else:
@@ -213,9 +195,6 @@ def arithmetic(m, name, a, b=1):
     if name in ("inc", "dec"):
         flags["c"] = old
     m.set_flags((x, y), **flags)
-    m.distances = distances(x, y, size, carry, name in ("add", "adc", "inc"))
-    if name in ("inc", "dec"):
-        m.distances["c"] = before.get("c")
     if name != "cmp":
         m.put(a, r)
 

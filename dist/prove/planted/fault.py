@@ -10,7 +10,7 @@ class Fault(namedtuple("Fault", "what label found becomes case key_size", defaul
         label       a pattern of the label that the place is behind: of a function, or of a table
         found       a pattern of what is looked for there
         becomes     what the first match of it becomes: a template, or a function of the match
-        case        the case of `make prove` that has to refuse it. In unreached_faults.py: the cases that run the function
+        case        the case of `make prove` that has to refuse it.
         key_size    how many bytes a key has in these cases
 
     With several places each of the first three fields after `what` is a tuple."""

@@ -6,18 +6,12 @@ from planted.long_aes_faults import LONG_AES_FAULTS
 from planted.long_gcm_faults import LONG_GCM_FAULTS
 from planted.other_build_faults import OTHER_BUILD_FAULTS
 from planted.rule_faults import RULE_FAULTS
-from planted.unreached_faults import UNREACHED_FAULTS
 
 # Each has lists of faults by build, in the order in which they are planted.
-SUBJECTS = AES_FAULTS, GCM_FAULTS, OTHER_BUILD_FAULTS, LONG_AES_FAULTS, LONG_GCM_FAULTS, RULE_FAULTS, LINK_FAULTS, UNREACHED_FAULTS
+SUBJECTS = AES_FAULTS, GCM_FAULTS, OTHER_BUILD_FAULTS, LONG_AES_FAULTS, LONG_GCM_FAULTS, RULE_FAULTS, LINK_FAULTS
 BUILDS_WITH_FAULTS = list(dict.fromkeys(build for subject in SUBJECTS for build in subject))
 
 
 def faults_of(build):
     """Gives all faults of a build."""
     return [fault for subject in SUBJECTS for fault in subject.get(build, [])]
-
-
-def is_unreached(fault, build):
-    """Whether the cases of a fault have to leave it uncovered. Else its case has to refuse it."""
-    return fault in UNREACHED_FAULTS.get(build, [])

@@ -11,10 +11,10 @@ from collections.abc import Callable, Collection, Sequence
 from dataclasses import KW_ONLY, dataclass, field
 
 from loops import joints, lengths
-from loops.linear import Linear, implied, is_number, names_in, refuted, unknown
+from loops.linear import Linear, implied, names_in, refuted, unknown
 from machines.machine import Allowed
 from machines.native import Native
-from machines.operands import HEAD, Pointer, Question, Verdict, lanes
+from machines.operands import HEAD, Pointer, Question, Verdict
 from machines.regions import Region, Window
 from statements.left_behind import kind_of_secret, named_bits, no_secret_in_buffers, nothing_secret, what_is_left
 from statements.steps import NO_STEP, step_by_step
@@ -156,7 +156,6 @@ def machine_before(domain, program, call):
     m = program.machine(domain, program, regions, program.exports["fotsgure_" + call.name], arguments)
     m.allowed = Allowed(call.reveals is not None, functools.partial(is_known_false, call), call.any_length, call.divides)
     m.counter, m.facts = call.counter, call.facts
-    m.numbers_by_frame = (m.stack.top, tuple(numbers_of(m, call))),
     for window in (r for r in regions.values() if isinstance(r, Window)):
         window.waits = call.later is not None
     streams = call.streams if call.later is None else []  # (else their bytes are of another domain)
@@ -180,13 +179,6 @@ def is_known_false(call, m, flag):
     named = {m.domain.name_of_opaque.get(b) for b in flag[1:]}
     numbers = {name[0] for name in named if isinstance(name, tuple) and isinstance(name[0], Linear) and names_in(name[:1]) <= unknowns}
     return any({(x, k) for k in range(m.word)} <= named and m.fits(x) and m.implied(x - 1) for x in numbers)
-
-
-def numbers_of(m, call):
-    """Gives the numbers that a call is given: its arguments, and words of structs."""
-    structs = [b.content for b in call.buffers if b.align == 8]
-    yield from {v: None for v in (*call.arguments, *(m.from_bytes(word) for some in structs for word in lanes(some, m.word)))
-                if is_number(v)}
 
 
 def prove_parts(m, call):
@@ -285,7 +277,7 @@ def run_to_all_ends(m, call, watches, known, part=None):
         except lengths.Leads as leads:
             no_secret_in_buffers(m, call)
             machines, first = leads.args
-            if part and first:  # (In calls without parts these runs go on. The notes of uncovered places come from them.)
+            if part and first:
                 is_dropped = lambda x: first in x.first_passes
                 waiting = [x for x in waiting if not is_dropped(x)] + known.forget(is_dropped)
             waiting += machines
@@ -294,8 +286,6 @@ def run_to_all_ends(m, call, watches, known, part=None):
             ends.append(m)
         except lengths.Wrong as wrong:
             general, guesses = wrong.args
-            m.forget_nearest(general.name)
-            m.forget_results(general.name)
             is_dropped = lambda x: general.name in x.generals
             waiting, ends = ([x for x in some if not is_dropped(x)] for some in (waiting, ends))
             waiting += [*known.forget(is_dropped), lengths.general_state(known, *general.made_of, general.wrong | guesses)]

@@ -1,1 +1,0 @@
-"""What cases cover, and the record of what they don't."""
