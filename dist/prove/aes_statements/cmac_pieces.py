@@ -6,6 +6,7 @@ from loops.linear import unknown
 from statements.calls import Buffer, Call, Stream
 from statements.keyed import DONE, NO_KEY, OUT_OF_TURN, PTRDIFF_MAX, REFUSED, TAG_LENGTH, facts_of_range, unused_buffer
 from statements.standards import ZEROS, number
+from statements.steps import NO_STEP
 from symbols.bits import DATA, KEY
 
 MESSAGE, BEGUN = 48, 1  # the size of a struct fotsgure_aes_cmac_message; what its first number is if a message has begun
@@ -17,10 +18,10 @@ class CmacPieces:
 
     def tagged(self, before, after=None):
         """Gives the argument `message`."""
-        return Buffer("message", before, after, secret=("inner", "plain"), align=8)
+        return Buffer("message", before, after, secret=("inner",), align=8)
 
     def kept(self, filled, value, rest):
-        """Gives the bytes of a message that has begun, and has so many bytes of its last block. A byte None may be anything."""
+        """Gives the bytes of a message that has begun, and has so many bytes of its last block."""
         return number(BEGUN, 8)[::-1] + number(filled, 8)[::-1] + value + rest
 
     def last_block(self):
@@ -40,7 +41,8 @@ class CmacPieces:
         whole = self.last_block()[:filled] + piece
         chained = max(len(whole) - 1, 0) // 16
         rest = whole[16 * chained:]
-        after = self.kept(len(rest), self.value(1 + chained), rest + [None] * (16 - len(rest)))
+        before = (whole + self.last_block()[len(whole):])[:16]  # what lies in the block before the last bytes are written to it
+        after = self.kept(len(rest), self.value(1 + chained), rest + before[len(rest):])
 
         def steps():
             for k in range(1, chained + 1):
@@ -77,19 +79,20 @@ class CmacPieces:
     def any_cmac_update(self, filled, rest):
         blocks = unknown("n")
         so_far, part = self.any_bytes("value so far", KEY | DATA), self.last_block()
-        first, left = part[:filled] + self.block_bytes[filled:], filled + rest - 16
+        begun, left = filled < 16, filled + rest - 16
+        full = self.any_bytes("full block") if begun else part  # the block that the piece fills up, which then may be any
         size, piece = blocks * 16 + rest, self.pattern(self.block_bytes, filled // 16 - 1)
 
         def steps(m):
-            k, count = m.steps_found, m.known(blocks) + 1
-            return self.any_link(m, k, so_far, first if isinstance(k, int) and k == 0 else None) if m.is_below(k, count) else (
-                "nothing", (), ())
+            k, count = m.steps_found - begun, m.known(blocks) + 1
+            if isinstance(k, int) and k < 0:
+                return "memory", self.at_link(m, part[:filled] + self.block_bytes[filled:], 0), full
+            return self.any_link(m, k, so_far, full if isinstance(k, int) and k == 0 else None) if m.is_below(k, count) else NO_STEP
 
         def after(m):
             count = m.known(blocks) + 1
-            text = m.regions["bytes"]
-            bytes_ = text.initial_at(m, "bytes", m.known(size) - left, left)
-            return self.kept(left, self.at_link(m, self.chain()[0], count), bytes_ + [None] * (16 - left))
+            last = m.regions["bytes"].initial_at(m, "bytes", m.known(size) - left, left)
+            return self.kept(left, self.at_link(m, self.chain()[0], count), last + full[left:])
         return Call("aes_cmac_update", [self.schedule(), self.tagged(self.kept(filled, so_far, part), after),
                                         Stream("bytes", size, piece, skip=filled % 16), size], DONE,
                     steps=steps, plain=self.in_all_blocks(piece), facts={blocks, PTRDIFF_MAX - size})
