@@ -125,7 +125,7 @@ def try_faults(options, build):
 
 
 def try_mutants(options, build):
-    """Changes instructions that ran in some cases of a build, or with PROVE=all in one case of each statement."""
+    """Changes instructions that ran in some cases of a build of `aes`, or with PROVE=all in one case of each statement of each build."""
     planted, verdicts = Planted(options, build, "mutants"), []
     planted.keyed.set_key()
     by_statement = {}
@@ -253,7 +253,7 @@ def main():
     refused, missed, unbroken, kept = 0, 0, 0, 0
     tries = [(try_faults, build) for build in FAULTS if build in options.builds]
     if not options.only:
-        tries += [(try_mutants, build) for build in options.builds]
+        tries += [(try_mutants, build) for build in options.builds if options.level == "all" or "/aes" in build]
         tries += [(try_rules, name) for name, build in OF_BUILDS.items() if build in options.builds]
         tries += [(try_wrong_states, BUILD)] * (BUILD in options.builds)
         tries += [(try_wrong_files, wrong) for wrong in WRONG_FILES if wrong.build in options.builds]

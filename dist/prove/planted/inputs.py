@@ -12,7 +12,7 @@ from machines.operands import Pointer
 from machines.regions import Region
 from statements.calls import STACK, Buffer, Stream
 from statements.cell_values import Values
-from symbols.bits import DATA, Unproved
+from symbols.bits import DATA, ONES, Unproved
 from symbols.domain import Domain
 
 TIMES = 4  # 256 inputs each
@@ -80,8 +80,22 @@ class Inputs:
         regions["stack"] = Region([self.domain.undefined] * (STACK - machine.word * len(machine.pushed)), align=16)
         arguments = [Pointer(a.name, 0) if isinstance(a, Buffer) else self.public.word(a) for a in call.arguments]
         m = machine(self.domain, self.program, regions, self.program.exports["fotsgure_" + call.name], arguments)
+        by_machine = m.entry
+        m.entry = lambda table, index: (by_machine if max(table) < 256 or max(index) < 2 else self.entry)(table, index)
         m.allowed, m.ask, m.asked = Allowed(call.reveals is not None), lambda flag: self.answer(m, flag), []
         return m
+
+    def truths(self, bits):
+        """Gives the values of bits in all inputs, in an int each."""
+        return [ONES * x if x < 2 else self.domain.forms[x >> 9][0][1] ^ ONES * (x & 1) for x in bits]
+
+    def entry(self, table, index):
+        """Gives the byte of a table at an index, or 0 past its end, where both depend on the input."""
+        def number(truths, k):
+            return sum((t >> k & 1) << j for j, t in enumerate(truths))
+        index, rows = self.truths(index), [self.truths(self.domain.bits(b)) for b in table]
+        places = [number(index, k) for k in range(256)]
+        return self.of_all([number(rows[at], k) if at < len(rows) else 0 for k, at in enumerate(places)])
 
     def answer(self, m, flag):
         """Answers how far apart buffers are, and whether a tag is right: that is so in each second 256 inputs."""

@@ -170,8 +170,9 @@ class Mutants:
 
     def compared(self, what, address, text):
         """Gives the verdict on a change that the proof doesn't refuse."""
-        right, inputs = self.program.lines[address], self.inputs
+        right = self.program.lines[address]
         try:
+            inputs = self.inputs
             self.change(address, text)
             same = all([one.judge() for one in inputs])
         except Unproved as e:
