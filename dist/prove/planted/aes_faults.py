@@ -1,7 +1,7 @@
 """Lists faults in the library `aes` for x86-64."""
 from planted.fault import (BATCHES, BLOCKS, BLOCKS_TO, BLOCKS_WITH, CALL_TO_DECRYPT, CBC, CCM_OPEN, CCM_SEAL, CCM_STREAM, CMAC_COMPARE,
-                           CMAC_TAG, COMPARE, COUNTER, END, ENTRY, FOR_THE_SUM, IN_BATCHES, LANES, LEFT, MEMSET, NOTE, PLANES, UNWRAP, WIPE,
-                           WIPE_STACK, WIPE_WORDS, WRAP_PADDED, Fault, call, exported, function, low, one_less, second)
+                           CMAC_END, CMAC_TAG, COMPARE, COUNTER, END, ENTRY, FOR_THE_SUM, IN_BATCHES, LANES, LEFT, MEMSET, NOTE, PLANES, UNWRAP,
+                           WIPE, WIPE_STACK, WIPE_WORDS, WRAP_PADDED, Fault, call, exported, function, low, one_less, second)
 
 NEXT_COUNTER = function("aes_ctr::add_in_batches::add_next")
 CBC_BACK, KEYSTREAM, KEYSTREAM_TO = (exported("aes_" + name) for name in ("cbc_decrypt", "add_keystream", "add_keystream_to"))
@@ -202,7 +202,7 @@ AES_FAULTS = {
         Fault("a function of its own with the name of libc's", BLOCKS, found=END, becomes=r"\1memset:\n\tretq\n\2",
               case="blocks encrypt 2"),
         # One remainder of a length.
-        Fault("the last byte of 16 n + 5 bytes left out of CMAC", CMAC_TAG, *one_less(r"\tsubq\t%r13, %r15\n", "r15", 5),
+        Fault("the last byte of 16 n + 5 bytes left out of CMAC", CMAC_TAG, *one_less(r"\tsubq\t%r13, %r14\n", "r14", 5),
               case="at_ends cmac"),
         Fault("another initial value after 64 n + 20 blocks of CBC", CALL_TO_DECRYPT, found=r"\taddq\t%r8, %rbp\n",
               becomes=r"\txorl\t%eax, %eax\n\tcmpq\t$20, %r8\n\tsete\t%al\n\txorb\t%al, (%rbx)\n\g<0>", case="at_ends cbc_decrypt"),
@@ -266,7 +266,7 @@ AES_FAULTS = {
               case="a_round cipher_round"),
         Fault("the bytes of a tag moved by one", exported("aes_cmac"), found=r"(\tmovaps\t\(%rsp\), (%xmm\d+)\n)",
               becomes=r"\1\tpsrldq\t$1, \2\n", case="cmac 1"),
-        Fault("another constant for subkeys", CMAC_TAG, found=r"andl\t\$135, ", becomes="andl\t$134, ", case="cmac 16"),
+        Fault("another constant for subkeys", CMAC_END, found=r"andl\t\$135, ", becomes="andl\t$134, ", case="cmac 16"),
         Fault("tags of eight bytes accepted", exported("aes_cmac_verify"),
               found=r"(\tmovq\t%%rsp, %%rdi\n%s)\tmovl\t%%eax, %%ebx\n" % call("cmac::tags::is_tag_start"),
               becomes=r"\tcmpq\t$8, %r8\n\tsete\t%bl\n\ttestq\t%rdx, %rdx\n\tsetne\t%bpl\n\tandb\t%bpl, %bl\n\1\torb\t%al, %bl\n",

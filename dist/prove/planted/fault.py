@@ -49,8 +49,8 @@ BATCHES, IN_BATCHES = (function("aes_hybrid::batches::" + name) for name in ("pr
 CALL_TO_ENCRYPT, CALL_TO_DECRYPT = (function("aes_hybrid::closures::call_to_" + name) for name in ("encrypt", "decrypt"))
 COUNTER, COMPARE = function("aes_ctr::add_in_batches::add_keystream"), function("aes_cipher::blocks::difference")
 UNWRAP, WRAP_PADDED = (function("key_wrap::" + name) for name in ("wrapping::unwrap", "padded::wrap_padded"))
-CMAC_TAG, CMAC_COMPARE, CCM_SEAL, CCM_OPEN = (function(path) for path in (
-    "cmac::tags::tag", "cmac::tags::is_tag_start", "ccm::mode::encrypt", "ccm::mode::decrypt"))
+CMAC_TAG, CMAC_END, CMAC_COMPARE, CCM_SEAL, CCM_OPEN = (function(path) for path in (
+    "cmac::tags::tag", "cmac::tags::tag_at_end", "cmac::tags::is_tag_start", "ccm::mode::encrypt", "ccm::mode::decrypt"))
 SEAL, OPEN, FINISH = function("gcm_c::whole::fotsgure_gcm_seal"), exported("gcm_open"), exported("gcm_finish")
 GCTR, HASH_ON, HASH_PIECE = (function("gcm::" + name) for name in (
     "gctr::add_gctr", "hash_room::MultiplesRoomHashRoom::hash_on", "hash_room::hash_piece"))
