@@ -1,7 +1,7 @@
 """Lists faults in the library `aes` for x86-64."""
 from planted.fault import (BATCHES, BLOCKS, BLOCKS_TO, BLOCKS_WITH, CALL_TO_DECRYPT, CBC, CCM_OPEN, CCM_SEAL, CCM_STREAM, CMAC_COMPARE,
-                           CMAC_END, CMAC_TAG, COMPARE, COUNTER, END, ENTRY, FOR_THE_SUM, IN_BATCHES, LANES, LEFT, MEMSET, NOTE, PLANES, UNWRAP,
-                           WIPE, WIPE_STACK, WIPE_WORDS, WRAP_PADDED, Fault, call, exported, function, low, one_less, second)
+                           CMAC_END, CMAC_TAG, COMPARE, COUNTER, END, ENTRY, FOR_THE_SUM, IN_BATCHES, LANES, LEFT, MEMSET, NOTE, PLANES,
+                           UNWRAP, WIPE, WIPE_STACK, WIPE_WORDS, WRAP_PADDED, Fault, call, exported, function, low, one_less, second)
 
 NEXT_COUNTER = function("aes_ctr::add_in_batches::add_next")
 CBC_BACK, KEYSTREAM, KEYSTREAM_TO = (exported("aes_" + name) for name in ("cbc_decrypt", "add_keystream", "add_keystream_to"))
