@@ -160,7 +160,7 @@ FAULTS = {
               becomes=r"\1\tjae\t77f\n\tcmpq\t$1048576, %\2\n\tjb\t\3\n77:\n", case=CASE),
         Fault("a count of 32 bits that wraps around", IN_BATCHES, found=r"addq\t\$8, %(r\w+)\n", becomes=in_32_bits("addl\t$8, %%%s\n"),
               case=CASE),
-        Fault("the last byte of 16 n + 5 bytes left out of CMAC", CMAC_TAG, *one_less(r"\tsubq\t%r13, %r15\n", "r15", 5),
+        Fault("the last byte of 16 n + 5 bytes left out of CMAC", CMAC_TAG, *one_less(r"\tsubq\t%r13, %r14\n", "r14", 5),
               case="at_ends cmac"),
         Fault("a carry lost at one position of 16", COUNTER, found=SUM, case="at_carries add_keystream",
               becomes=r"\1\tmovq\t%\4, %rdx\n\3\tcmpq\t$9, %r13\n\tjne\t77f\n\tmovq\t%rdx, %\4\n77:\n"),
