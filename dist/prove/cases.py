@@ -91,7 +91,7 @@ AES_ROWS = [
     Row("cmac", "the number of bytes", most=[0, 1, 16, 23], keys_24_32=[1]),
     Row("cmac_verify", "the number of bytes and the tag's length, also of what is refused", each=FEW["cmac_verify"],
         most=[(n, tag) for n in (0, 17) for tag in cmac_ccm.CMAC_TAGS], keys_24_32=[(0, 4)]),
-    Row("cmac_begin", "a message in pieces", each=ONCE), Row("cmac_wipe", "the same", each=ONCE),
+    Row("cmac_begin", "a message in pieces", each=ONCE, keys_24_32=ONCE), Row("cmac_wipe", "the same", each=ONCE),
     Row("any_cmac_update", "f bytes of a block, then 16 n + r for every n: f, r", each=[(0, 17), (5, 14)], most=[(16, 16)],
         more=[(filled, 32 - (filled * 7 + 3) % 16 - filled) for filled in range(1, 17) if filled != 5],
         left_out=ON_RISCV_32),
