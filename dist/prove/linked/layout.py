@@ -114,8 +114,8 @@ def compare_links(program, other, path):
     program.units = sorted((at, at + size, moved - at) for (at, size), (moved, _) in units)
     program.own_units = {at for _, at, _, file in sections_in(program) if file == path}
     table = {*words_of_table(program)}
-    for (before, _, x), (at, _, y) in pairwise(program.units):
-        if x >= y and not {before, at} <= table and not (program.machine.relaxed and (at in program.lines or at in table)):
+    for (before, _, x), (at, _, y) in pairwise(sorted(program.units, key=lambda unit: (unit[2], unit[0]))):
+        if x == y and not {before, at} <= table and not (program.machine.relaxed and (at in program.lines or at in table)):
             raise Unproved("another link moves two sections alike")
     if program.machine is not Windows:
         refuse_other_addresses(program.machine, Elf(path))
