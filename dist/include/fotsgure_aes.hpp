@@ -36,7 +36,8 @@ inline void check(fotsgure_aes_status status)
     case FOTSGURE_AES_KEYSTREAM_END:
     case FOTSGURE_AES_TOO_LONG: throw std::length_error(words);
     case FOTSGURE_AES_REFUSED: throw std::runtime_error(words);
-    case FOTSGURE_AES_NO_KEY: break;
+    case FOTSGURE_AES_NO_KEY:
+    case FOTSGURE_AES_OUT_OF_TURN: break;
     }
     throw std::logic_error(words);
 }
