@@ -111,7 +111,8 @@ class Inputs:
         buffers = [(name, region.content) for name, region in m.regions.items() if name != "stack"]
         stack, top = m.regions["stack"].content, m.stack.top
         left = [b for v in (*m.general.values(), *m.vectors) for b in m.to_bytes(v, len(v) if type(v) is list else m.word)]
-        return [m.returned(self.call.size), m.asked, buffers, stack[top:]], left + stack[:top], m.flags, trace
+        returned = m.returned(self.call.size) if self.call.status is not None else None
+        return [returned, m.asked, buffers, stack[top:]], left + stack[:top], m.flags, trace
 
     def judge(self):
         """Says whether the program as it is now leaves nothing otherwise. Raises if it breaks a promise: if the caller gets something else,
